@@ -9,15 +9,15 @@ use srt_seq::Peer;
 
 const MICROSECONDS_OF_A_MINUTE: u64 = 60_000_000;
 
-/// The number of whole minutes in `moment`, which is in microseconds.
+/// Returns the number of whole minutes in `moment`, a time in microseconds.
 pub fn minute_of(moment: u64) -> u64
     ensures { result ≡ minute_of moment }
 {
     moment / MICROSECONDS_OF_A_MINUTE
 }
 
-/// The cookie of a peer in a minute, as [`minute_of`] counts: the first four bytes of a SHA-256 hash, as a number in
-/// network byte order, with 1 in place of 0. It costs one hash of 58 bytes.
+/// Returns the cookie of a peer in a minute, as [`minute_of`] counts: the first four bytes of a SHA-256 hash, as a
+/// number in network byte order, with 1 in place of 0. Costs one hash of 58 bytes.
 #[tactic(auto, unfolding(crate::specs::Cookie::cookie_of))]
 pub fn cookie(secret: &Secret, peer: Peer, minute: u64) -> u32
     ensures some { 0 < result }
@@ -33,8 +33,8 @@ pub fn cookie(secret: &Secret, peer: Peer, minute: u64) -> u32
     if front == 0 { 1 } else { front }
 }
 
-/// Whether the word that a peer sent back at `moment`, in microseconds, is its cookie of the same minute or of the
-/// minute before. So a cookie is right for at least one minute and less than two. It costs one or two hashes.
+/// Whether the word that a peer returned at `moment`, in microseconds, is its cookie of the same minute or of the
+/// minute before. So a cookie is valid for at least one minute and less than two. Costs one or two hashes.
 pub fn right(secret: &Secret, peer: Peer, moment: u64, word: u32) -> bool
     ensures cookie { IsTrue result ↔ IsRight (secret_bytes secret.now) peer moment word }
     ensures value { result ≡ is_right (secret_bytes secret.now) peer moment word }

@@ -1,4 +1,4 @@
--- Reading what is written gives it back.
+-- An answer that is written reads back.
 use Rattle.std.proofs.Common.{◌≡◌, ℕ, suc, flat_map, ◌^◌, ◌<◌, List, [], ◌∷◌, ◌++◌, None, Some, Ok, refl, sym, ap, ◌∙◌, arith}
 use Rattle.std.proofs.lemmas.Nat.{from_be_bytes-to_be_bytes_2, from_be_bytes-to_be_bytes_4}
 use Rattle.srt_seq.specs.Words.{word, word_at, words_in}
@@ -20,7 +20,7 @@ use Rattle.srt_hs.proofs.Steps.{built, read_ok}
 back : (n : ℕ) → n < 2 ^ 32 → n ≡ word_at (word n) 0
 back n h = sym (from_be_bytes-to_be_bytes_4 n h)
 
--- the 48 bytes, whatever follows them
+-- the first 48 bytes, whatever follows them
 fields_back : (extension initial mtu window type id cookie : ℕ) (rest : List ℕ) (blocks : Blocks) → extension < 2 ^ 16 → initial < 2 ^ 32
     → mtu < 2 ^ 32 → window < 2 ^ 32 → type < 2 ^ 32 → id < 2 ^ 32 → cookie < 2 ^ 32 → Ok blocks ≡ extension_in (kind_of type) rest
     → handshake_in (fields_text extension initial mtu window type id cookie ++ rest)

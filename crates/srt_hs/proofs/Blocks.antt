@@ -1,4 +1,4 @@
--- Reading one block gives what the block adds, or its fault.
+-- Reading one block returns the blocks with it, or its fault.
 use Rattle.std.proofs.Common.{◌≡◌, ◌≢◌, ℕ, ◌+◌, ◌<◌, ◌≤◌, ◌⊎◌, inl, inr, List, length, drop, Bool, true, false, cond, eqb, ltb, ◌||◌}
 use Rattle.std.proofs.Common.{Option, None, Some, is_some, IsSome, Result, Ok, Err, refl, sym, ap, subst, ◌∙◌, length-drop, arith}
 use Rattle.std.proofs.lemmas.Bool.{false_from_ne_true, eqb-true, eqb-false, ltb-true, ltb-false, eq-eqb, ne_eqb, lt-ltb, le-ltb, cond-true, cond-false}
@@ -23,7 +23,7 @@ is_there (Some x) e = refl
 none_is_not : {A : Type 0} (o : Option A) → o ≡ None → is_some o ≡ false
 none_is_not o e = ap is_some e
 
--- reading a block that needs a right length and may occur only once
+-- reading a block that requires a valid length and may occur only once
 abbrev checked : (bad there : Bool) → Blocks → Result Blocks HsFault
 checked bad there next = cond bad (Err BadLength) (cond there (Err Repeated) (Ok next))
 
@@ -38,7 +38,7 @@ checked_err true there next fault e = inl (refl, cc)
 checked_err false true next fault e = inr (refl, refl, cc)
 checked_err false false next fault e = cc
 
--- the types, by number
+-- the known block types, by number
 data IsType : ℕ → Type 0 where
   one : IsType 1
   three : IsType 3
@@ -183,7 +183,7 @@ adds_first before bytes next whole adds =
     ∙ cond-false (ltb (length bytes) (4 + length_of bytes)) _ _ (le-ltb (length bytes) (4 + length_of bytes) whole.contents)
     ∙ adds_block before (contents_of bytes) next (type_of bytes) adds
 
--- the fault in the contents of a whole block
+-- the fault in the contents of a complete block
 data IsWrong (before : Blocks) (contents : List ℕ) (n : ℕ) : HsFault → Type 0 where
   long : HasBadLength contents n → IsWrong before contents n BadLength
   second : (HasBadLength contents n → ⊥) → IsRepeated before n → IsWrong before contents n Repeated

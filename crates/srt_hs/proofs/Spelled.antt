@@ -1,4 +1,4 @@
--- Reading, as a function, and spelling, as a relation, agree.
+-- The function that reads handshakes agrees with the relation that defines their encoding.
 use Rattle.std.proofs.Common.{◌≡◌, ℕ, zero, suc, ◌≤◌, ◌⊎◌, inl, inr, List, [], ◌∷◌, length, drop, ltb, Result, Ok, Err, IfOk, IfErr}
 use Rattle.std.proofs.Common.{IsOkAnd, refl, sym, ap, subst, ◌∙◌, arith}
 use Rattle.std.proofs.lemmas.Bool.{ltb-true, ltb-false}

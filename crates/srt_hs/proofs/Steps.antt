@@ -1,4 +1,4 @@
--- Reading all blocks is reading the first and then the others, whatever the bound on their number.
+-- Reading all blocks is reading the first and then the others, for any sufficient bound on their number.
 use Rattle.std.proofs.Common.{◌≡◌, ℕ, zero, suc, ◌-◌, ◌<◌, ◌≤◌, List, [], ◌∷◌, length, drop, Result, Ok, Err, ltb, refl, sym, ap, ◌∙◌, length-drop, arith}
 use Rattle.srt_hs.specs.declared.handshake.HsKind.{HsKind}
 use Rattle.srt_hs.specs.declared.handshake.HsFault.{HsFault}
@@ -15,7 +15,7 @@ same_then (Err e) f g h = refl
 after_shorter : (b : ℕ) (bytes : List ℕ) → length (after_block (b ∷ bytes)) ≤ length bytes
 after_shorter b bytes = omega (arith, length-drop (length_of (b ∷ bytes)) (drop 4 (b ∷ bytes)), length-drop 4 (b ∷ bytes))
 
--- a bound above the number of bytes makes no difference
+-- all bounds of at least the number of bytes have the same result
 enough : (m n : ℕ) (before : Blocks) (bytes : List ℕ) → length bytes ≤ m → length bytes ≤ n → with_all m before bytes ≡ with_all n before bytes
 enough zero zero before [] h k = refl
 enough zero (suc n) before [] h k = refl

@@ -1,4 +1,4 @@
--- The bytes that are written for each answer, after the packet's header (section 3.2.1).
+-- The bytes of each answer, after the packet's header (section 3.2.1).
 use Rattle.std.specs.Prelude.{ℕ, List, [], ◌++◌, length, replicate, flat_map, Option, None, Some, option_map}
 use Rattle.std.specs.Int.{w16, to_be_bytes}
 use Rattle.srt_seq.specs.Words.{word}
@@ -11,11 +11,11 @@ use Rattle.srt_hs.specs.declared.writing.AnswerKind.TheVariants.{Induction, Refu
 use Rattle.srt_hs.specs.declared.writing.HsAnswer.{HsAnswer}
 use Rattle.srt_hs.specs.View.{text_words}
 
--- the two bytes of a number of 16 bits, in network byte order
+-- the two bytes of a 16-bit number, in network byte order
 abbrev pub half : ℕ → List ℕ
 half n = to_be_bytes w16 n
 
--- the number of a reason (section 4.3)
+-- the code of a reason for a refusal (section 4.3, table 7)
 abbrev pub code_of : RefusalCode → ℕ
 code_of codes.Peer = 1002
 code_of codes.Resource = 1003
@@ -31,7 +31,7 @@ abbrev pub fields_text : (extension initial mtu window type id cookie : ℕ) →
 fields_text extension initial mtu window type id cookie =
     word 5 ++ half 0 ++ half extension ++ word initial ++ word mtu ++ word window ++ word type ++ word id ++ word cookie ++ replicate 16 0
 
--- the flags of an HSRSP (section 3.2.1.1.1)
+-- the flags of an HSRSP, from the delivery mode (section 3.2.1.1.1)
 abbrev pub flags_of : Mode → ℕ
 flags_of Live = 0x3f
 flags_of Buffer = 0x74
@@ -40,7 +40,7 @@ flags_of Buffer = 0x74
 abbrev pub hsrsp_text : (mode : Mode) (recv_ms send_ms : ℕ) → List ℕ
 hsrsp_text mode recv_ms send_ms = half 2 ++ half 3 ++ word 0x0001_0500 ++ word (flags_of mode) ++ half recv_ms ++ half send_ms
 
--- a CONGESTION block of these words, or nothing
+-- a CONGESTION block of these words; empty if there are none
 abbrev pub congestion_text : Option (List ℕ) → List ℕ
 congestion_text None = []
 congestion_text (Some words) = half 6 ++ half (length words) ++ flat_map word words
@@ -50,11 +50,13 @@ abbrev pub extension_of : Option (List ℕ) → ℕ
 extension_of None = 1
 extension_of (Some words) = 5
 
+-- the extension blocks of an answer: only an answer to a conclusion has any
 abbrev pub blocks_text : AnswerKind → List ℕ
 blocks_text (Induction cookie) = []
 blocks_text (Refusal code) = []
 blocks_text (Conclusion mtu window id mode recv_ms send_ms congestion) = hsrsp_text mode recv_ms send_ms ++ congestion_text (option_map text_words congestion)
 
+-- the 48 bytes before the extension blocks, for an answer of this kind
 abbrev pub kind_text : (initial : ℕ) → AnswerKind → List ℕ
 kind_text initial (Induction cookie) = fields_text 0x4a17 initial 1500 8192 1 1 cookie
 kind_text initial (Refusal code) = fields_text 0 initial 1500 8192 (code_of code) 1 0

@@ -1,4 +1,4 @@
--- The handshakes of the grammar that the code's values mean.
+-- The handshakes of the grammar that values of the code represent.
 use Rattle.std.specs.Prelude.{ℕ, List, [], ◌∷◌, Option, None, Some, option_map, Result, Ok, Err}
 use Rattle.srt_seq.specs.Words.{words_in}
 use Rattle.srt_hs.specs.Grammar.{Handshake, Blocks, stream_id_in}
@@ -11,13 +11,13 @@ use Rattle.srt_hs.specs.declared.handshake.CongestionText.{CongestionText}
 abbrev pub text_words : CongestionText → List ℕ
 text_words text = text.first ∷ text.others.items
 
--- the congestion text of these words; None if there are no words
+-- the congestion text with these words; none if there are no words
 abbrev pub text_of : Option (List ℕ) → Option CongestionText
 text_of None = None
 text_of (Some []) = None
 text_of (Some (first ∷ others)) = Some (record { first = first; others = record { items = others } })
 
--- the blocks of the code's value, without its borrows
+-- the blocks that a value of the code represents, without its borrows
 abbrev pub blocks_of : BlocksRef → Blocks
 blocks_of b =
     record {
@@ -29,7 +29,7 @@ blocks_of b =
       has_group = b.has_group;
     }
 
--- the handshake of the code's value, without its borrows
+-- the handshake that a value of the code represents, without its borrows
 abbrev pub handshake_of : HsRef → Handshake
 handshake_of h =
     record {
@@ -45,16 +45,17 @@ handshake_of h =
       blocks = blocks_of h.blocks;
     }
 
+-- a result of the code as a result of the grammar, for blocks
 abbrev pub seen_blocks : Result BlocksRef HsFault → Result Blocks HsFault
 seen_blocks (Ok b) = Ok (blocks_of b)
 seen_blocks (Err fault) = Err fault
 
--- the result of a call of read, without its borrows
+-- a result of `read` as a result of the grammar
 abbrev pub seen : Result HsRef HsFault → Result Handshake HsFault
 seen (Ok h) = Ok (handshake_of h)
 seen (Err fault) = Err fault
 
--- the result without the bytes that are left
+-- the result without the remaining bytes
 abbrev pub first_of : {A B : Type 0} → Result (A × B) HsFault → Result A HsFault
 first_of (Ok x) = Ok x.0
 first_of (Err fault) = Err fault

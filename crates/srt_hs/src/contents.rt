@@ -9,7 +9,7 @@ use crate::{CongestionText, HsRef};
 use arrayvec::ArrayVec;
 use srt_seq::{read_word, write_at};
 
-/// Writes the bytes to the front of `out`, each group of four in reverse order, and returns their number.
+/// Writes the bytes to the front of `out`, with each group of four in reverse order, and returns their number.
 #[tactic(auto, using(crate::proofs::Groups::turned_step))]
 fn turn_words(contents: &[u8], out: &mut [u8]) -> usize
     requires words { length contents.now % 4 ≡ 0 }
@@ -27,7 +27,7 @@ fn turn_words(contents: &[u8], out: &mut [u8]) -> usize
     end
 }
 
-/// The number of bytes before the zeros at the end.
+/// Returns the number of bytes before the trailing zeros.
 #[tactic(auto, using(crate::proofs::Groups::without_last_zero, crate::proofs::Groups::last_is_other))]
 fn len_before_zeros(bytes: &[u8]) -> usize
     ensures within { result ≤ length bytes.now }
@@ -41,8 +41,8 @@ fn len_before_zeros(bytes: &[u8]) -> usize
 }
 
 /// Writes the text of the Stream ID block to the front of `out`, and returns its length in bytes: 0 to 512, without the
-/// zeros that pad it. These zeros are written too; the buffer doesn't change after the length of the block. None if
-/// there is no such block; then nothing is written. Linear in the length of the block. The bytes need not be UTF-8.
+/// padding zeros. They are written too; `out` is unchanged after the length of the block. None if there is no such
+/// block; then nothing is written. The bytes need not be UTF-8. Linear in the length of the block.
 pub fn stream_id(hs: &HsRef<'_>, out: &mut [u8; 512]) -> Option<usize>
     ensures within { IfSome result (λ n. n ≤ 512) }
     ensures value { option_map (λ n. take n out.new) result ≡ (handshake_of hs.now).blocks.stream_id }
@@ -58,7 +58,7 @@ pub fn stream_id(hs: &HsRef<'_>, out: &mut [u8; 512]) -> Option<usize>
     }
 }
 
-/// The words of at most 12 bytes.
+/// Returns the words of at most 12 bytes.
 #[tactic(auto, using(crate::proofs::Groups::words_step))]
 fn words_of(contents: &[u8]) -> ArrayVec<u32, 3>
     requires words { length contents.now % 4 ≡ 0 }
@@ -74,7 +74,7 @@ fn words_of(contents: &[u8]) -> ArrayVec<u32, 3>
     words
 }
 
-/// A copy of the words of the CONGESTION block, unchanged. None if there is no such block.
+/// Returns a copy of the words of the CONGESTION block, unchanged. None if there is no such block.
 #[tactic(auto, using(crate::proofs::Groups::first_word))]
 pub fn congestion(hs: &HsRef<'_>) -> Option<CongestionText>
     ensures words { option_map text_words result ≡ (handshake_of hs.now).blocks.congestion }

@@ -4,28 +4,28 @@ ghost use Rattle.std.specs.Prelude.{◌≡◌, ◌%◌, ◌<◌, ◌≤◌, leng
 
 use arrayvec::ArrayVec;
 
-/// Why bytes are no handshake. Of several faults, the first from the left is returned. All but `Short` come from the
+/// Why bytes are no handshake. Of several faults, the first from the left is returned. All except `Short` are faults of
 /// extension blocks, so only a conclusion can have them.
 #[derive(Clone, Copy, Debug, PartialEq, Eq)]
 pub enum HsFault {
     /// Fewer than 48 bytes.
     Short,
-    /// 1 to 3 bytes are left after the last extension block, or a block is longer than the bytes that are left.
+    /// 1 to 3 bytes remain after the last extension block, or a block is longer than the remaining bytes.
     TruncatedExtension,
     /// An HSREQ block of other than 3 words, a Stream ID of more than 128, or a CONGESTION block of 0 or more than 4.
     BadLength,
-    /// A second HSREQ, Stream ID or CONGESTION block, of a length that is right for it.
+    /// A second HSREQ, Stream ID or CONGESTION block, of a valid length.
     Repeated,
 }
 
 /// The handshake type (section 3.2.1).
 #[derive(Clone, Copy, Debug, PartialEq, Eq)]
 pub enum HsKind {
-    /// 1, INDUCTION: the caller asks for a cookie.
+    /// 1, INDUCTION: the caller requests a cookie.
     Induction,
     /// 0, WAVEHAND: only for rendezvous.
     WaveHand,
-    /// 0xffffffff, CONCLUSION: the caller sends the cookie back, with its extension blocks.
+    /// 0xffffffff, CONCLUSION: the caller returns the cookie, with its extension blocks.
     Conclusion,
     /// 0xfffffffe, AGREEMENT: only for rendezvous.
     Agreement,
@@ -42,16 +42,16 @@ pub struct HsReq {
     pub version: u32,
     /// The SRT flags, any value of 32 bits (section 3.2.1.1.1).
     pub flags: u32,
-    /// The caller's delay as a receiver, in milliseconds.
+    /// The caller's receiver TSBPD delay, in milliseconds.
     pub receiver_ms: u16,
-    /// The caller's delay as a sender, in milliseconds.
+    /// The caller's sender TSBPD delay, in milliseconds.
     pub sender_ms: u16,
 }
 
 /// The contents of a Stream ID block: 0 to 128 words (section 3.2.1.3).
 #[derive(Clone, Copy, Debug)]
 pub struct StreamIdRef<'a> {
-    /// The bytes as they came, 0 to 512: the text in little-endian words, padded with zeros.
+    /// The received bytes, 0 to 512: the text in little-endian words, padded with zeros.
     pub contents: &'a [u8],
     pub ghost words: { length contents.now % 4 ≡ 0 },
     pub ghost most: { length contents.now ≤ 512 },
@@ -60,14 +60,14 @@ pub struct StreamIdRef<'a> {
 /// The contents of a CONGESTION block: one to four words.
 #[derive(Clone, Copy, Debug)]
 pub struct CongestionRef<'a> {
-    /// The bytes as they came: 4, 8, 12 or 16.
+    /// The received bytes: 4, 8, 12 or 16.
     pub contents: &'a [u8],
     pub ghost words: { length contents.now % 4 ≡ 0 },
     pub ghost some: { 0 < length contents.now },
     pub ghost most: { length contents.now ≤ 16 },
 }
 
-/// A copy of the words of a CONGESTION block: one to four. [`congestion`](crate::congestion) makes it.
+/// A copy of the words of a CONGESTION block: one to four. [`congestion`](crate::congestion) returns it.
 #[derive(Debug, Drop)]
 pub struct CongestionText {
     /// The first word.
@@ -76,7 +76,7 @@ pub struct CongestionText {
     pub others: ArrayVec<u32, 3>,
 }
 
-/// The extension blocks of a conclusion (section 3.2.1). Blocks of other types are skipped.
+/// The extension blocks of a conclusion (section 3.2.1). Blocks of other types are ignored.
 #[derive(Clone, Copy, Debug)]
 pub struct BlocksRef<'a> {
     /// The HSREQ block (type 1), if there is one.
@@ -85,29 +85,29 @@ pub struct BlocksRef<'a> {
     pub stream_id: Option<StreamIdRef<'a>>,
     /// The CONGESTION block (type 6), if there is one. [`congestion`](crate::congestion) reads it.
     pub congestion: Option<CongestionRef<'a>>,
-    /// Whether there is a KMREQ block (type 3): the caller wants encryption.
+    /// Whether there is a KMREQ block (type 3): the caller requests encryption.
     pub has_kmreq: bool,
-    /// Whether there is a FILTER block (type 7): the caller wants a packet filter, such as FEC.
+    /// Whether there is a FILTER block (type 7): the caller requests a packet filter, such as FEC.
     pub has_filter: bool,
-    /// Whether there is a GROUP block (type 8): the caller wants a connection group.
+    /// Whether there is a GROUP block (type 8): the caller requests a connection group.
     pub has_group: bool,
 }
 
-/// A handshake that was read. It borrows its bytes. Only the extension blocks were checked: any field but `blocks` can
-/// have any value.
+/// A decoded handshake. It borrows its bytes. Only the extension blocks were checked: all other fields can have any
+/// value.
 #[derive(Clone, Copy, Debug)]
 pub struct HsRef<'a> {
     /// The version of the handshake: 4 in a caller's induction, 5 in its conclusion.
     pub version: u32,
-    /// The encryption field. It isn't checked.
+    /// The encryption field, unchecked.
     pub encryption: u16,
-    /// The extension field. It isn't checked.
+    /// The extension field, unchecked.
     pub extension: u16,
-    /// The initial packet sequence number as it came: its top bit may be set, and then it is no sequence number.
+    /// The initial packet sequence number, as received. If its top bit is set, it is no sequence number.
     pub initial: u32,
-    /// The greatest size of a packet, in bytes, including the headers of IP and UDP.
+    /// The maximum transmission unit: the maximum size of a packet, in bytes, including the headers of IP and UDP.
     pub mtu: u32,
-    /// The flow window: the greatest number of packets in flight.
+    /// The maximum flow window size: the maximum number of packets in flight.
     pub window: u32,
     /// The handshake type.
     pub kind: HsKind,

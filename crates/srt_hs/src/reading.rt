@@ -1,4 +1,4 @@
-//! Handshakes read from borrowed bytes (draft-sharabayko-srt-01, section 3.2.1).
+//! Handshakes decoded from borrowed bytes (draft-sharabayko-srt-01, section 3.2.1).
 
 ghost use Rattle.std.specs.Prelude.{◌≡◌, ℕ, ◌+◌, ◌*◌, ◌%◌, ◌<◌, ◌≤◌, ◌++◌, length, take, IfOk, IfErr, IfSome, IsOkAnd, option_map, Ok};
 ghost use Rattle.srt_hs.specs.Grammar.{Handshake, Spells, HasFault, half_at, kind_of, after_block};
@@ -9,7 +9,7 @@ ghost use Rattle.srt_hs.specs.View.{blocks_of, first_of, handshake_of, seen, see
 use crate::{BlocksRef, CongestionRef, HsFault, HsKind, HsRef, HsReq, StreamIdRef};
 use srt_seq::read_word;
 
-/// The number of 16 bits that the two bytes at the offset `at` encode, in network byte order.
+/// Returns the 16-bit number that the two bytes at the offset `at` encode, in network byte order.
 fn read_half(bytes: &[u8], at: usize) -> u16
     requires { at + 2 ≤ length bytes.now }
     ensures { result ≡ half_at bytes.now at }
@@ -83,7 +83,7 @@ fn with_congestion<'a>(before: BlocksRef<'a>, contents: &'a [u8]) -> Result<Bloc
     })
 }
 
-/// The blocks so far with one more block, of this type and contents.
+/// Adds a block of this type and contents to the blocks before it.
 #[tactic(auto, unfolding(crate::specs::Reading::with_block))]
 fn with_block<'a>(
     before: BlocksRef<'a>,
@@ -113,7 +113,7 @@ fn with_block<'a>(
     }
 }
 
-/// The blocks so far with the first block of these bytes, and the bytes after that block.
+/// Adds the first block of these bytes to the blocks before it, and returns the bytes after that block too.
 #[tactic(auto, unfolding(crate::specs::Reading::with_first))]
 fn with_first<'a>(
     before: BlocksRef<'a>,
@@ -135,7 +135,7 @@ fn with_first<'a>(
     Ok((next, &rest[len..]))
 }
 
-/// All blocks of these bytes.
+/// Reads all blocks of these bytes.
 #[tactic(auto, unfolding(crate::specs::Reading::blocks_in))]
 fn read_blocks(bytes: &[u8]) -> Result<BlocksRef<'_>, HsFault>
     ensures { seen_blocks result ≡ blocks_in bytes.now }
@@ -157,7 +157,7 @@ fn read_blocks(bytes: &[u8]) -> Result<BlocksRef<'_>, HsFault>
     Ok(blocks)
 }
 
-/// The extension blocks of a handshake of this kind: those of the bytes in a conclusion, else none.
+/// Reads the extension blocks of a handshake of this kind: those of the bytes in a conclusion, else none.
 #[tactic(auto, unfolding(crate::specs::Reading::blocks_in))]
 fn read_extension(kind: HsKind, bytes: &[u8]) -> Result<BlocksRef<'_>, HsFault>
     ensures { seen_blocks result ≡ extension_in kind bytes.now }
@@ -168,7 +168,7 @@ fn read_extension(kind: HsKind, bytes: &[u8]) -> Result<BlocksRef<'_>, HsFault>
     }
 }
 
-/// The result of [`read`].
+/// Returns the result of [`read`].
 fn parse(body: &[u8]) -> Result<HsRef<'_>, HsFault>
     ensures { seen result ≡ handshake_in body.now }
 {
@@ -191,14 +191,14 @@ fn parse(body: &[u8]) -> Result<HsRef<'_>, HsFault>
     })
 }
 
-/// Reads the bytes after a packet's header as a handshake. Only form is checked: version, encryption field, extension
-/// field and peer address may have any value. Extension blocks are read only in a conclusion; in any other handshake,
-/// bytes after the first 48 are ignored. Copies no block. Linear in the number of blocks.
+/// Reads the bytes after a packet's header as a handshake. Only the form is checked: version, encryption field,
+/// extension field and peer address may have any value. Extension blocks are read only in a conclusion; in any other
+/// handshake, bytes after the first 48 are ignored. Copies no block. Linear in the number of blocks.
 pub fn read(body: &[u8]) -> Result<HsRef<'_>, HsFault>
     ensures value { seen result ≡ handshake_in body.now }
-    // The bytes spell the handshake that is read.
+    // The bytes encode the returned handshake.
     ensures found { IfOk result (λ h. Spells body.now (handshake_of h)) }
-    // A handshake that the bytes spell is read.
+    // A handshake that the bytes encode is returned.
     ensures only { (hs : Handshake) → Spells body.now hs → IsOkAnd result (λ h. handshake_of h ≡ hs) }
     // The fault is the first from the left.
     ensures fault { IfErr result (λ fault. HasFault body.now fault) }

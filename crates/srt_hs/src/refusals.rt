@@ -1,26 +1,27 @@
-//! The reasons for a refusal with their numbers and causes, and the order in which the causes are checked
+//! The reasons for a refusal with their codes and causes, and the order in which the causes are checked
 //! (draft-sharabayko-srt-01, section 4.3, table 7).
 
 ghost use Rattle.std.specs.Prelude.{◌≡◌};
 ghost use Rattle.srt_hs.specs.Text.{code_of};
 
-/// Why a conclusion is refused (section 4.3, table 7). The number is written as the handshake type of the answer; the
-/// name after it is libsrt's. Which cause leads to which reason is our choice. A caller whose conclusion doesn't
-/// read as a handshake, or has a wrong cookie, gets no answer at all.
+/// Why a conclusion is refused (section 4.3, table 7). The code is written as the handshake type of the answer; the
+/// name after it is libsrt's. Which cause leads to which reason is our choice. A conclusion that is no well-formed
+/// handshake, or has a wrong cookie, isn't answered.
 ///
-/// If several causes apply, the first counts. `srt_lobby` checks, in this order: the version (1008), the initial number
-/// and the HSREQ (1004), KMREQ (1011), FILTER (1014), GROUP (1015), the Stream ID and its route (1002). Then
-/// `srt_route` checks the flag STREAM (1012), the MTU and the window (1004), a third publisher (1002), how many sessions
-/// the caller's IP address has (1003), a free slot (1003), and whether the free ones are kept for publishers (1003).
+/// If several causes apply, the first one determines the reason. `srt_lobby` checks, in this order: the version (1008),
+/// the initial number and the HSREQ (1004), KMREQ (1011), FILTER (1014), GROUP (1015), the Stream ID and its route
+/// (1002). Then `srt_route` checks the flag STREAM (1012), the MTU and the window (1004), a third publisher (1002), the
+/// number of sessions of the caller's IP address (1003), a free slot (1003), and whether the free slots are reserved
+/// for publishers (1003).
 #[derive(Clone, Copy, Debug, PartialEq, Eq)]
 pub enum RefusalCode {
-    /// 1002, `SRT_REJ_PEER`: the conclusion has no Stream ID block; or its Stream ID has a fault (not UTF-8, a mode
-    /// other than `publish` and `request`, `r` or `m` twice, no name or an empty one); or no route has the name that it
-    /// asks for; or the route doesn't admit the caller in that role (its address is in no list of the role, or the
-    /// role's key is missing or another one); or it wants to publish while two publishers of the route are open.
+    /// 1002, `SRT_REJ_PEER`: the conclusion has no Stream ID block. Or its Stream ID has a fault: not UTF-8, a mode
+    /// other than `publish` and `request`, `r` or `m` twice, no name or an empty one. Or no route has the requested
+    /// name. Or the route doesn't admit the caller in the requested role: the role's list lacks its address, or the
+    /// role's key is missing or wrong. Or the caller requests to publish while two publishers of the route are open.
     Peer,
-    /// 1003, `SRT_REJ_RESOURCE`: as many sessions of the route are open as its configuration allows, in all or of one IP
-    /// address; or the slots that are free are kept for publishers, and the caller is none.
+    /// 1003, `SRT_REJ_RESOURCE`: as many sessions of the route are open as its configuration allows, in total or for
+    /// one IP address. Or all free slots are reserved for publishers, and the caller isn't one.
     Resource,
     /// 1004, `SRT_REJ_ROGUE`: the top bit of the initial sequence number is set; or there is no HSREQ block; or the MTU
     /// is below 76 bytes; or the flow window is 0; or the caller requests a stream in buffer mode with an MTU below
@@ -39,7 +40,7 @@ pub enum RefusalCode {
     Group,
 }
 
-/// The number of a reason, which is written as the handshake type (section 4.3, table 7).
+/// Returns the code of a reason, which is written as the handshake type (section 4.3, table 7).
 pub(crate) fn code(reason: RefusalCode) -> u32
     ensures { result ≡ code_of reason }
 {

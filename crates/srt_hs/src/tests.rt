@@ -1,4 +1,4 @@
-//! Handshakes of callers as they were captured, answers, and bytes with each fault.
+//! Captured handshakes of callers, answers, and bytes with each fault.
 
 use crate::{
     AnswerKind, CongestionText, HsAnswer, HsFault, HsKind, HsReq, RefusalCode, congestion, read,
@@ -234,7 +234,7 @@ fn long_stream_ids(rt: HostRuntime) -> Result<(), Fail> {
 
 #[test]
 fn the_first_fault_counts(rt: HostRuntime) -> Result<(), Fail> {
-    // A block past the end counts before a bad length, and a bad length before a repeated block.
+    // A block past the end takes precedence over a bad length, and a bad length over a repeated block.
     assert_eq!(rt;
         fault_of(rt.alloc(), &[CONCLUSION, "00010004 00010501 000000bf"])?,
         HsFault::TruncatedExtension
@@ -246,7 +246,7 @@ fn the_first_fault_counts(rt: HostRuntime) -> Result<(), Fail> {
         )?,
         HsFault::BadLength
     );
-    // The first from the left counts.
+    // The first fault from the left is returned.
     assert_eq!(rt;
         fault_of(rt.alloc(), &[CONCLUSION, HSREQ, HSREQ, "00060000"])?,
         HsFault::Repeated
@@ -266,7 +266,7 @@ fn written(alloc: Global, initial: u32, what: AnswerKind) -> Result<Vec<u8>, Fai
     Ok(bytes)
 }
 
-/// The answer to a conclusion that asks for buffer mode with this CONGESTION block.
+/// Returns the answer to a conclusion that requests buffer mode with this CONGESTION block.
 fn buffer_answer(congestion: CongestionText) -> AnswerKind {
     AnswerKind::Conclusion {
         mtu: 1500,
@@ -279,7 +279,7 @@ fn buffer_answer(congestion: CongestionText) -> AnswerKind {
     }
 }
 
-/// Its bytes before that block.
+/// The bytes of that answer before the CONGESTION block.
 const BUFFER_ANSWER: &str =
     "00000005 00000005 00000005 000005dc 00000020 ffffffff 00200000 00000000 00000000 00000000 00000000 00000000 00020003 00010500 00000074 00000000";
 

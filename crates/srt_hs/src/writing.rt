@@ -1,4 +1,4 @@
-//! The listener's answers, written to a buffer (draft-sharabayko-srt-01, sections 3.2.1 and 4.3).
+//! The listener's answers, encoded into a buffer (draft-sharabayko-srt-01, sections 3.2.1 and 4.3).
 
 ghost use Rattle.std.specs.Prelude.{◌≡◌, ℕ, ◌+◌, ◌*◌, ◌≤◌, ◌++◌, length, take, drop, Some};
 ghost use Rattle.srt_hs.specs.View.{text_words};
@@ -12,8 +12,8 @@ use srt_seq::{Mode, write_at, write_words};
 /// version 5, no encryption, and zeros for the peer's address.
 #[derive(Debug, Drop)]
 pub enum AnswerKind {
-    /// The answer to an induction, with the cookie that the conclusion must send back (section 4.3.1.1). Extension
-    /// 0x4a17, MTU 1500, window 8192, socket ID 1.
+    /// The answer to an induction, with the cookie that the conclusion must return (section 4.3.1.1). Extension 0x4a17,
+    /// MTU 1500, window 8192, socket ID 1.
     Induction(u32),
     /// A refusal, with its reason as the handshake type (section 4.3). Extension 0, MTU 1500, window 8192, socket ID 1,
     /// cookie 0.
@@ -21,17 +21,17 @@ pub enum AnswerKind {
     /// The answer to a conclusion that opens a session (section 4.3.1.2), with an HSRSP block that reports SRT 1.5.0.
     /// Cookie 0.
     Conclusion {
-        /// The agreed MTU: the greatest size of a packet, in bytes, including the headers of IP and UDP.
+        /// The agreed MTU: the maximum size of a packet, in bytes, including the headers of IP and UDP.
         mtu: u32,
         /// The listener's flow window, in packets.
         window: u32,
         /// The session's socket ID.
         id: u32,
-        /// How the route delivers payloads; the flags of the HSRSP follow from it.
+        /// The delivery mode of the route, which determines the flags of the HSRSP.
         mode: Mode,
-        /// The agreed delay of what the caller sends, in milliseconds; 0 in buffer mode (section 4.4).
+        /// The agreed TSBPD delay for data from the caller, in milliseconds; 0 in buffer mode (section 4.4).
         recv_ms: u16,
-        /// The agreed delay of what the caller receives, in milliseconds; 0 in buffer mode (section 4.4).
+        /// The agreed TSBPD delay for data to the caller, in milliseconds; 0 in buffer mode (section 4.4).
         send_ms: u16,
         /// The words of the caller's CONGESTION block, which the answer repeats; None if the caller sent none.
         congestion: Option<CongestionText>,
@@ -41,13 +41,13 @@ pub enum AnswerKind {
 /// An answer to a caller's handshake, without the packet's header.
 #[derive(Debug, Drop)]
 pub struct HsAnswer {
-    /// The caller's initial sequence number, repeated as it came: any word.
+    /// The caller's initial sequence number, as received: any word.
     pub initial: u32,
     /// The kind of the answer and its content.
     pub what: AnswerKind,
 }
 
-/// The fields that aren't the same in all answers.
+/// The fields that differ between answers.
 #[derive(Clone, Copy)]
 struct Fields {
     extension: u16,
@@ -86,7 +86,7 @@ fn flags(mode: Mode) -> u32
     }
 }
 
-/// The bytes of an HSRSP block; the delays are milliseconds (section 3.2.1.1).
+/// Returns the bytes of an HSRSP block; the delays are milliseconds (section 3.2.1.1).
 fn hsrsp(mode: Mode, recv_ms: u16, send_ms: u16) -> [u8; 16]
     ensures { result ≡ hsrsp_text mode recv_ms send_ms }
 {
@@ -115,8 +115,8 @@ fn write_congestion(text: &CongestionText, out: &mut [u8], at: usize) -> usize
     write_words(out, end, text.others.as_slice())
 }
 
-/// Writes an answer, without the packet's header, to the front of the buffer, and returns its length in bytes: 48; a
-/// conclusion has 64, or 72 to 84 with a CONGESTION block. The rest of the buffer doesn't change. O(1).
+/// Writes an answer, without the packet's header, to the front of the buffer, and returns its length in bytes: 48; for
+/// a conclusion 64, or 72 to 84 with a CONGESTION block. The rest of the buffer is unchanged. O(1).
 #[tactic(auto, unfolding(crate::specs::Text::answer_text))]
 pub fn write(answer: &HsAnswer, out: &mut [u8; 84]) -> usize
     ensures within { result ≤ 84 }

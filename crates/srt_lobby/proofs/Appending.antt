@@ -1,4 +1,4 @@
--- Routes that are appended hidden, and names that no other shown route has.
+-- Routes that are appended hidden, and names that no other visible route has.
 use Rattle.std.proofs.Common.{◌≡◌, ◌≢◌, ℕ, zero, suc, ◌≤◌, Bool, true, false, List, [], ◌∷◌, ◌++◌, length, Option, None, Some}
 use Rattle.std.proofs.Common.{IfSome, IsTrue, slice_get, nat_eq, inl, inr, ◌⊎◌, refl, sym, ap, subst, ◌∙◌, arith}
 use Rattle.std.proofs.lemmas.Bool.{cases_eq}
@@ -33,7 +33,7 @@ last_unused names text access none =
     ∙ index_more names (hidden text access ∷ []) (refl, tt) text
     ∙ none)
 
--- whether another shown route has a route's name
+-- whether another visible route has a route's name
 module _ (names : List RouteName) (distinct : AreDistinct names) (r : ℕ) (name : RouteName) (here : slice_get names r ≡ Some name) where
   unused_if : index_of (hidden_at r names) name.text ≡ None → IsUnused r names
   unused_if none = subst (λ (o : Option RouteName). IfSome o (λ n. index_of (hidden_at r names) n.text ≡ None)) (sym here) none
@@ -73,7 +73,7 @@ module _ (names : List RouteName) (distinct : AreDistinct names) (r : ℕ) (name
       by unused (inl same) = grind (arith, nat_tests, same)
       by unused (inr apart) = absurd (used_if_other s found apart unused)
 
--- a route that there isn't
+-- an index without a route
 nothing_at : (names : List RouteName) (r : ℕ) → length names ≤ r → slice_get names r ≡ None
 nothing_at [] r beyond = refl
 nothing_at (n ∷ ns) zero beyond = absurd (omega (arith, beyond))

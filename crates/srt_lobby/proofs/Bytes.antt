@@ -17,7 +17,7 @@ length_of_answer a h =
     ap (λ (rest : List ℕ). length (kind_text a.initial a.what ++ rest)) h ∙ ap length (append-nil (kind_text a.initial a.what))
     ∙ length_of_kind a.initial a.what
 
--- what was written piece by piece
+-- the concatenation of what was written in steps
 pub joined : (none out0 out1 out2 head id text : List ℕ) (n0 n1 n2 : ℕ) → none ≡ [] → take n0 out0 ≡ none ++ head
     → take n1 out1 ≡ take n0 out0 ++ id → take n2 out2 ≡ take n1 out1 ++ text → length out2 ≤ n2
     → out2 ≡ (head ++ id) ++ text

@@ -1,4 +1,4 @@
--- A datagram for a route is from a caller that the route's lists and keys let in.
+-- The access rules of a route admit the sender of each datagram for the route.
 use Rattle.std.proofs.Common.{◌≡◌, ℕ, ◌/◌, ◌^◌, Bool, true, false, cond, ◌||◌, List, Option, None, Some, Result, Ok, Err, ◌==◌, slice_get}
 use Rattle.std.proofs.Common.{refl, sym, ap, ◌∙◌, subst}
 use Rattle.std.proofs.lemmas.Bool.{and_parts, or_right}
@@ -32,7 +32,7 @@ first_or : (b c : Bool) → b ≡ true → (b || c) ≡ true
 first_or true c h = refl
 first_or false c h = cc
 
--- who is admitted is known
+-- an admitted caller is known
 known : (peer : Peer) (role : Role) (brought : Option (List ℕ)) (o : Option RouteName) → admits_caller peer role brought o ≡ true → knows_caller peer o ≡ true
 known peer Publish brought (Some name) h =
     first_or (lists name.access.publish.from peer) (lists name.access.request.from peer)
@@ -42,12 +42,12 @@ known peer Request brought (Some name) h =
     (and_parts (lists name.access.request.from peer) (is_right_key name.access.request.key brought) h).0
 known peer role brought None h = cc
 
--- what a Stream ID asks for is admitted
+-- the route that a Stream ID requests admits the caller
 abbrev Lets : List RouteName → Peer → (r : ℕ) → Option (List ℕ) → Type 0
 Lets names peer r id =
     (bytes : List ℕ) × (ask : Ask) × (id ≡ Some bytes) × (ask_in bytes ≡ Ok ask) × (admits_caller_at names r peer ask.role (key_of bytes) ≡ true)
 
--- what a packet's body asks for is admitted
+-- the route that a packet's body requests admits the caller
 abbrev LetsBody : List RouteName → Peer → (r : ℕ) → Body → Type 0
 LetsBody names peer r body =
     (info : List ℕ) × (hs : Handshake) × (body ≡ packets.Handshake info) × (handshake_in info ≡ Ok hs) × (hs.kind ≡ kinds.Conclusion)
@@ -107,7 +107,7 @@ module _ (secret : List ℕ) (names : List RouteName) (r : ℕ) (peer : Peer) (m
       by false h = (place_is names peer (packet.dest / 2 ^ 20) r h).is_known
   packet_knows (Err fault) h = cc
 
--- a packet with destination 0 is sorted by its body
+-- a packet with destination 0 is classified by its body
 to_body : (secret : List ℕ) (names : List RouteName) (peer : Peer) (moment r : ℕ) (packet : Packet) → packet.dest ≡ 0
     → of_packet secret names peer moment (Ok packet) ≡ Route r → of_body secret names peer moment packet.body ≡ Route r
 to_body secret names peer moment r packet zero h =

@@ -1,4 +1,4 @@
--- The names of the routes after one was added, hidden or shown.
+-- The names of the routes after one was added, hidden or made visible.
 use Rattle.std.proofs.Common.{◌≡◌, ◌≢◌, ℕ, zero, suc, ◌<◌, Bool, true, false, not, ◌&&◌, cond, List, [], ◌∷◌, ◌++◌, length, map, Option}
 use Rattle.std.proofs.Common.{None, Some, IfSome, is_some, slice_get, get_or, nat_lt, inl, inr, ◌⊎◌, refl, sym, ap, subst, ◌∙◌, arith}
 use Rattle.std.proofs.lemmas.Bool.{cases_eq}
@@ -15,7 +15,7 @@ use Rattle.srt_lobby.specs.Changing.{DistinctAreUnused}
 use Rattle.srt_lobby.proofs.Finds.{no_name, asked_is_text, name_found, found_there, has_name_shown}
 use Rattle.srt_lobby.proofs.Kept.{own, is_for_shown}
 
--- a shown name is found, so a name that isn't found isn't shown
+-- the name of a visible route is found, so a name that isn't found has no visible route
 pub not_there : (names : List RouteName) (i : ℕ) (text : List ℕ) → AreDistinct names → has_name_at names i text ≡ true → index_of names text ≡ None → ⊥
 not_there names i text distinct there none = by (slice_get names i) refl there
   where
@@ -26,7 +26,7 @@ not_there names i text distinct there none = by (slice_get names i) refl there
         cc
     by None e h = cc
 
--- what a change leaves as it is
+-- a change keeps the other routes
 pub stays : (b : Bool) (names : List RouteName) (s r : ℕ) → r ≢ s → slice_get (marked_at b s names) r ≡ slice_get names r
 stays b [] s r apart = refl
 stays b (n ∷ ns) zero zero apart = absurd (apart refl)
@@ -56,7 +56,7 @@ was_shown names r i text h = by (cases_eq i r)
 pub hiding_keeps_names : HidingKeepsNames
 hiding_keeps_names names r distinct i j text p q = distinct i j text (was_shown names r i text p) (was_shown names r j text q)
 
--- the text of the route that is shown
+-- the text of the route that is made visible
 abbrev text_of : Option RouteName → List ℕ
 text_of (Some name) = name.text
 text_of None = []
@@ -96,7 +96,7 @@ showing_keeps_names names r within unused distinct i j text p q = by (cases_eq i
     by (inr a) (inl b) = absurd (never i a p (ap (λ (k : ℕ). has_name_at (shown_at r names) k text) (sym b) ∙ q))
     by (inr a) (inr b) = distinct i j text (other i a p) (other j b q)
 
--- one more route
+-- the routes after one was added
 pub before_or_last : (names : List RouteName) (x : RouteName) (i : ℕ) (text : List ℕ)
     → has_name_at (names ++ x ∷ []) i text ≡ true → (has_name_at names i text ≡ true) ⊎ ((i ≡ length names) × (x.text ≡ text))
 before_or_last [] x zero text h = inr (refl, sym (asked_is_text text x h))
@@ -130,7 +130,7 @@ adding_keeps_names names e sound distinct i j text p q = by (before_or_last name
     by (inr a) (inl b) = absurd (never j b a.1)
     by (inr a) (inr b) = a.0 ∙ sym b.0
 
--- the other routes
+-- the other routes keep their datagrams
 same_for : (r : ℕ) (names others : List RouteName)
     → r < length names → AreDistinct names → AreDistinct others → slice_get others r ≡ slice_get names r → AreSameFor r names others
 same_for r names others within distinct distinct_there same secret datagram moment =
@@ -161,7 +161,7 @@ hidden_has_none secret names r datagram moment h =
     let bad : false ≡ true = sym (is_hidden names r) ∙ is_for_shown secret (hidden_at r names) datagram moment r h in
     cc
 
--- names that are all distinct
+-- if all names are distinct, each name is found
 all_shown : (names : List RouteName) (r : ℕ) (name : RouteName) → slice_get names r ≡ Some name → has_name_at (map as_shown names) r name.text ≡ true
 all_shown [] r name h = cc
 all_shown (n ∷ ns) zero name h =

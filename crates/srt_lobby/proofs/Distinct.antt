@@ -90,7 +90,7 @@ not_yet es i name h p = by (index_of (take i (map name_of es)) name) refl
         let same : k ≡ i = distinct es h k i name (text_at es k name before.0) p in
         absurd (omega (arith, same, before.1))
 
--- one name more
+-- one more name
 pub take_name : (es : List Terms) (i : ℕ) (name : RouteName)
     → slice_get (map name_of es) i ≡ Some name → take (suc i) (map name_of es) ≡ take i (map name_of es) ++ name ∷ []
 take_name [] i name h = cc

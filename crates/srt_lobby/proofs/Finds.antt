@@ -38,7 +38,7 @@ any_of p f (k ∷ ks) = rw (any_of p f ks)
 abbrev pub no_name : RouteName
 no_name = shown [] anyone
 
--- what is found is asked for, and is shown
+-- the route that is found has the requested name, and is visible
 pub found_name : (names : List RouteName) (r : ℕ) (name : RouteName) (asked : List ℕ)
     → slice_get names r ≡ Some name → index_of names asked ≡ Some r → is_asked asked name ≡ true
 found_name names r name asked h e =
@@ -66,7 +66,7 @@ other_before names r asked distinct h inside k below =
     let e : k ≡ r = distinct k r asked there h in
     omega arith)
 
--- a shown name is found
+-- the name of a visible route is found
 pub name_found : (names : List RouteName) (r : ℕ) (name : RouteName) (asked : List ℕ)
     → AreDistinct names → slice_get names r ≡ Some name → is_asked asked name ≡ true → index_of names asked ≡ Some r
 name_found names r name asked distinct h is =
@@ -77,13 +77,13 @@ name_found names r name asked distinct h is =
     (other_before names r asked distinct (ap (has_name asked) h ∙ is) inside) (λ w. here) in
     rw at (grind (arith, nat_tests))
 
--- a route that is shown exists
+-- a visible route exists
 pub shown_within : (names : List RouteName) (r : ℕ) → is_shown_at names r ≡ true → r < length names
 shown_within [] r h = cc
 shown_within (x ∷ xs) zero h = omega arith
 shown_within (x ∷ xs) (suc r) h = omega (arith, shown_within xs r h)
 
--- a route that is found is shown
+-- the route that is found is visible
 pub found_shown : (names : List RouteName) (r : ℕ) (asked : List ℕ) → index_of names asked ≡ Some r → is_shown_at names r ≡ true
 found_shown names r asked e =
     let found = position-Some (is_asked asked) names r no_name e in
@@ -94,7 +94,7 @@ found_there names r text e =
     let found = position-Some (is_asked text) names r no_name e in
     ap (has_name text) (slice_get-get_or names r no_name found.0) ∙ found.1
 
--- a route that has a name is shown, and has this text
+-- a route with this name by has_name is visible, and has this text
 pub has_name_shown : (text : List ℕ) (o : Option RouteName) → has_name text o ≡ true → shows o ≡ true
 has_name_shown text (Some name) h = asked_is_shown text name h
 has_name_shown text None h = cc
@@ -109,7 +109,7 @@ any_taken name es = sym (any_of (λ (e : Terms). bytes_eq e.name name) terms_of 
 pub all_limited : (es : List Entry) → list_all (λ (e : Entry). in_limits (terms_of e)) es ≡ list_all in_limits (map terms_of es)
 all_limited es = sym (list_all-map in_limits terms_of es)
 
--- the names of entries, the first apart
+-- the names of entries, the first one separate
 pub names_step : (es : List Entry) (d : Entry) → 0 < length es
     → are_names (map terms_of es) ≡ (is_fresh (terms_of (get_or es 0 d)) (map terms_of (drop 1 es)) && are_names (map terms_of (drop 1 es)))
 names_step [] d h = absurd (omega arith)
@@ -127,7 +127,7 @@ route_at [] i d h = absurd (omega arith)
 route_at (e ∷ es) zero d h = refl
 route_at (e ∷ es) (suc i) d h = route_at es i d (omega arith)
 
--- one name more
+-- one more name
 pub take_next : (names : List (List ℕ)) (i : ℕ) (name : List ℕ) → slice_get names i ≡ Some name → take (suc i) names ≡ take i names ++ name ∷ []
 take_next [] i name h = cc
 take_next (x ∷ xs) zero name h = cc
@@ -137,7 +137,7 @@ true_and : (a b : Bool) → a ≡ true → b ≡ (a && b)
 true_and true b h = refl
 true_and false b h = cc
 
--- an entry whose name has the right form and isn't taken
+-- an entry whose name is valid and isn't taken
 pub fresh : (e : Entry) (others : List Entry) (name : List ℕ) (good taken : Bool) → name ≡ (terms_of e).name → good ≡ is_name name → good ≡ true →
     taken ≡ is_taken name (map terms_of others) → not taken ≡ is_fresh (terms_of e) (map terms_of others)
 fresh e others name good taken p q h t =

@@ -1,4 +1,4 @@
--- Names that are hidden, behind the others, change no class.
+-- Hidden names at the end change no class.
 use Rattle.std.proofs.Common.{◌≡◌, ℕ, zero, suc, ◌-◌, ◌+◌, ◌/◌, ◌^◌, ◌<◌, ◌≤◌, Bool, true, false, not, cond, ◌&&◌, List, [], ◌∷◌, ◌++◌, length}
 use Rattle.std.proofs.Common.{Option, None, Some, Result, Ok, Err, slice_get, nat_lt, eqb, ◌==◌, refl, sym, ap, ◌∙◌, arith}
 use Rattle.std.specs.List.{prefix_len}
@@ -32,7 +32,7 @@ use Rattle.srt_lobby.specs.Lobby.{of_body, if_known, by_place, to_session, of_pa
 use Rattle.srt_lobby.specs.Changing.{AreHidden, HiddenChangeNothing}
 use Rattle.srt_lobby.proofs.Finds.{found_shown}
 
--- a place that is found, out of this many
+-- a place, if it is below this number
 found : (place many : ℕ) → Option ℕ
 found place many = cond (nat_lt place many) (Some place) None
 

@@ -29,7 +29,7 @@ use Rattle.srt_lobby.specs.Lobby.{of_body, if_known, by_place, to_session, of_pa
 use Rattle.srt_lobby.specs.Laws.{HasRoute, RouteIsItsOwn, RouteIsNamed, RouteIsShown, RouteHasHeader}
 use Rattle.srt_lobby.proofs.Finds.{found_name, name_found, found_shown, shown_within}
 
--- what is r's is r's again
+-- if one class is route r, the other is too
 abbrev Follows : (r : ℕ) → (x y : Class) → Type 0
 Follows r x y = x ≡ Route r → y ≡ Route r
 
@@ -45,7 +45,7 @@ pub route_is : (hs : Handshake) (r : ℕ) (found : Option ℕ) → by_route hs f
 route_is hs r (Some s) h = cc
 route_is hs r None h = absurd (never_answered r hs _ h)
 
--- a route that is admitted was found, and admits the caller
+-- an admitted route was found, and admits the caller
 pub record IsAdmitted (names : List RouteName) (peer : Peer) (role : Role) (brought : Option (List ℕ)) (r : ℕ) (found : Option ℕ) : Type 0 where
   pub is : found ≡ Some r
   pub admits : admits_caller_at names r peer role brought ≡ true
@@ -61,7 +61,7 @@ admitted_is names peer role brought r (Some s) h = by (admits_caller_at names s 
     by false e h = cc
 admitted_is names peer role brought r None h = cc
 
--- of packets with destination 0, handshakes alone are for a route
+-- a packet with destination 0 is for a route only if it is a handshake
 pub only_a_handshake : (secret : List ℕ) (names : List RouteName) (peer : Peer) (moment r : ℕ) (body : Body)
     → of_body secret names peer moment body ≡ Route r → (info : List ℕ) × (body ≡ packets.Handshake info)
 only_a_handshake secret names peer moment r (packets.Handshake info) h = (info, refl)
@@ -111,7 +111,7 @@ place_goes names peer place r h =
     ∙ ap (λ (b : Bool). placed true b (knows_caller_at names r peer) r) h.is_there
     ∙ ap (λ (k : Bool). placed true true k r) h.is_known
 
--- the route is the same in both lists, and is found in the second one by each name by which it is found in the first one
+-- the route is the same in both lists, and each name that finds it in the first one finds it in the second one
 pub record IsFoundAgain (names others : List RouteName) (r : ℕ) : Type 0 where
   pub finds : (asked : List ℕ) → index_of names asked ≡ Some r → index_of others asked ≡ Some r
   pub same : slice_get others r ≡ slice_get names r
@@ -181,7 +181,7 @@ own secret names others r name has have datagram moment = (
   packet_follows secret others names r (found_again others names r name have has) datagram.peer moment (packet_in datagram.bytes),
 )
 
--- a datagram for a route is for a route that is shown, and so exists
+-- a datagram for a route is for a visible route, which therefore exists
 abbrev Shown : (names : List RouteName) (r : ℕ) → Class → Type 0
 Shown names r x = x ≡ Route r → is_shown_at names r ≡ true
 

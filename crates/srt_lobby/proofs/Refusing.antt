@@ -1,4 +1,4 @@
--- Who is refused with 1002 and why.
+-- Which conclusions are refused with 1002, and why.
 use Rattle.std.proofs.Common.{◌≡◌, ℕ, Bool, true, false, cond, ◌&&◌, List, Option, None, Some, Result, Ok, Err, slice_get, refl}
 use Rattle.srt_seq.specs.declared.shared.Peer.{Peer}
 use Rattle.srt_seq.specs.declared.shared.Role.{Role}
@@ -17,7 +17,7 @@ use Rattle.srt_lobby.specs.Lobby.{admitted, route_named, route_asked, by_route, 
 use Rattle.srt_lobby.specs.Causes.{cause_at_route, cause_by_index, cause_by_ask, cause_by_stream_id, cause_by_reason, cause_of_conclusion}
 use Rattle.srt_lobby.specs.Causes.{CauseRefuses, RefusalHasCause}
 
--- what was found has no cause against it, and a route; or it has a cause and no route
+-- either there is no cause and a route was found, or there is a cause and no route
 data Found : Option NotAdmitted → Option ℕ → Type 0 where
   let_in : (r : ℕ) → Found None (Some r)
   left_out : (cause : NotAdmitted) → Found (Some cause) None

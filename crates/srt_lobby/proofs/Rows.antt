@@ -1,4 +1,4 @@
--- Which routes are found while names are hidden and used again.
+-- Computed examples: which routes are found while names are hidden and reused.
 use Rattle.std.proofs.Common.{◌≡◌, ℕ, false, List, [], ◌∷◌, None, Some, replicate, refl}
 use Rattle.srt_seq.specs.declared.shared.Mode.TheVariants.{Live}
 use Rattle.srt_seq.specs.declared.shared.OpenFault.TheVariants as faults
@@ -42,7 +42,7 @@ opened = name_of (entry studio 120) ∷ name_of (entry files 120) ∷ []
 abbrev hidden : List RouteName
 hidden = hidden_at 0 opened
 
--- the name of a hidden route is used again, with another index
+-- the name of a hidden route is reused, with another index
 abbrev again : List RouteName
 again = added (entry studio 120) hidden
 
@@ -50,14 +50,14 @@ names_are_found : (index_of opened studio ≡ Some 0) × (index_of hidden studio
     (index_of again studio ≡ Some 2) × (index_of (shown_at 0 hidden) studio ≡ Some 0)
 names_are_found = (refl, refl, refl, refl, refl)
 
--- a session's ID of a hidden route is no route's
+-- a session's ID of a hidden route is no visible route's
 ids_are_found : (to_session opened caller 0x100000 ≡ Route 0) × (to_session hidden caller 0x100000 ≡ Dropped causes.UnknownId) ×
     (to_session hidden caller 0x2fffff ≡ Route 1) × (to_session hidden caller 0x300000 ≡ Dropped causes.UnknownId) ×
     (to_session again caller 0x100000 ≡ Dropped causes.UnknownId) × (to_session again caller 0x300000 ≡ Route 2) ×
     (to_session again caller 0xfffff ≡ Dropped causes.UnknownId)
 ids_are_found = (refl, refl, refl, refl, refl, refl, refl)
 
--- names come before limits, and hidden routes count for the 512th index
+-- faults of names take precedence over limits, and hidden routes count towards the 512th index
 faults_are_told : (fault_of_adding hidden (entry files 120) ≡ Some faults.Names) ×
     (fault_of_adding hidden (entry files 10) ≡ Some faults.Names) × (fault_of_adding hidden (entry [] 120) ≡ Some faults.Names) ×
     (fault_of_adding hidden (entry studio 10) ≡ Some faults.Limits) × (fault_of_adding hidden (entry studio 120) ≡ None)

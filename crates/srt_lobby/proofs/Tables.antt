@@ -1,4 +1,4 @@
--- Tables that find shown routes by their names.
+-- Tables that find visible routes by their names.
 use Rattle.std.proofs.Common.{◌≡◌, ◌≢◌, ℕ, zero, suc, ◌<◌, Bool, true, false, not, cond, ◌&&◌, List, [], ◌∷◌, ◌++◌, length, map, Option, None, Some}
 use Rattle.std.proofs.Common.{is_some, slice_get, slice_set, get_or, inl, inr, ◌⊎◌, refl, sym, ap, subst, ◌∙◌, arith}
 use Rattle.std.proofs.Common.{Bor, Result, Ok, Err, IsOk, OnOk}
@@ -17,7 +17,7 @@ use Rattle.srt_lobby.specs.Changing.{marked_at, hidden_at, shown_at, IsUnused}
 use Rattle.srt_lobby.proofs.Finds.{name_found, found_shown, found_there, has_name_text}
 use Rattle.srt_lobby.proofs.Changing.{stays, mark_is, was_shown, showing_keeps_names}
 
--- the texts of routes
+-- changes of visibility keep the texts of routes
 pub text_stays_at : (b : Bool) (names : List RouteName) (s r : ℕ) → text_at (marked_at b s names) r ≡ text_at names r
 text_stays_at b [] s r = refl
 text_stays_at b (n ∷ ns) zero zero = refl
@@ -41,7 +41,7 @@ text_before_or_last [] x (suc r) text h = absurd (let bad : None ≡ Some text =
 text_before_or_last (n ∷ ns) x zero text h = inl h
 text_before_or_last (n ∷ ns) x (suc r) text h = text_before_or_last ns x r text h
 
--- a shown route with this text
+-- a visible route with this text
 shown_there : (names : List RouteName) (r : ℕ) (text : List ℕ)
     → text_at names r ≡ Some text → is_shown_at names r ≡ true → has_name_at names r text ≡ true
 shown_there names r text h q = by (slice_get names r) h q
@@ -52,7 +52,7 @@ shown_there names r text h q = by (slice_get names r) h q
         ap (λ (b : Bool). b && bytes_eq text name.text) q ∙ (bytes_eq-Decides text name.text).1 same
     by None h q = cc
 
--- no two routes that a table has are shown with the same name
+-- no two routes in a table are visible with the same name
 pub apart : (names : List RouteName) (latest : List ℕ → Option ℕ) → HasShown names latest → AreDistinct names
 apart names latest has i j text p q =
     let first : latest text ≡ Some i = has i text p in
@@ -60,7 +60,7 @@ apart names latest has i j text p q =
     let both : Some i ≡ Some j = sym first ∙ second in
     cc
 
--- what is found
+-- the table finds the visible route
 pub found : (names : List RouteName) (latest : List ℕ → Option ℕ) → HasShown names latest → HasNamed names latest →
     (r : ℕ) (text : List ℕ) → latest text ≡ Some r → is_shown_at names r ≡ true → Some r ≡ index_of names text
 found names latest has named r text h q = by (slice_get names r) refl (shown_there names r text (named r text h) q)
@@ -132,7 +132,7 @@ module _ {K : Type 0} (f : K → List ℕ) (text : List ℕ) where
           ap (cond (bytes_eq text (f e.0)) (Some e.1)) (rest q) ∙
           cond_swapped (bytes_eq text name) (bytes_eq text (f e.0)) (Some r) (Some e.1) (index_in f es text) (never_both name (f e.0) h)
 
--- nothing is set where nothing passes
+-- nothing is set if no entry passes the test
 pub none_set : {K : Type 0} (test : K → Bool) (es : List (K × ℕ)) (r : ℕ) → lookup test es ≡ None → es ≡ set_value test es r
 none_set test [] r h = refl
 none_set test (e ∷ es) r h = by (none_set test es r) (test e.0) h
@@ -142,7 +142,7 @@ none_set test (e ∷ es) r h = by (none_set test es r) (test e.0) h
     by rest true h = cc
     by rest false h = ap (λ (es : List _). e ∷ es) (rest h)
 
--- what holds if there is a value, where there is one
+-- a consequence of a value follows if the result has one
 pub of_ok : {T E : Type 0} (r : Result T E) (P : Type 0) → IsOk r → OnOk r P → P
 of_ok (Ok x) P ok p = p
 of_ok (Err e) P ok p = cc
@@ -151,7 +151,7 @@ pub none_behind : (r : Option (Bor ℕ)) → is_none r ≡ true → option_copie
 none_behind None h = refl
 none_behind (Some x) h = cc
 
--- a name is entered
+-- the table after a name is entered
 entered_new : (latest : List ℕ → Option ℕ) (name : List ℕ) (r : ℕ) (text : List ℕ)
     → latest name ≡ None → cond (bytes_eq text name) (Some r) (latest text) ≡ entered latest name r text
 entered_new latest name r text none = by (bytes_eq text name) (latest name) none
@@ -165,7 +165,7 @@ pub entered_by_inserting : {K : Type 0} (f : K → List ℕ) (es : List (K × �
     index_in f (insert_entry (λ a b. bytes_eq (f a) (f b)) es key r) text ≡ entered (index_in f es) (f key) r text
 entered_by_inserting f es key r text none = inserted f text es key r ∙ entered_new (index_in f es) (f key) r text none
 
--- a hidden route more
+-- one more hidden route
 hidden_last : (names : List RouteName) (name : List ℕ) (access : AccessTerms) (r : ℕ) (text : List ℕ)
     → has_name_at (names ++ hidden name access ∷ []) r text ≡ has_name_at names r text
 hidden_last [] name access zero text = refl
@@ -221,7 +221,7 @@ marked_named b names latest s has r text p = text_stays_at b names s r ∙ has r
 pub marked_texts : (b : Bool) (names : List RouteName) (latest : List ℕ → Option ℕ) (s : ℕ) → HasTexts names latest → HasTexts (marked_at b s names) latest
 marked_texts b names latest s has r text p = has r text (sym (text_stays_at b names s r) ∙ p)
 
--- a route that is shown again
+-- a hidden route that is made visible again
 module _ (names : List RouteName) (latest after : List ℕ → Option ℕ) (s : ℕ) (name : List ℕ) (there : text_at names s ≡ Some name)
     (is : (text : List ℕ) → after text ≡ cond (bytes_eq text name) (Some s) (latest text)) where
   pub again_shown : s < length names → IsUnused s names → HasShown names latest → HasShown (shown_at s names) after

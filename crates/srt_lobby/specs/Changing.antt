@@ -1,5 +1,5 @@
--- How the names of the routes change while a gateway runs: a route is added, hidden or shown. An index is never used
--- again; the name of a hidden route may be.
+-- Changes of the routes' names while a gateway runs: a route is added, hidden or made visible. An index is never
+-- reused; the name of a hidden route may be.
 use Rattle.std.specs.Prelude.{◌≡◌, ◌≢◌, ◌↔◌, ℕ, zero, suc, ◌<◌, Bool, true, false, not, List, [], ◌∷◌, ◌++◌, length, map, Option, None}
 use Rattle.std.specs.Prelude.{Some, IfSome, is_some, slice_get, nat_lt, ◌&&◌, if◌then◌else◌}
 use Rattle.srt_seq.specs.declared.shared.OpenFault.{OpenFault}
@@ -11,66 +11,72 @@ use Rattle.srt_lobby.specs.declared.classes.Class.TheVariants.{Route}
 use Rattle.srt_lobby.specs.Names.{RouteName, as_shown, name_of, index_of, AreDistinct}
 use Rattle.srt_lobby.specs.Lobby.{class_of}
 
--- the names with the route with this index hidden, or shown
+-- the names with a changed visibility of the route with this index
 abbrev pub marked_at : (is_shown : Bool) → (r : ℕ) → List RouteName → List RouteName
 marked_at is_shown r [] = []
 marked_at is_shown zero (name ∷ names) = record name { is_shown = is_shown } ∷ names
 marked_at is_shown (suc r) (name ∷ names) = name ∷ marked_at is_shown r names
 
+-- the names after the route with this index is hidden
 abbrev pub hidden_at : (r : ℕ) → List RouteName → List RouteName
 hidden_at r names = marked_at false r names
 
+-- the names after the route with this index is made visible
 abbrev pub shown_at : (r : ℕ) → List RouteName → List RouteName
 shown_at r names = marked_at true r names
 
--- no other shown route has the name of this one
+-- no other visible route has the name of the route with this index
 abbrev pub IsUnused : (r : ℕ) → List RouteName → Type 0
 IsUnused r names = IfSome (slice_get names r) (λ name. index_of (hidden_at r names) name.text ≡ None)
 
--- the names with one more route, which is shown
+-- the names with one more route, which is visible
 abbrev pub added : Terms → List RouteName → List RouteName
 added e names = names ++ name_of e ∷ []
 
--- the first reason why a route of this name can't be added, memory aside, if its numbers are within their limits or
--- aren't: a name of a wrong form or of a shown route, a 512th index or a number outside its limits
+-- the first reason, except memory, why a route of this name can't be added, given whether its numbers are within their
+-- limits: an invalid name or that of a visible route; a 512th index or a number outside its limits
 abbrev pub fault_of_name : List RouteName → (name : List ℕ) → (within : Bool) → Option OpenFault
 fault_of_name names name within =
     if is_name name && not (is_some (index_of names name))
     then (if nat_lt (length names) 511 && within then None else Some faults.Limits) else Some faults.Names
 
--- that of a route with these terms
+-- the first reason, except memory, why a route with these terms can't be added
 abbrev pub fault_of_adding : List RouteName → Terms → Option OpenFault
 fault_of_adding names e = fault_of_name names e.name (in_limits e)
 
--- no two shown routes ever have the same name
+-- adding a route keeps the names of visible routes distinct
 abbrev pub AddingKeepsNames : Type 0
 AddingKeepsNames = (names : List RouteName) (e : Terms) → fault_of_adding names e ≡ None → AreDistinct names → AreDistinct (added e names)
 
+-- hiding a route keeps the names of visible routes distinct
 abbrev pub HidingKeepsNames : Type 0
 HidingKeepsNames = (names : List RouteName) (r : ℕ) → AreDistinct names → AreDistinct (hidden_at r names)
 
+-- making a route visible whose name is unused keeps the names of visible routes distinct
 abbrev pub ShowingKeepsNames : Type 0
 ShowingKeepsNames = (names : List RouteName) (r : ℕ) → r < length names → IsUnused r names → AreDistinct names → AreDistinct (shown_at r names)
 
--- where no two routes have the same name, shown or not, no name is used by another route
+-- if no two routes have the same name, visible or hidden, each route's name is unused
 abbrev pub DistinctAreUnused : Type 0
 DistinctAreUnused = (names : List RouteName) → AreDistinct (map as_shown names) → (r : ℕ) → IsUnused r names
 
--- a datagram is for a route with some names if it is with others
+-- the same datagrams are for route r with these names and with the others
 abbrev pub AreSameFor : (r : ℕ) → (names others : List RouteName) → Type 0
 AreSameFor r names others =
     (secret : List ℕ) (datagram : Datagram) (moment : ℕ)
     → (class_of secret names datagram moment ≡ Route r) ↔ (class_of secret others datagram moment ≡ Route r)
 
--- the routes that are there keep their datagrams when another one is added, hidden or shown
+-- adding a route keeps the datagrams of each existing route
 abbrev pub AddingKeepsOthers : Type 0
 AddingKeepsOthers =
     (names : List RouteName) (e : Terms) (r : ℕ)
     → r < length names → fault_of_adding names e ≡ None → AreDistinct names → AreSameFor r names (added e names)
 
+-- hiding a route keeps the datagrams of each other route
 abbrev pub HidingKeepsOthers : Type 0
 HidingKeepsOthers = (names : List RouteName) (s r : ℕ) → r < length names → r ≢ s → AreDistinct names → AreSameFor r names (hidden_at s names)
 
+-- making a route visible whose name is unused keeps the datagrams of each other route
 abbrev pub ShowingKeepsOthers : Type 0
 ShowingKeepsOthers =
     (names : List RouteName) (s r : ℕ)
@@ -82,12 +88,13 @@ HiddenHasNone =
     (secret : List ℕ) (names : List RouteName) (r : ℕ) (datagram : Datagram) (moment : ℕ)
     → class_of secret (hidden_at r names) datagram moment ≡ Route r → ⊥
 
--- all of these are hidden
+-- all of these routes are hidden
 abbrev pub AreHidden : List RouteName → Type 0
 AreHidden [] = Unit {0}
 AreHidden (name ∷ names) = (name.is_shown ≡ false) × AreHidden names
 
--- hidden routes behind the others change no datagram's class: a route may be appended, hidden, long before it is shown
+-- hidden routes at the end change no datagram's class, so a route may be appended, hidden, long before it is made
+-- visible
 abbrev pub HiddenChangeNothing : Type 0
 HiddenChangeNothing =
     (secret : List ℕ) (names more : List RouteName)

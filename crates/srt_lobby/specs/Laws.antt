@@ -1,4 +1,4 @@
--- Which datagrams are which route's.
+-- Which datagrams are for which route.
 use Rattle.std.specs.Prelude.{◌≡◌, ◌↔◌, ℕ, ◌<◌, ◌≤◌, true, List, length, None, Some, Ok, map, slice_get}
 use Rattle.srt_seq.specs.Access.{AccessTerms, in_role, knows, admits}
 use Rattle.srt_seq.specs.Items.{Datagram}
@@ -21,7 +21,7 @@ use Rattle.srt_lobby.specs.Names.{RouteName, AreDistinct, is_shown_at, name_of}
 use Rattle.srt_lobby.specs.Opening.{fault_of}
 use Rattle.srt_lobby.specs.Lobby.{class_of, answer_bytes}
 
--- the route with this index has this name, shown or not, and no two shown routes have the same name
+-- the route with this index has this name, visibility and access rules, and no two visible routes have the same name
 pub record HasRoute (names : List RouteName) (r : ℕ) (name : RouteName) : Type 0 where
   pub named : slice_get names r ≡ Some name
   pub distinct : AreDistinct names
@@ -30,8 +30,8 @@ pub record HasRoute (names : List RouteName) (r : ℕ) (name : RouteName) : Type
 abbrev pub NamesAreDistinct : Type 0
 NamesAreDistinct = (entries : List Terms) → fault_of entries ≡ None → AreDistinct (map name_of entries)
 
--- whether a datagram is for a route depends on the secret, the route's index, its name, whether it is shown, who may call
--- it, and that datagram: other routes, their names and their number make no difference
+-- whether a datagram is for a route depends only on the secret, the route's index, name, visibility and access rules,
+-- and the datagram: other routes, their names and their number have no influence
 abbrev pub RouteIsItsOwn : Type 0
 RouteIsItsOwn =
     (secret : List ℕ) (names others : List RouteName) (r : ℕ) (name : RouteName) → HasRoute names r name → HasRoute others r name →
@@ -43,46 +43,45 @@ RouteIsNamed =
     (secret : List ℕ) (names : List RouteName) (datagram : Datagram) (moment r : ℕ) →
     class_of secret names datagram moment ≡ Route r → r < length names
 
--- and it is for a route that is shown
+-- a datagram for a route is for a visible route
 abbrev pub RouteIsShown : Type 0
 RouteIsShown =
     (secret : List ℕ) (names : List RouteName) (datagram : Datagram) (moment r : ℕ) →
     class_of secret names datagram moment ≡ Route r → is_shown_at names r ≡ true
 
--- what a datagram asks for: it is a conclusion, and its Stream ID is these bytes, which ask for a name in a role
+-- the request in a datagram: it is a conclusion whose Stream ID is these bytes, and they request a name in a role
 pub record IsAsking (datagram : Datagram) (bytes : List ℕ) (ask : Ask) : Type 0 where
   pub says : (packet : ReadPacket) × (info : List ℕ) × (hs : Handshake) × (packet_in datagram.bytes ≡ Ok packet)
       × (packet.body ≡ packets.Handshake info) × (handshake_in info ≡ Ok hs) × (hs.kind ≡ kinds.Conclusion)
       × (hs.blocks.stream_id ≡ Some bytes)
   pub asks : ask_in bytes ≡ Ok ask
 
--- the sender of a datagram may call a route with these lists and keys: its address is in one of the lists; and if the
--- packet has destination 0, it is a conclusion, the address is in the list of the role that it asks for, and it brings
--- the key of that role
+-- these access rules admit the sender of a datagram: its address is in one of the lists. If the packet has destination
+-- 0, it is a conclusion, the address is in the list of the requested role, and the Stream ID has that role's key
 abbrev pub MayCall : AccessTerms → Datagram → Type 0
 MayCall access datagram =
     (knows access datagram.peer ≡ true) ×
     ((packet : ReadPacket) → packet_in datagram.bytes ≡ Ok packet → packet.dest ≡ 0 →
     (bytes : List ℕ) × (ask : Ask) × IsAsking datagram bytes ask × (admits (in_role access ask.role) datagram.peer (key_of bytes) ≡ true))
 
--- whatever arrives, the sender of a datagram for a route may call the route
+-- whatever arrives, a route's access rules admit the sender of each datagram for the route
 abbrev pub RouteIsForCallers : Type 0
 RouteIsForCallers =
     (secret : List ℕ) (names : List RouteName) (datagram : Datagram) (moment r : ℕ) (name : RouteName) → slice_get names r ≡ Some name →
     class_of secret names datagram moment ≡ Route r → MayCall name.access datagram
 
--- a datagram for a route has a whole header
+-- a datagram for a route has a complete header
 abbrev pub RouteHasHeader : Type 0
 RouteHasHeader =
     (secret : List ℕ) (names : List RouteName) (datagram : Datagram) (moment r : ℕ) →
     class_of secret names datagram moment ≡ Route r → 16 ≤ length datagram.bytes
 
--- a handshake packet with this answer to this socket, with timestamp 0
+-- the packet is a handshake packet with this answer to this socket, with timestamp 0
 pub record IsAnswer (packet : Packet) (id : ℕ) (answer : HsAnswer) : Type 0 where
   pub stamp : packet.stamp ≡ 0
   pub dest : packet.dest ≡ id
   pub says : (info : _) × (packet.body ≡ bodies.Handshake info) × (info.items ≡ answer_text answer)
 
--- an answer is the encoding of such a packet
+-- the bytes of an answer are the encoding of such a packet
 abbrev pub AnswerIsPacket : Type 0
 AnswerIsPacket = (packet : Packet) (id : ℕ) (answer : HsAnswer) → IsAnswer packet id answer → answer_bytes id answer ≡ text packet

@@ -1,6 +1,5 @@
--- The class of a datagram. It depends on the secret, the routes' names, which of them are shown, who may call them, and the
--- datagram alone.
--- The order of the tests is our choice.
+-- The class of a datagram. It depends only on the secret, the routes' names, visibility and access rules, the datagram
+-- and its arrival time. The order of the tests is our choice.
 use Rattle.std.specs.Prelude.{ℕ, Bool, ◌-◌, ◌/◌, ◌^◌, List, Option, None, Some, is_some, not, Result, Ok, Err, nat_le, nat_lt, ◌==◌, ◌++◌}
 use Rattle.std.specs.Prelude.{◌&&◌, ◌||◌, if◌then◌else◌}
 use Rattle.srt_seq.specs.declared.shared.Peer.{Peer}
@@ -35,15 +34,16 @@ use Rattle.srt_lobby.specs.Names.{RouteName, index_of, is_shown_at, knows_caller
 abbrev pub answer_bytes : (id : ℕ) → HsAnswer → List ℕ
 answer_bytes id answer = word 0x8000_0000 ++ word 0 ++ word 0 ++ word id ++ answer_text answer
 
--- a handshake gets this answer; the caller's initial number is repeated as it came
+-- the class of a handshake with this answer, which repeats the caller's initial sequence number as received
 unfoldable pub answered : Handshake → AnswerKind → Class
 answered hs what = Answer (answer_bytes hs.id (record { initial = hs.initial; what = what }))
 
+-- the class of a conclusion that is refused with this code
 abbrev pub refused : Handshake → RefusalCode → Class
 refused hs code = answered hs (answers.Refusal code)
 
--- the first reason to refuse a conclusion, whatever route it asks for: not version 5, an initial number that isn't
--- below 2^31 or no HSREQ, encryption, a packet filter, a connection group (section 4.3, table 7)
+-- the first reason to refuse a conclusion that doesn't depend on the requested route: not version 5, an initial number
+-- that isn't below 2^31 or no HSREQ, encryption, a packet filter, a connection group (section 4.3, table 7)
 unfoldable pub reason_of : Handshake → Option RefusalCode
 reason_of hs =
     if not (hs.version == 5) then Some codes.Version
@@ -53,69 +53,72 @@ reason_of hs =
     else if hs.blocks.has_group then Some codes.Group
     else None
 
--- this route, if it admits the caller in this role, with the key that it brought: by its list first, then by its key
+-- this route, if it admits the caller in this role with this key
 abbrev pub admitted : (names : List RouteName) → Peer → Role → (brought : Option (List ℕ)) → Option ℕ → Option ℕ
 admitted names peer role brought (Some r) = if admits_caller_at names r peer role brought then Some r else None
 admitted names peer role brought None = None
 
--- the index of the shown route that these bytes ask for, if it admits the caller in the role that they ask for
+-- the index of the visible route that a Stream ID requests, if the route admits the caller in the requested role; from
+-- the result of reading the Stream ID
 abbrev pub route_named : (names : List RouteName) → Peer → (bytes : List ℕ) → Result Ask AskFault → Option ℕ
 route_named names peer bytes (Ok ask) = admitted names peer ask.role (key_of bytes) (index_of names (name_of bytes ask))
 route_named names peer bytes (Err fault) = None
 
--- the index of the shown route that a Stream ID asks for, if there is one that admits the caller (appendix B)
+-- the index of the visible route that a Stream ID requests, if there is one that admits the caller (appendix B)
 abbrev pub route_asked : (names : List RouteName) → Peer → Option (List ℕ) → Option ℕ
 route_asked names peer (Some bytes) = route_named names peer bytes (ask_in bytes)
 route_asked names peer None = None
 
--- a conclusion that names this route, or none
+-- the class of a conclusion: for the route with this index; without one it is refused with 1002
 abbrev pub by_route : Handshake → Option ℕ → Class
 by_route hs (Some r) = Route r
 by_route hs None = refused hs codes.Peer
 
--- a conclusion that is refused for this reason, or isn't refused yet
+-- the class of a conclusion: refused for this reason; without one it depends on the requested route
 abbrev pub by_reason : (names : List RouteName) → Peer → Handshake → Option RefusalCode → Class
 by_reason names peer hs (Some code) = refused hs code
 by_reason names peer hs None = by_route hs (route_asked names peer hs.blocks.stream_id)
 
--- a conclusion with a valid cookie
+-- the class of a conclusion with a valid cookie
 unfoldable pub of_conclusion : (names : List RouteName) → Peer → Handshake → Class
 of_conclusion names peer hs = by_reason names peer hs (reason_of hs)
 
--- a handshake of this type (section 4.3.1)
+-- the class of a handshake of this type (section 4.3.1)
 abbrev pub by_kind : (secret : List ℕ) → (names : List RouteName) → Peer → (moment : ℕ) → Handshake → HsKind → Class
 by_kind secret names peer moment hs kinds.Induction = answered hs (answers.Induction (cookie_of secret peer (minute_of moment)))
 by_kind secret names peer moment hs kinds.Conclusion = if is_right secret peer moment hs.cookie then of_conclusion names peer hs else Dropped causes.WrongCookie
 by_kind secret names peer moment hs _ = Dropped causes.WrongKind
 
+-- the class of a handshake, from the result of reading it
 abbrev pub of_handshake : (secret : List ℕ) → (names : List RouteName) → Peer → (moment : ℕ) → Result Handshake HsFault → Class
 of_handshake secret names peer moment (Ok hs) = by_kind secret names peer moment hs hs.kind
 of_handshake secret names peer moment (Err fault) = Dropped causes.Handshake
 
--- a packet with destination 0 has to be a handshake
+-- the class of a packet with destination 0, which has to be a handshake
 abbrev pub of_body : (secret : List ℕ) → (names : List RouteName) → Peer → (moment : ℕ) → Body → Class
 of_body secret names peer moment (packets.Handshake info) = of_handshake secret names peer moment (handshake_in info)
 of_body secret names peer moment _ = Dropped causes.NotHandshake
 
--- a shown route's, if the caller's address is in one of its lists
+-- the class of a packet for a visible route: the route's, if one of its lists contains the caller's address
 abbrev pub if_known : (known : Bool) → (r : ℕ) → Class
 if_known known r = if known then Route r else Dropped causes.NotAllowed
 
--- the route with this index + 1, if there is one, it is shown and it knows the caller
+-- the class of a packet for the route with index place - 1, which has to exist, to be visible and to know the caller
 abbrev pub by_place : (names : List RouteName) → Peer → (place : ℕ) → Class
 by_place names peer place =
     if nat_lt 0 place && is_shown_at names (place - 1)
     then if_known (knows_caller_at names (place - 1) peer) (place - 1) else Dropped causes.UnknownId
 
--- a session's socket ID has its route's index + 1 at bit 20 (our choice)
+-- the class of a packet to a session: from bit 20 up its socket ID is the route's index + 1 (our choice)
 abbrev pub to_session : (names : List RouteName) → Peer → (dest : ℕ) → Class
 to_session names peer dest = by_place names peer (dest / 2 ^ 20)
 
+-- the class of a packet, from the result of reading it
 abbrev pub of_packet : (secret : List ℕ) → (names : List RouteName) → Peer → (moment : ℕ) → Result Packet PacketFault → Class
 of_packet secret names peer moment (Ok packet) =
     if packet.dest == 0 then of_body secret names peer moment packet.body else to_session names peer packet.dest
 of_packet secret names peer moment (Err fault) = Dropped causes.Packet
 
--- the class of a datagram
+-- the class of a datagram that arrives at this time, in microseconds
 unfoldable pub class_of : (secret : List ℕ) → (names : List RouteName) → Datagram → (moment : ℕ) → Class
 class_of secret names datagram moment = of_packet secret names datagram.peer moment (packet_in datagram.bytes)

@@ -8,10 +8,10 @@ use Rattle.srt_lobby.specs.declared.names.Names.{Names}
 use Rattle.srt_lobby.specs.declared.new_name.NewName.{NewName}
 use Rattle.srt_lobby.specs.Tables.{name_in}
 
--- the names of all routes, shown or not
+-- the names of all routes, visible or hidden
 abbrev pub names_of : Names → List RouteName
 names_of n = map name_in n.routes.items
 
--- the name of a route that is about to come: hidden until it is shown
+-- the name of a route to be added, hidden
 abbrev pub new_name : NewName → RouteName
 new_name n = hidden n.text.items (access_of n.access)

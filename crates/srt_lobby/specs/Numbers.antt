@@ -3,6 +3,7 @@ use Rattle.std.specs.Prelude.{ℕ}
 use Rattle.srt_lobby.specs.declared.classes.Cause.{Cause}
 use Rattle.srt_lobby.specs.declared.classes.Cause.TheVariants.{Packet, UnknownId, NotHandshake, Handshake, WrongKind, WrongCookie, NotAllowed}
 
+-- the number of a cause, in the order in which the code declares them
 abbrev pub number_of : Cause → ℕ
 number_of Packet = 1
 number_of UnknownId = 2

@@ -7,26 +7,27 @@ use Rattle.srt_seq.specs.declared.shared.OpenFault.TheVariants as faults
 use Rattle.srt_seq.specs.Terms.{Terms}
 use Rattle.srt_seq.specs.Entries.{is_between, is_name, in_limits}
 
+-- the name of an entry
 abbrev pub text_in : Terms → List ℕ
 text_in e = e.name
 
--- one of these entries has this name
+-- whether one of these entries has this name
 abbrev pub is_taken : (name : List ℕ) → List Terms → Bool
 is_taken name entries = list_any (λ (e : Terms). bytes_eq e.name name) entries
 
--- an entry's name has the right form, and none of these entries has it
+-- whether an entry's name is valid, and none of these entries has it
 abbrev pub is_fresh : Terms → List Terms → Bool
 is_fresh e entries = is_name e.name && not (is_taken e.name entries)
 
--- each name has the right form, and no name appears twice
+-- whether each name is valid, and no name appears twice
 abbrev pub are_names : List Terms → Bool
 are_names [] = true
 are_names (e ∷ entries) = is_fresh e entries && are_names entries
 
--- the number of entries is within its limits, and so are the numbers of each entry
+-- whether the number of entries is within its limits, and so are the numbers of each entry
 abbrev pub are_in_limits : List Terms → Bool
 are_in_limits entries = is_between 1 511 (length entries) && list_all in_limits entries
 
--- the first reason why a gateway can't be opened with these entries, memory aside: names come first
+-- the first reason, except memory, why a gateway can't be opened with these entries; faults of names take precedence
 abbrev pub fault_of : List Terms → Option OpenFault
 fault_of entries = if are_names entries then (if are_in_limits entries then None else Some faults.Limits) else Some faults.Names

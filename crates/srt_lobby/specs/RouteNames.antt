@@ -6,20 +6,21 @@ use Rattle.srt_seq.specs.declared.shared.Role.{Role}
 use Rattle.srt_seq.specs.Access.{AccessTerms, in_role, admits, knows}
 use Rattle.srt_seq.specs.Terms.{Terms}
 
--- the name of a route, whether the route is shown, and who may call it: datagrams are for shown routes alone
+-- the name of a route, whether the route is visible, and its access rules; only visible routes receive datagrams
 pub record RouteName : Type 0 where
   pub text : List ℕ
   pub is_shown : Bool
   pub access : AccessTerms
 
+-- a visible route with this name and these access rules
 abbrev pub shown : (text : List ℕ) → AccessTerms → RouteName
 shown text access = record { text = text; is_shown = true; access = access }
 
--- the same route, shown
+-- the same route, visible
 abbrev pub as_shown : RouteName → RouteName
 as_shown name = record name { is_shown = true }
 
--- a route that isn't shown yet
+-- a hidden route with this name and these access rules
 abbrev pub hidden : (text : List ℕ) → AccessTerms → RouteName
 hidden text access = record { text = text; is_shown = false; access = access }
 
@@ -27,50 +28,54 @@ hidden text access = record { text = text; is_shown = false; access = access }
 abbrev pub as_hidden : RouteName → RouteName
 as_hidden name = record name { is_shown = false }
 
--- the name of a route that a gateway is opened with
+-- the name of a route that a gateway is opened with, visible
 abbrev pub name_of : Terms → RouteName
 name_of e = shown e.name e.access
 
--- whether this name is asked for, and its route is shown
+-- whether the route has this name and is visible
 abbrev pub is_asked : (text : List ℕ) → RouteName → Bool
 is_asked text name = name.is_shown && bytes_eq text name.text
 
--- the index of the shown route with this name
+-- the index of the visible route with this name
 abbrev pub index_of : (names : List RouteName) → (text : List ℕ) → Option ℕ
 index_of names text = position (is_asked text) names
 
--- whether there is a route with this index that is shown
+-- whether there is a route, and it is visible
 abbrev pub shows : Option RouteName → Bool
 shows (Some name) = name.is_shown
 shows None = false
 
+-- whether there is a route with this index, and it is visible
 abbrev pub is_shown_at : (names : List RouteName) → (r : ℕ) → Bool
 is_shown_at names r = shows (slice_get names r)
 
--- whether there is a route with this index that is shown with this name
+-- whether there is a route, it has this name, and it is visible
 abbrev pub has_name : (text : List ℕ) → Option RouteName → Bool
 has_name text (Some name) = is_asked text name
 has_name text None = false
 
+-- whether there is a route with this index, it has this name, and it is visible
 abbrev pub has_name_at : (names : List RouteName) → (r : ℕ) → (text : List ℕ) → Bool
 has_name_at names r text = has_name text (slice_get names r)
 
--- no two shown routes have the same name
+-- no two visible routes have the same name
 abbrev pub AreDistinct : List RouteName → Type 0
 AreDistinct names = (i j : ℕ) (text : List ℕ) → has_name_at names i text ≡ true → has_name_at names j text ≡ true → i ≡ j
 
--- whether there is a route with this index that has the caller's address in one of its lists
+-- whether there is a route, and one of its lists contains the caller's address
 abbrev pub knows_caller : Peer → Option RouteName → Bool
 knows_caller peer (Some name) = knows name.access peer
 knows_caller peer None = false
 
+-- whether there is a route with this index, and one of its lists contains the caller's address
 abbrev pub knows_caller_at : (names : List RouteName) → (r : ℕ) → Peer → Bool
 knows_caller_at names r peer = knows_caller peer (slice_get names r)
 
--- whether there is a route with this index that admits the caller in this role, with the key that it brought
+-- whether there is a route, and it admits the caller in this role with this key
 abbrev pub admits_caller : Peer → Role → (brought : Option (List ℕ)) → Option RouteName → Bool
 admits_caller peer role brought (Some name) = admits (in_role name.access role) peer brought
 admits_caller peer role brought None = false
 
+-- whether there is a route with this index, and it admits the caller in this role with this key
 abbrev pub admits_caller_at : (names : List RouteName) → (r : ℕ) → Peer → Role → (brought : Option (List ℕ)) → Bool
 admits_caller_at names r peer role brought = admits_caller peer role brought (slice_get names r)

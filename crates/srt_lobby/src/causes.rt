@@ -1,4 +1,4 @@
-//! Why a conclusion is refused with 1002: for who watches a gateway. Nothing here is called to sort a datagram.
+//! Why a conclusion is refused with 1002, for monitoring. `classify` calls nothing in this file.
 
 ghost use Rattle.std.specs.Prelude.{◌≡◌, Ok};
 ghost use Rattle.srt_seq.specs.Access.{role_access_of};
@@ -18,7 +18,7 @@ use srt_hs::{HsRef, stream_id};
 use srt_packet::{Kind, PacketRef, decode};
 use srt_seq::{NotAdmitted, Peer, Role, RoleAccess};
 
-/// Why a caller with this Stream ID isn't admitted in this role.
+/// Returns why a caller with this Stream ID isn't admitted in this role.
 fn cause_in_role(access: &RoleAccess, role: Role, peer: Peer, bytes: &[u8]) -> Option<NotAdmitted>
     ensures { result ≡ cause_in_role (role_access_of access.now) role peer (key_of bytes.now) }
 {
@@ -32,7 +32,7 @@ fn cause_in_role(access: &RoleAccess, role: Role, peer: Peer, bytes: &[u8]) -> O
     }
 }
 
-/// Why the route with this index, if one was found, doesn't admit a caller with this Stream ID in this role.
+/// Returns why the route with this index, if one was found, doesn't admit a caller with this Stream ID in this role.
 fn cause_by_index(
     names: &Names,
     peer: Peer,
@@ -101,8 +101,8 @@ fn cause_by_packet(names: &Names, peer: Peer, packet: PacketRef<'_>) -> Option<N
     }
 }
 
-/// Why the conclusion in this datagram from `peer` is refused with 1002 (SRT_REJ_PEER); `None` if it is refused for
-/// another reason or not at all, and if the datagram has no handshake. Linear in the datagram's length and in the
+/// Returns why the conclusion in this datagram from `peer` is refused with 1002 (SRT_REJ_PEER); `None` if it is refused
+/// for another reason or not at all, and if the datagram has no handshake. Linear in the datagram's length and in the
 /// networks of one list. Doesn't allocate.
 #[tactic(auto, unfolding(crate::specs::Causes::cause_of))]
 pub fn refusal_cause(names: &Names, peer: Peer, datagram: &[u8]) -> Option<NotAdmitted>

@@ -1,4 +1,4 @@
-//! The faults of entries: a gateway can be opened with 1 to 511 routes, with distinct names and numbers inside their
+//! The faults of entries: a gateway can be opened with 1 to 511 routes, with distinct names and numbers within their
 //! limits (our choice).
 
 ghost use Rattle.std.specs.Prelude.{◌≡◌, map};
@@ -57,9 +57,9 @@ fn are_in_limits(entries: &[Entry]) -> bool
     is_between(1, MAX_ROUTES, entries.len()) && all_in_limits(entries)
 }
 
-/// The first reason why a gateway can't be opened with these entries, memory aside: `Names` if a name has a wrong form
-/// or appears twice, else `Limits` if there are no entries or more than 511, or if a number is outside its limits.
-/// Quadratic in the number of entries.
+/// Returns the first reason, except memory, why a gateway can't be opened with these entries: `Names` if a name is
+/// invalid or appears twice, else `Limits` if there are no entries or more than 511, or if a number is outside its
+/// limits. Quadratic in the number of entries.
 pub fn fault(entries: &[Entry]) -> Option<OpenFault>
     ensures { result ≡ fault_of (map terms_of entries.now) }
 {

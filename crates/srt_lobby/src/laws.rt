@@ -11,8 +11,8 @@ pub fn names()
     ensures distinct { NamesAreDistinct }
 {}
 
-/// Whether a datagram is for a route depends on the secret, that route's index and name, whether it is shown, who may call
-/// it, and the datagram. That route exists and is shown, and the datagram has a whole header.
+/// Whether a datagram is for a route depends only on the secret, the route's index, name, visibility and access rules,
+/// and the datagram. The route exists and is visible, and the datagram has a complete header.
 pub fn routes()
     ensures own { RouteIsItsOwn }
     ensures named { RouteIsNamed }
@@ -20,22 +20,23 @@ pub fn routes()
     ensures header { RouteHasHeader }
 {}
 
-/// A datagram for a route comes from an address in one of the route's lists. With destination 0 it is a conclusion, the
-/// address is in the list of the role that it asks for, and it brought that role's key.
+/// The sender's address of a datagram for a route is in one of the route's lists. With destination 0 the datagram is a
+/// conclusion, the address is in the list of the requested role, and the Stream ID has that role's key.
 pub fn callers()
     ensures { RouteIsForCallers }
 {}
 
-/// A conclusion with a valid cookie is refused with 1002 if something stands against its caller; and if nothing does,
-/// and it isn't refused for another reason, it is for a route.
+/// A conclusion with a valid cookie is refused with 1002 if there is a cause. If there is none, and no other reason to
+/// refuse it, it is for a route.
 pub fn refusals()
     ensures refuses { CauseRefuses }
     ensures caused { RefusalHasCause }
 {}
 
-/// Routes may be added, hidden and shown. No two shown routes ever have the same name, the other routes keep their
-/// datagrams, and a hidden route has none. Where no two routes have the same name, shown or not, each may be shown. Hidden
-/// routes behind the others change the class of no datagram: neither which route it is for, nor its answer, nor its cause.
+/// Routes may be added, hidden and made visible. No two visible routes ever have the same name, the other routes keep
+/// their datagrams, and a hidden route has none. If no two routes have the same name, visible or hidden, each may be
+/// made visible. Hidden routes at the end change the class of no datagram: neither its route, nor its answer, nor its
+/// cause.
 pub fn changing_names()
     ensures adding { AddingKeepsNames }
     ensures hiding { HidingKeepsNames }

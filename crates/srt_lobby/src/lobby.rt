@@ -1,4 +1,4 @@
-//! What is done with a datagram, test by test (section 4.3.1; the order is our choice).
+//! The classification of a datagram, test by test (section 4.3.1; the order is our choice).
 
 ghost use Rattle.std.specs.Prelude.{◌≡◌, ℕ, ◌^◌, ◌<◌, ◌≤◌, [], length};
 ghost use Rattle.srt_seq.specs.Items.{Datagram};
@@ -20,7 +20,7 @@ use srt_hs::{AnswerKind, HsAnswer, HsKind, HsRef, RefusalCode, stream_id, write}
 use srt_packet::{Kind, PacketRef, decode};
 use srt_seq::{Peer, Role, write_at};
 
-/// The 64 bytes of a handshake packet with this answer, to the caller's socket `id`, with timestamp 0.
+/// Returns the 64 bytes of a handshake packet with this answer, to the caller's socket `id`, with timestamp 0.
 fn answer(id: u32, initial: u32, what: AnswerKind) -> [u8; 64]
     requires { blocks_text what ≡ [] }
     ensures { result ≡ answer_bytes id (record { initial = initial; what = what }) }
@@ -48,10 +48,10 @@ fn refused(hs: &HsRef<'_>, code: RefusalCode) -> Class
     answered(hs, AnswerKind::Refusal(code))
 }
 
-/// The first reason to refuse a conclusion, whatever route it asks for (section 4.3, table 7). In order: 1008
-/// (SRT_REJ_VERSION) if the version isn't 5; 1004 (SRT_REJ_ROGUE) if the initial sequence number isn't below 2^31 or
-/// there is no HSREQ; 1011 (SRT_REJ_UNSECURE) for a KMREQ, since there is no encryption; 1014 (SRT_REJ_FILTER) for a
-/// packet filter; 1015 (SRT_REJ_GROUP) for a connection group.
+/// Returns the first reason to refuse a conclusion that doesn't depend on the requested route (section 4.3, table 7).
+/// In order: 1008 (SRT_REJ_VERSION) if the version isn't 5; 1004 (SRT_REJ_ROGUE) if the initial sequence number isn't
+/// below 2^31 or there is no HSREQ; 1011 (SRT_REJ_UNSECURE) for a KMREQ, since there is no encryption; 1014
+/// (SRT_REJ_FILTER) for a packet filter; 1015 (SRT_REJ_GROUP) for a connection group.
 #[tactic(auto, unfolding(crate::specs::Lobby::reason_of))]
 pub(crate) fn reason(hs: &HsRef<'_>) -> Option<RefusalCode>
     ensures { result ≡ reason_of (handshake_of hs.now) }
@@ -71,7 +71,8 @@ pub(crate) fn reason(hs: &HsRef<'_>) -> Option<RefusalCode>
     }
 }
 
-/// This route, if it admits the caller in this role, with this Stream ID; None if it doesn't or if there is none.
+/// Returns this route if it admits the caller in this role with this Stream ID; None if it doesn't or if there is no
+/// route.
 fn admitted(
     names: &Names,
     peer: Peer,
@@ -89,8 +90,8 @@ fn admitted(
     }
 }
 
-/// The index of the route that a Stream ID asks for (appendix B); None if it has a fault, names no route, or names one
-/// that doesn't admit the caller.
+/// Returns the index of the route that a Stream ID requests (appendix B); None if it has a fault, names no route, or
+/// names one that doesn't admit the caller.
 fn route_by_text(names: &Names, peer: Peer, bytes: &[u8]) -> Option<usize>
     ensures { result ≡ route_named (names_of names.now) peer bytes.now (ask_in bytes.now) }
 {
@@ -103,7 +104,7 @@ fn route_by_text(names: &Names, peer: Peer, bytes: &[u8]) -> Option<usize>
     }
 }
 
-/// The index of the route that a conclusion asks for; None also if it has no Stream ID.
+/// Returns the index of the route that a conclusion requests; None also if it has no Stream ID.
 fn route_of(names: &Names, peer: Peer, hs: &HsRef<'_>) -> Option<usize>
     ensures { result ≡ route_asked (names_of names.now) peer (handshake_of hs.now).blocks.stream_id }
 {
@@ -114,9 +115,9 @@ fn route_of(names: &Names, peer: Peer, hs: &HsRef<'_>) -> Option<usize>
     }
 }
 
-/// The class of a conclusion with a valid cookie: refused for `reason`; refused with 1002 (SRT_REJ_PEER) if it has no
-/// Stream ID, one with a fault, or a name that is no route's, or if the route doesn't admit the caller; else for the named
-/// route.
+/// Returns the class of a conclusion with a valid cookie: refused for `reason`; refused with 1002 (SRT_REJ_PEER) if it
+/// has no Stream ID, one with a fault, or a name that no visible route has, or if the route doesn't admit the caller;
+/// else for the named route.
 #[tactic(auto, unfolding(crate::specs::Lobby::of_conclusion))]
 fn of_conclusion(names: &Names, peer: Peer, hs: &HsRef<'_>) -> Class
     ensures { result ≡ of_conclusion (names_of names.now) peer (handshake_of hs.now) }
@@ -149,7 +150,7 @@ fn of_handshake(secret: &Secret, names: &Names, peer: Peer, moment: u64, hs: &Hs
     }
 }
 
-/// The class of a handshake packet with destination 0, from the bytes after its header.
+/// Returns the class of a handshake packet with destination 0, from the bytes after its header.
 #[inline(never)]
 fn of_info(secret: &Secret, names: &Names, peer: Peer, moment: u64, info: &[u8]) -> Class
     ensures { result ≡ of_handshake (secret_bytes secret.now) (names_of names.now) peer moment (handshake_in info.now) }
@@ -160,7 +161,8 @@ fn of_info(secret: &Secret, names: &Names, peer: Peer, moment: u64, info: &[u8])
     }
 }
 
-/// The class of a packet from this sender for a shown route: the route's, if one of its lists has the address.
+/// Returns the class of a packet from this sender for a visible route: the route's, if one of its lists contains the
+/// address.
 #[inline(always)]
 fn if_known(names: &Names, peer: Peer, route: usize) -> Class
     ensures { result ≡ if_known (knows_caller_at (names_of names.now) route peer) route }
@@ -172,7 +174,7 @@ fn if_known(names: &Names, peer: Peer, route: usize) -> Class
     }
 }
 
-/// The class of a packet to this socket ID, which isn't 0: its bits from 20 up are the route's index + 1 (our
+/// Returns the class of a packet to this socket ID, which isn't 0: its bits from 20 up are the route's index + 1 (our
 /// choice).
 #[inline(always)]
 fn to_session(names: &Names, peer: Peer, dest: u32) -> Class
@@ -205,15 +207,15 @@ fn of_packet(
     }
 }
 
-/// Sorts a datagram that came from `peer` at this moment, in microseconds. Linear in its length and in the
-/// networks of the one route that it is for; a name costs one look-up, for any number of routes. Doesn't allocate and
-/// changes nothing; the result depends on the arguments alone.
+/// Classifies a datagram that arrived from `peer` at `moment`, in microseconds. Linear in its length and in the
+/// networks of its route; a name costs one hash lookup, for any number of routes. Doesn't allocate and changes nothing;
+/// the result depends only on the arguments.
 #[tactic(auto, unfolding(crate::specs::Lobby::class_of))]
 #[inline(always)]
 pub fn classify(secret: &Secret, names: &Names, peer: Peer, bytes: &[u8], moment: u64) -> Class
     requires { moment < 2 ^ 62 }
     ensures class { result ≡ class_of (secret_bytes secret.now) (names_of names.now) (record { peer = peer; bytes = bytes.now }) moment }
-    // A datagram for a route has a whole header.
+    // A datagram for a route has a complete header.
     ensures header { (r : ℕ) → result ≡ Class.Route r → 16 ≤ length bytes.now }
 {
     match decode(bytes) {

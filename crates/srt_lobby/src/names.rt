@@ -15,7 +15,7 @@ use srt_seq::limits::MAX_ROUTES;
 use srt_seq::{Access, Entry, OpenFault, Peer, Role, RoleAccess, is_name};
 use std::alloc::{AllocError, Global};
 
-/// The name of a route, whether the route is shown, and who may call it: datagrams are for shown routes alone.
+/// The name of a route, whether the route is visible, and its access rules. Only visible routes receive datagrams.
 #[derive(Drop)]
 pub(crate) struct NamedRoute {
     pub(crate) text: Vec<u8>,
@@ -23,26 +23,26 @@ pub(crate) struct NamedRoute {
     pub(crate) access: Access,
 }
 
-/// The names of the routes, each with the route's index and with who may call it. Routes are added, hidden and shown
-/// while a gateway runs. An index is never used again; the name of a hidden route may be. There is room for 511 routes
-/// from the beginning on.
+/// The names of the routes, each with the route's index and access rules. Routes are added, hidden and made visible
+/// while a gateway runs. An index is never reused; the name of a hidden route may be. There is space for 511 routes
+/// from the start.
 #[derive(Drop)]
 pub struct Names {
     /// The routes, in the order of their indexes.
     pub(crate) routes: Vec<NamedRoute>,
-    /// For each name the index of the route that was shown last with it, in a hash table; if none was shown with it, that
-    /// of the first one with this name.
+    /// A hash table from each name to the index of the route that was last made visible under it; if none was, to that
+    /// of the first route with this name.
     pub(crate) latest: IndexMap<Vec<u8>, usize>,
-    // room for 511 routes, and for as many names in the table
+    // space for 511 routes, and for as many names in the table
     pub(crate) ghost places: { 511 ≤ vec_capacity routes },
     pub(crate) ghost room: { 511 ≤ length routes.items + spare latest },
-    // what the table has
+    // the content of the table
     pub(crate) ghost shown: { HasShown (map name_in routes.items) (index_in (λ key. key.items) latest.entries) },
     pub(crate) ghost named: { HasNamed (map name_in routes.items) (index_in (λ key. key.items) latest.entries) },
     pub(crate) ghost texts: { HasTexts (map name_in routes.items) (index_in (λ key. key.items) latest.entries) },
 }
 
-/// Lets a name that the table has lead to this index.
+/// Maps a name to this index, if the table contains the name.
 fn turn(latest: &mut IndexMap<Vec<u8>, usize>, name: &[u8], r: usize)
     ensures entries { latest.new.entries ≡ set_value (λ key. bytes_eq name.now key.items) latest.old.entries r }
     ensures room { spare latest.new ≡ spare latest.old }
@@ -52,7 +52,7 @@ fn turn(latest: &mut IndexMap<Vec<u8>, usize>, name: &[u8], r: usize)
     }
 }
 
-/// Enters a name with this index, unless the table has the name. Takes no memory.
+/// Inserts a name with this index, unless the table contains the name. Doesn't allocate.
 fn enter(latest: &mut IndexMap<Vec<u8>, usize>, name: Vec<u8>, r: usize)
     requires { 0 < spare latest.old }
     ensures table { Enters (λ key. key.items) latest.old.entries name.items r latest.new.entries }
@@ -63,7 +63,7 @@ fn enter(latest: &mut IndexMap<Vec<u8>, usize>, name: Vec<u8>, r: usize)
     }
 }
 
-/// Whether a caller with this Stream ID is admitted: by the list first, then by the key.
+/// Whether a caller with this Stream ID is admitted: the list is checked first, then the key.
 fn is_admitted(access: &RoleAccess, peer: Peer, bytes: &[u8]) -> bool
     ensures { result ≡ admits (role_access_of access.now) peer (key_of bytes.now) }
 {
@@ -86,7 +86,7 @@ impl Names {
     ghost use Rattle.srt_streamid.specs.Reading.{key_of};
     ghost use Rattle.srt_lobby.specs.Changing.{fault_of_name, fault_of_adding, added, hidden_at, shown_at, IsUnused};
 
-    /// No names. Allocates room for 511.
+    /// Returns an empty table. Allocates space for 511 routes.
     fn empty(alloc: Global) -> Result<Names, AllocError>
         ensures { IfOk result (λ names. names_of names ≡ []) }
     {
@@ -95,8 +95,8 @@ impl Names {
         Ok(Names { routes, latest })
     }
 
-    /// Appends a route, hidden, with the next index: it has no datagrams until it is shown. Takes no memory; a name that
-    /// some route has already gives some back. One look-up in the hash table.
+    /// Appends a route, hidden, with the next index: it receives no datagrams until it is made visible. Doesn't
+    /// allocate; if another route has the same name, one copy of it is freed. One hash lookup.
     pub fn append(&mut self, name: NewName)
         requires { length (names_of self.old) < 511 }
         ensures { names_of self.new ≡ names_of self.old ++ new_name name ∷ [] }
@@ -112,7 +112,7 @@ impl Names {
         self.routes.push(route).unwrap();
     }
 
-    /// Appends a route whose name no shown route has, and shows it. Takes no memory.
+    /// Appends a route whose name no visible route has, and makes it visible. Doesn't allocate.
     fn append_shown(&mut self, name: NewName)
         requires few { length (names_of self.old) < 511 }
         requires unused { index_of (names_of self.old) (new_name name).text ≡ None }
@@ -136,9 +136,9 @@ impl Names {
         Ok(names)
     }
 
-    /// The names of these entries, 1 to 511. Allocates copies of each name and of who may call, and room for 511. Errors:
-    /// `Names` if a name has a wrong form or appears twice, else `Limits` if the number of entries or a number of an entry
-    /// is outside its limits, else `OutOfMemory`. After an error nothing is kept.
+    /// Returns the names of these entries, 1 to 511. Allocates copies of each name and of the access rules, and space
+    /// for 511 routes. Errors: `Names` if a name is invalid or appears twice, else `Limits` if the number of entries or
+    /// a number of an entry is outside its limits, else `OutOfMemory`. After an error all memory is freed.
     pub fn open(alloc: Global, entries: &[Entry]) -> Result<Names, OpenFault>
         ensures opened { IfOk result (λ names. names_of names ≡ map name_of (map terms_of entries.now)) }
         ensures sound { IfOk result (λ _. fault_of (map terms_of entries.now) ≡ None) }
@@ -154,14 +154,14 @@ impl Names {
         }
     }
 
-    /// The number of routes, shown or not.
+    /// Returns the number of routes, visible or hidden.
     pub fn len(&self) -> usize
         ensures { result ≡ length (names_of self.now) }
     {
         self.routes.len()
     }
 
-    /// Whether there is a route with this index, and it is shown. Doesn't allocate.
+    /// Whether there is a route with this index, and it is visible. Doesn't allocate.
     #[inline(always)]
     pub fn shows(&self, r: usize) -> bool
         ensures { result ≡ is_shown_at (names_of self.now) r }
@@ -172,7 +172,7 @@ impl Names {
         }
     }
 
-    /// Whether there is a route with this index, and one of its lists has the address of this caller. Linear in the
+    /// Whether there is a route with this index, and one of its lists contains the caller's address. Linear in the
     /// number of networks. Doesn't allocate.
     pub(crate) fn knows(&self, r: usize, peer: Peer) -> bool
         ensures { result ≡ knows_caller_at (names_of self.now) r peer }
@@ -183,9 +183,8 @@ impl Names {
         }
     }
 
-    /// Whether there is a route with this index that admits this caller in this role, with the Stream ID that it
-    /// brought. Linear in the number of networks, and in the length of the Stream ID if the role has a key. Doesn't
-    /// allocate.
+    /// Whether there is a route with this index that admits the caller in this role with this Stream ID. Linear in the
+    /// number of networks, and in the length of the Stream ID if the role has a key. Doesn't allocate.
     pub(crate) fn admits(&self, r: usize, peer: Peer, role: Role, bytes: &[u8]) -> bool
         ensures { result ≡ admits_caller_at (names_of self.now) r peer role (key_of bytes.now) }
     {
@@ -195,7 +194,7 @@ impl Names {
         }
     }
 
-    /// The index of the shown route with this name, if there is one. One look-up in the hash table, for any number of
+    /// Returns the index of the visible route with this name, if there is one. One hash lookup, for any number of
     /// routes.
     pub(crate) fn find(&self, name: &[u8]) -> Option<usize>
         ensures { result ≡ index_of (names_of self.now) name.now }
@@ -209,9 +208,9 @@ impl Names {
         }
     }
 
-    /// The first reason why a route of this name can't be added, memory aside: `Names` if the name has a wrong form or
-    /// is that of a shown route, else `Limits` if there are 511 routes, shown or not, or if the numbers of its entry
-    /// aren't `within` their limits. One look-up in the hash table. Doesn't allocate.
+    /// Returns the first reason, except memory, why a route of this name can't be added: `Names` if the name is invalid
+    /// or that of a visible route, else `Limits` if there are 511 routes, visible or hidden, or if the numbers of its
+    /// entry aren't `within` their limits. One hash lookup. Doesn't allocate.
     pub fn fault(&self, name: &[u8], within: bool) -> Option<OpenFault>
         ensures { result ≡ fault_of_name (names_of self.now) name.now within }
     {
@@ -224,8 +223,8 @@ impl Names {
         None
     }
 
-    /// Adds a route, which is shown, and returns its index. Allocates two copies of the name, and one of who may call.
-    /// Errors: as `fault`, else `OutOfMemory`. After an error nothing has changed.
+    /// Adds a visible route, and returns its index. Allocates two copies of the name, and one of the access rules.
+    /// Errors: those of `fault`, else `OutOfMemory`. After an error nothing has changed.
     pub fn add(&mut self, alloc: Global, entry: &Entry) -> Result<usize, OpenFault>
         ensures sound { IfOk result (λ _. fault_of_adding (names_of self.old) (terms_of entry.now) ≡ None) }
         ensures index { IfOk result (λ r. r ≡ length (names_of self.old)) }
@@ -245,7 +244,7 @@ impl Names {
         Ok(r)
     }
 
-    /// Hides a route: no datagram is for it any more, and its name may be used again. Doesn't allocate.
+    /// Hides a route: it receives no more datagrams, and its name may be reused. Doesn't allocate.
     pub fn hide(&mut self, r: usize)
         requires { r < length (names_of self.old) }
         ensures { names_of self.new ≡ hidden_at r (names_of self.old) }
@@ -253,8 +252,8 @@ impl Names {
         self.routes[r].is_shown = false;
     }
 
-    /// Whether no other shown route has the name of the route with this index; `true` too if there is no such route. One
-    /// look-up in the hash table. Doesn't allocate.
+    /// Whether no other visible route has the name of the route with this index; also `true` if there is no such route.
+    /// One hash lookup. Doesn't allocate.
     pub fn is_unused(&self, r: usize) -> bool
         ensures { IsTrue result ↔ IsUnused r (names_of self.now) }
     {
@@ -267,7 +266,7 @@ impl Names {
         }
     }
 
-    /// Shows a route whose name no other shown route has (`is_unused`). Doesn't allocate.
+    /// Makes a route visible whose name no other visible route has (`is_unused`). Doesn't allocate.
     pub fn show(&mut self, r: usize)
         requires index { r < length (names_of self.old) }
         requires unused { IsUnused r (names_of self.old) }

@@ -79,7 +79,7 @@ fn bytes_of(alloc: Global, parts: &[&str]) -> Result<Vec<u8>, Fail> {
     Ok(bytes)
 }
 
-/// The bytes 0 to 31.
+/// Returns the secret of the bytes 0 to 31.
 fn secret() -> Secret {
     let mut bytes = [0u8; 32];
     for i in 0..32 {
@@ -124,7 +124,7 @@ fn opened(alloc: Global, names: &[&str]) -> Result<Names, Fail> {
     }
 }
 
-/// The class of these words as a datagram from 127.0.0.1 at this port.
+/// Returns the class of these words as a datagram from 127.0.0.1 at this port.
 fn class_at(alloc: Global, port: u16, moment: u64, parts: &[&str]) -> Result<Class, Fail>
     requires { moment < 2 ^ 62 }
 {
@@ -133,12 +133,12 @@ fn class_at(alloc: Global, port: u16, moment: u64, parts: &[&str]) -> Result<Cla
     Ok(classify(&secret(), &names, near(port), &bytes, moment))
 }
 
-/// The same in the first minute and at port 5000.
+/// Returns the same in the first minute and at port 5000.
 fn class(alloc: Global, parts: &[&str]) -> Result<Class, Fail> {
     class_at(alloc, 5000, 1_000_000, parts)
 }
 
-/// The class of a conclusion with a valid cookie and these blocks.
+/// Returns the class of a conclusion with a valid cookie and these blocks.
 fn concluded(alloc: Global, front: &str, blocks: &[&str]) -> Result<Class, Fail> {
     let mut bytes = bytes_of(alloc, &[HEADER, front, COOKIE_0, ADDRESS])?;
     for block in blocks {
@@ -199,7 +199,7 @@ fn a_captured_induction_is_answered(rt: HostRuntime) -> Result<(), Fail> {
     assert_answer(&rt, class, &[front, COOKIE_0, ADDRESS])
 }
 
-/// Asserts the class of each of these in the first minute.
+/// Asserts that each of these is dropped for this cause, in the first minute.
 fn assert_dropped(
     rt: &(impl AllocGlobal + Abort),
     rows: &[[&str; 3]],
@@ -293,7 +293,7 @@ fn sessions_tell_their_route(rt: HostRuntime) -> Result<(), Fail> {
     ] {
         let shutdown = class(alloc, &["80050000 00000000 00000000", dest])?;
         assert_eq!(rt; shutdown, Class::Route(route), "{dest}");
-        // a handshake's body isn't read then
+        // the bytes of a handshake aren't read then
         let handshake = class(alloc, &["80000000 00000000 00000000", dest, "00"])?;
         assert_eq!(rt; handshake, Class::Route(route), "{dest}");
     }
@@ -333,14 +333,14 @@ fn wrong_cookies_come_before_refusals(rt: HostRuntime) -> Result<(), Fail> {
 #[test]
 fn conclusions_go_to_the_route_that_they_name(rt: HostRuntime) -> Result<(), Fail> {
     let other_flags = "00010003 00010500 000000ff 00780078";
-    // what the lobby doesn't check is for the route to refuse
+    // the route checks what the lobby doesn't check
     let small = "00000005 00000005 00000005 0000004b 00000000 ffffffff 00000001";
     for (front, blocks, route) in [
         (CONCLUSION, [HSREQ, PUBLISH_STUDIO, ""], 0),
         (CONCLUSION, [HSREQ, REQUEST_STUDIO, ""], 0),
         (CONCLUSION, [HSREQ, STUDIO, ""], 0),
         (CONCLUSION, [HSREQ, PUBLISH_FILES, ""], 1),
-        // a block of another type is skipped
+        // a block of another type is ignored
         (CONCLUSION, [HSREQ, PUBLISH_STUDIO, "00000000"], 0),
         (small, [other_flags, PUBLISH_STUDIO, ""], 0),
     ] {
@@ -411,7 +411,7 @@ fn a_false_initial_number_comes_back_as_it_came(rt: HostRuntime) -> Result<(), F
     assert_answer(&rt, class, &[front, back])
 }
 
-/// The fault of opening these entries, if there is one.
+/// Returns the fault of opening these entries, if there is one.
 fn opening(alloc: Global, entries: &[Entry]) -> Option<OpenFault> {
     match Names::open(alloc, entries) {
         Ok(_) => None,
@@ -471,7 +471,7 @@ fn numbers_have_their_limits(rt: HostRuntime) -> Result<(), Fail> {
             assert_eq!(rt; opening(alloc, &[one]), fault, "{i} {n}");
         }
     }
-    // faults of names come first
+    // faults of names take precedence
     let mut one = entry(alloc, "studio")?;
     one.buffer = 31;
     let two = entry(alloc, "a b")?;
@@ -507,7 +507,7 @@ fn there_are_511_routes_at_most(rt: HostRuntime) -> Result<(), Fail> {
     Ok(())
 }
 
-/// If memory is refused, the opening returns that and keeps nothing, and the next opening is as the first.
+/// If an allocation fails, the opening returns that fault and frees its memory, and the next attempt is unaffected.
 #[test]
 fn refused_memory_is_told(rt: HostRuntime) -> Result<(), Fail> {
     let alloc = rt.alloc();
@@ -522,7 +522,7 @@ fn refused_memory_is_told(rt: HostRuntime) -> Result<(), Fail> {
     }
 }
 
-/// The class of these words with these names, in the first minute and at port 5000.
+/// Returns the class of these words with these names, in the first minute and at port 5000.
 fn class_of(alloc: Global, names: &Names, parts: &[&str]) -> Result<Class, Fail> {
     let bytes = bytes_of(alloc, parts)?;
     Ok(classify(&secret(), names, near(5000), &bytes, 1_000_000))
@@ -534,13 +534,13 @@ fn added(alloc: Global, names: &mut Names, name: &str) -> Result<Result<usize, O
     Ok(names.add(alloc, &one))
 }
 
-/// Hides a route that is shown.
+/// Hides a visible route.
 fn hide(rt: &impl Abort, names: &mut Names, r: usize) {
     assert!(rt; names.shows(r));
     names.hide(r);
 }
 
-/// A session of the first route and one of the third.
+/// Packets for a session of the first route and for one of the third.
 const TO_SESSIONS: [&str; 2] = [
     "80050000 00000000 00000000 00100000",
     "80050000 00000000 00000000 00300000",
@@ -548,7 +548,7 @@ const TO_SESSIONS: [&str; 2] = [
 
 const STUDIO_ASKED: [&str; 6] = [HEADER, CONCLUSION, COOKIE_0, ADDRESS, HSREQ, PUBLISH_STUDIO];
 
-/// A hidden route has no datagrams, its name may be used again, and its index isn't.
+/// A hidden route receives no datagrams. Its name may be reused; its index isn't.
 #[test]
 fn routes_are_hidden_and_added(rt: HostRuntime) -> Result<(), Fail> {
     let alloc = rt.alloc();
@@ -570,7 +570,7 @@ fn routes_are_hidden_and_added(rt: HostRuntime) -> Result<(), Fail> {
     Ok(())
 }
 
-/// If memory is refused, nothing is added, and the next adding is as the first.
+/// If an allocation fails, nothing is added, and the next attempt is unaffected.
 #[test]
 fn refused_adding_changes_nothing(rt: HostRuntime) -> Result<(), Fail> {
     let alloc = rt.alloc();

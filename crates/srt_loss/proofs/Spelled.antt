@@ -1,4 +1,4 @@
--- The function reads what the relation spells.
+-- The function reads what the relation defines.
 use Rattle.std.proofs.Common.{IfOk, IfErr, IsOkAnd, ◌≡◌, ◌⊎◌, ℕ, ◌+◌, ◌-◌, ◌%◌, ◌^◌, ◌<◌, ◌≤◌, ◌≢◌, None, Result, Ok, Err, List, [], ◌∷◌}
 use Rattle.std.proofs.Common.{length, refl, sym, ap, subst, inl, inr, ◌∙◌, arith}
 use Rattle.std.proofs.lemmas.Bool.{cases_lt, cases_order}
@@ -17,7 +17,7 @@ begins_read ws r next (Single e small same) =
     ap (λ x. ranges_in None x) e ∙ alone_read r.first next small ∙ ap (λ x. then_those x (ranges_in None next)) one
 begins_read ws r next (FirstAndLast e small near) = ap (λ x. ranges_in None x) e ∙ range_read r next small near
 
--- ranges, and then the ranges that were read after them, or their fault
+-- prepends ranges to the ranges that were read after them; their fault is returned unchanged
 all_those : List Range → Result (List Range) LossFault → Result (List Range) LossFault
 all_those [] x = x
 all_those (r ∷ rs) x = then_those r (all_those rs x)
@@ -57,7 +57,7 @@ fault_read bytes Dangling (whole, rs, rest, s, h) =
 fault_read bytes Backward (whole, rs, rest, s, h) =
     whole_read bytes whole ∙ up_to_read (words_in bytes) rs rest s ∙ ap (λ x. all_those rs x) (is_backward_read rest h) ∙ all_err rs Backward
 
--- what follows for the words from the result of reading them
+-- the consequence of a result of reading for the words
 Outcome : List ℕ → Result (List Range) LossFault → Type 0
 Outcome ws (Ok rs) = SpellsUpTo ws rs []
 Outcome ws (Err Ragged) = ⊥
@@ -175,7 +175,7 @@ empty_read : (bytes : List ℕ) → length bytes ≡ 0 → losses_in bytes ≡ O
 empty_read [] h = refl
 empty_read (b ∷ bytes) h = absurd (omega (arith, h))
 
--- if the bytes have the same fault as the empty rest, they have none
+-- if the bytes have the same fault as an empty rest, they have none
 pub all_read : (bytes rest : List ℕ) → result_err (losses_in rest) ≡ result_err (losses_in bytes) → length rest ≡ 0
     → losses_in bytes ≡ Ok (result_unwrap_or (losses_in bytes) [])
 all_read bytes rest e h = no_fault (losses_in bytes) (sym e ∙ ap (λ x. result_err x) (empty_read rest h))

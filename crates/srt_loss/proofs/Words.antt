@@ -16,7 +16,7 @@ words_front (a ∷ b ∷ []) h = absurd (omega arith)
 words_front (a ∷ b ∷ c ∷ []) h = absurd (omega arith)
 words_front (a ∷ b ∷ c ∷ d ∷ bytes) h = refl
 
--- whole words
+-- a whole number of words
 pub whole_read : (bytes : List ℕ) → length bytes % 4 ≡ 0 → losses_in bytes ≡ ranges_in None (words_in bytes)
 whole_read bytes h = grind (arith, nat_tests)
 
@@ -46,7 +46,7 @@ dangling_read first last ws h l = grind (arith, nat_tests)
 pub last_read : (first : ℕ) → 2 ^ 31 ≤ first → ranges_in None (first ∷ []) ≡ Err Dangling
 last_read first h = grind (arith, nat_tests)
 
--- the range of two words
+-- the range that two words encode
 pub range_read : (r : Range) (ws : List ℕ)
     → r.last < 2 ^ 31 → span r < 2 ^ 30 → ranges_in None ((r.first + 2 ^ 31) ∷ r.last ∷ ws) ≡ then_those r (ranges_in None ws)
 range_read r ws h n =

@@ -1,4 +1,4 @@
--- Reading what is written gives it back.
+-- What is written reads back.
 use Rattle.std.proofs.Common.{◌≡◌, ℕ, ◌+◌, ◌%◌, ◌^◌, ◌<◌, ◌≢◌, List, [], ◌∷◌, ◌++◌, length, map, Ok, slice_index_or, refl, ap, inl, inr, ◌∙◌, arith}
 use Rattle.std.proofs.lemmas.Bool.{cases_order}
 use Rattle.std.proofs.lemmas.Bool.Decides.{nat_tests}
@@ -55,7 +55,7 @@ spelled (r ∷ rs) w = (words_in (loss_text rs), begins_written r (loss_words rs
 pub written_is_read : WrittenIsRead
 written_is_read rs w = spelled_read (loss_text rs) rs (record { whole = text_whole (loss_words rs); words = spelled rs w })
 
--- runs whose ends are fewer than 2^30 apart are read back
+-- runs whose ends are fewer than 2^30 apart read back
 pub runs_read : (runs : List (Seq31 × Seq31)) (words : List ℕ) → words ≡ loss_words (map range_of runs)
     → All (λ r. span (range_of r) < 2 ^ 30) runs
     → losses_in (flat_map word words) ≡ Ok (map range_of runs)

@@ -5,7 +5,7 @@ ghost use Rattle.srt_seq.specs.Window.{offset_of, word_of};
 
 use srt_seq::Seq31;
 
-/// The distance from `from` forward to `to`, in packets, modulo 2^31.
+/// Returns the distance from `from` forward to `to`, in packets, modulo 2^31.
 pub fn steps(from: Seq31, to: Seq31) -> u32
     ensures value { result ≡ offset_of (word_of to) (word_of from) }
     ensures below { result < 2 ^ 31 }
@@ -13,7 +13,7 @@ pub fn steps(from: Seq31, to: Seq31) -> u32
     (to.get() + ((1 << 31) - from.get())) & 0x7fff_ffff
 }
 
-/// The sequence number in the lower 31 bits of a word.
+/// Returns the sequence number in the lower 31 bits of a word.
 pub fn number_of(word: u32) -> Seq31
     ensures { word_of result ≡ word % 2 ^ 31 }
 {

@@ -1,15 +1,15 @@
-//! Loss lists: which packets a receiver asks for again (draft-sharabayko-srt-01, section 3.2.5 and appendix A).
+//! Loss lists: the packets that a receiver reports as lost (draft-sharabayko-srt-01, section 3.2.5 and appendix A).
 //!
-//! It reads and writes the content of a NAK and knows no buffer: the packet around it is `srt_packet`'s, which packets
-//! are missing is `srt_recvbuf`'s, and what is sent again is `srt_sendbuf`'s. It doesn't allocate.
+//! It reads and writes the content of a NAK, and knows no buffers. The packet around it is in `srt_packet`, the missing
+//! packets are in `srt_recvbuf`, and retransmission is in `srt_sendbuf`. It doesn't allocate.
 //!
 //! Reading: [`read`] in `reading.rt` checks the bytes once and returns a [`LossRef`], or the first [`LossFault`]. Then
-//! `LossRef::asks` tests one number, and `LossRef::ranges` gives a [`Ranges`], whose `next_range` takes one range after
-//! another. [`part_in`] in `window.rt` cuts a range down to a window of numbers.
+//! `LossRef::asks` tests one number, and `LossRef::ranges` returns a [`Ranges`], whose `next_range` yields one range
+//! after another. [`part_in`] in `window.rt` intersects a range with a window of numbers.
 //!
-//! Writing: [`write`](crate::write) in `writing.rt` turns at most 32 runs into words. `circle.rt` has the arithmetic
-//! modulo 2^31. `specs/Spelling.antt` defines which bytes are which loss list, `specs/Reading.antt` the same as a
-//! function, and `specs/Text.antt` what is written.
+//! Writing: [`write`](crate::write) in `writing.rt` encodes at most 32 runs as words. `circle.rt` has the arithmetic
+//! modulo 2^31. `specs/Spelling.antt` defines which bytes encode which loss list, `specs/Reading.antt` defines it as a
+//! function, and `specs/Text.antt` defines what is written.
 #![tactic(auto)]
 
 mod circle;

@@ -12,24 +12,24 @@ use srt_seq::limits::RANGE_END;
 use srt_seq::{Seq31, read_word};
 use std::marker::Model;
 
-/// Why bytes are no loss list. `Ragged` is checked first; then the first fault from the left counts (our choice).
+/// Why bytes are no loss list. `Ragged` is checked first, then the faults from left to right (our choice).
 #[derive(Clone, Copy, Debug, PartialEq, Eq)]
 pub enum LossFault {
     /// The number of bytes is no multiple of 4.
     Ragged,
-    /// The first word of a range (top bit 1) isn't followed by a last word (top bit 0).
+    /// A first word of a range (top bit 1) that no last word (top bit 0) follows.
     Dangling,
     /// The distance from the first number of a range to its last, modulo 2^31, is 2^30 or more (our choice).
     Backward,
 }
 
-/// A loss list that was read and is well formed. It borrows its bytes.
+/// A well-formed loss list. It borrows its bytes.
 #[derive(Debug, Drop)]
 pub struct LossRef<'a> {
     bytes: &'a [u8],
 }
 
-// Its value is the list of its ranges, in order.
+// The value is the list of ranges, in order.
 impl<'a> Model for LossRef<'a> {
     ghost use Rattle.std.specs.Prelude.{List, [], IsOk};
     ghost use Rattle.std.specs.Result.{result_unwrap_or};
@@ -43,13 +43,13 @@ impl<'a> Model for LossRef<'a> {
     ghost invariant = { λ losses. IsOk (losses_in losses.bytes.now) };
 }
 
-/// An iteration over the ranges of a loss list. It borrows the list's bytes.
+/// An iterator over the ranges of a loss list. It borrows the list's bytes.
 #[derive(Debug, Drop)]
 pub struct Ranges<'a> {
     bytes: &'a [u8],
 }
 
-// Its value is the list of the ranges that weren't taken yet, in order.
+// The value is the list of the remaining ranges, in order.
 impl<'a> Model for Ranges<'a> {
     ghost use Rattle.std.specs.Prelude.{List, [], IsOk};
     ghost use Rattle.std.specs.Result.{result_unwrap_or};
@@ -70,7 +70,7 @@ struct Front<'a> {
     rest: &'a [u8],
 }
 
-/// Reads the range at the front of a text. A single number is a range of one.
+/// Reads the range at the front of a text. A single number is a range of one number.
 fn read_front(text: &[u8]) -> Result<Front<'_>, LossFault>
     requires some { 4 ≤ length text.now }
     requires whole { length text.now % 4 ≡ 0 }
@@ -105,13 +105,13 @@ fn read_front(text: &[u8]) -> Result<Front<'_>, LossFault>
     })
 }
 
-/// Reads a loss list. No bytes at all are the empty list. Ranges may overlap and come in any order. Linear in the
-/// number of bytes; copies nothing.
+/// Reads a loss list. Zero bytes are the empty list. Ranges may overlap and have any order. Linear in the number of
+/// bytes; copies nothing.
 pub fn read(bytes: &[u8]) -> Result<LossRef<'_>, LossFault>
     ensures value { result ≡ losses_in bytes.now }
-    // The bytes spell the list that is read.
+    // The bytes encode the returned list.
     ensures found { IfOk result (λ losses. Spells bytes.now losses) }
-    // A list that the bytes spell is read.
+    // A list that the bytes encode is returned.
     ensures only { (ranges : List Range) → Spells bytes.now ranges → IsOkAnd result (λ losses. losses ≡ ranges) }
     // The fault is the first one.
     ensures fault { IfErr result (λ fault. HasFault bytes.now fault) }
@@ -127,7 +127,7 @@ pub fn read(bytes: &[u8]) -> Result<LossRef<'_>, LossFault>
 }
 
 impl<'a> LossRef<'a> {
-    /// Whether one of the ranges contains the number. Linear in the number of ranges; their lengths don't matter.
+    /// Whether one of the ranges contains the number. Linear in the number of ranges, whatever their lengths.
     pub fn asks(&self, number: Seq31) -> bool
         ensures { result ≡ is_asked self.now (word_of number) }
     {
@@ -140,7 +140,7 @@ impl<'a> LossRef<'a> {
         false
     }
 
-    /// All ranges, in the order of the list. O(1).
+    /// Returns an iterator over all ranges, in the order of the list. O(1).
     pub fn ranges(&self) -> Ranges<'a>
         ensures { result ≡ self.now }
     {
@@ -149,7 +149,7 @@ impl<'a> LossRef<'a> {
 }
 
 impl Ranges<'_> {
-    /// Takes the next range: its first and its last number, both included, fewer than 2^30 apart. They are equal in a
+    /// Returns the next range: its first and last number, both included, fewer than 2^30 apart. They are equal in a
     /// range of one number. The last can be below the first, since numbers wrap. None at the end of the list. O(1).
     pub fn next_range(&mut self) -> Option<(Seq31, Seq31)>
         ensures some { IfSome result (λ r. self.old ≡ range_of r ∷ self.new) }

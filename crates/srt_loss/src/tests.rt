@@ -1,4 +1,4 @@
-//! Loss lists as bytes, and the numbers that they ask for.
+//! Loss lists as bytes, and the numbers that they request.
 
 use crate::{LossFault, part_in, read, write};
 use arrayvec::ArrayVec;
@@ -42,7 +42,7 @@ fn faults(rt: HostRuntime) -> Result<(), Fail> {
         ("8000000940000009", backward),
         // Across the wrap, 2^30 later.
         ("ffffffff3fffffff", backward),
-        // The first fault counts.
+        // The first fault is returned.
         ("80000005800000068000000040000000", dangling),
         ("800000004000000080000005", backward),
     ] {
@@ -74,7 +74,7 @@ fn sets(rt: HostRuntime) -> Result<(), Fail> {
         ("fffffffe00000002", 0, true),
         ("fffffffe00000002", 2, true),
         ("fffffffe00000002", 3, false),
-        // All ranges count.
+        // All ranges are checked.
         ("800000050000000700000009", 6, true),
         ("800000050000000700000009", 8, false),
         ("800000050000000700000009", 9, true),

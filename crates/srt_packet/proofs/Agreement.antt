@@ -24,7 +24,7 @@ body_only word0 word1 rest (DropRequest message first last) s = grind (arith, na
 body_only word0 word1 rest PeerError s = grind (arith, nat_tests)
 body_only word0 word1 rest UserDefined s = grind (arith, nat_tests)
 
--- this fault applies to a packet with this word 0 and these bytes after the first 16
+-- this fault applies to a packet with this word 0 and these bytes after the header
 abbrev HasBodyFault : (word0 : ℕ) → List ℕ → PacketFault → Type 0
 HasBodyFault word0 rest Short = ⊥
 HasBodyFault word0 rest Long = ⊥

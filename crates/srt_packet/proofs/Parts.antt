@@ -1,4 +1,4 @@
--- What follows for a result that equals packet_in's.
+-- Consequences for a result that equals that of packet_in.
 use Rattle.std.proofs.Common.{◌≡◌, ℕ, ◌+◌, ◌-◌, ◌<◌, ◌≤◌, List, Result, Ok, Err, IfOk, IfErr, IsOkAnd, length, length-append, length-drop}
 use Rattle.std.proofs.Common.{take, drop, ◌++◌, refl, ◌∙◌, arith}
 use Rattle.std.proofs.lemmas.Bool.Decides.{nat_tests}

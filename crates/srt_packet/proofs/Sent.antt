@@ -1,4 +1,4 @@
--- What is written is spelled, and is read back.
+-- What is written conforms to the grammar, and reads back.
 use Rattle.std.proofs.Common.{◌^◌, ◌<◌, true, false, refl, sym, arith}
 use Rattle.std.proofs.lemmas.Nat.{from_be_bytes-to_be_bytes_4}
 use Rattle.srt_packet.specs.declared.writing.Body.{Body}

@@ -1,4 +1,4 @@
--- Packets as the wire spells them (section 3): a relation with one case for each kind.
+-- The format of packets (section 3): a relation between bytes and packets, with one case for each kind.
 use Rattle.std.specs.Prelude.{◌≡◌, ℕ, ◌/◌, ◌%◌, ◌^◌, ◌<◌, ◌≤◌, List, length, drop}
 use Rattle.srt_seq.specs.Words.{word_at}
 
@@ -16,20 +16,22 @@ pub data Body : Type 0 where
   PeerError : Body
   UserDefined : Body
 
+-- a packet: its timestamp, its destination socket ID and its body
 pub record Packet : Type 0 where
   pub stamp : ℕ
   pub dest : ℕ
   pub body : Body
 
--- words 0 and 1 of the header, and what follows the header, spell this body
+-- words 0 and 1 of the header and the bytes after the header encode this body
 abbrev pub SpellsBody : (word0 word1 : ℕ) → List ℕ → Body → Type 0
--- top bit 0, then the number. Bits 27 and 28 of word 1 are the field KK, and its other bits are free (section 3.1)
+-- top bit 0, then the sequence number. Bits 27 and 28 of word 1 are the field KK; its other bits have any value
+-- (section 3.1)
 SpellsBody word0 word1 rest (Data number encryption payload) =
     (word0 < 2 ^ 31) × (number ≡ word0) × (encryption ≡ word1 / 2 ^ 27 % 4) × (0 < length rest) × (payload ≡ rest)
--- top bit 1, the type in 15 bits, and a subtype of 16 bits, which is free (section 3.2, table 1)
+-- top bit 1, 15 bits of type, and 16 bits of subtype with any value (section 3.2, table 1)
 SpellsBody word0 word1 rest (Handshake info) = (word0 / 2 ^ 16 ≡ 0x8000) × (info ≡ rest)
--- bytes after the header of a keep-alive, a shutdown or an ACKACK are free, and so are those after the first two words
--- of a drop request (our choice)
+-- bytes after the header of a keep-alive, a shutdown or an ACKACK have any value, and so have those after the first two
+-- words of a drop request (our choice)
 SpellsBody word0 word1 rest KeepAlive = word0 / 2 ^ 16 ≡ 0x8001
 SpellsBody word0 word1 rest (Ack number info) = (word0 / 2 ^ 16 ≡ 0x8002) × (number ≡ word1) × (4 ≤ length rest) × (info ≡ rest)
 SpellsBody word0 word1 rest (Nak info) = (word0 / 2 ^ 16 ≡ 0x8003) × (4 ≤ length rest) × (info ≡ rest)
@@ -41,7 +43,7 @@ SpellsBody word0 word1 rest (DropRequest message first last) =
 SpellsBody word0 word1 rest PeerError = word0 / 2 ^ 16 ≡ 0x8008
 SpellsBody word0 word1 rest UserDefined = word0 / 2 ^ 16 ≡ 0xffff
 
--- these bytes spell this packet
+-- these bytes encode this packet
 pub record Spells (bytes : List ℕ) (packet : Packet) : Type 0 where
   pub header : 16 ≤ length bytes
   pub limit : length bytes ≤ 1472

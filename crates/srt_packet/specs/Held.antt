@@ -1,8 +1,8 @@
--- The bytes that an encoded packet may hold.
+-- The possible contents of an `EncodedPacket`.
 use Rattle.std.specs.Prelude.{◌≡◌, ℕ, ◌==◌, ◌||◌, List, length, Bool, true, is_ok}
 use Rattle.srt_packet.specs.Reading.{packet_in}
 
--- these are no bytes, or bytes that are read as a packet
+-- whether there are no bytes, or the bytes read as a packet
 unfoldable pub is_packet_or_nothing : List ℕ → Bool
 is_packet_or_nothing bytes = length bytes == 0 || is_ok (packet_in bytes)
 

@@ -1,4 +1,4 @@
-//! The bytes of a packet, written where they stay until they are sent.
+//! The encoded bytes of a packet, kept until they are sent.
 
 ghost use Rattle.std.specs.Prelude.{◌≡◌, ◌≤◌, [], length, take, drop};
 ghost use Rattle.srt_packet.specs.Held.{IsPacketOrNothing};
@@ -7,15 +7,15 @@ ghost use Rattle.srt_packet.specs.Text.{text, IsWritable};
 use crate::writing::{Packet, encode};
 use srt_seq::write_at;
 
-// An array with a length of its own, so that writing a packet costs its bytes alone.
+// An array with a separate length, so that a write touches only the bytes of the packet.
 #[derive(Drop)]
 struct PacketArray {
     bytes: [u8; 1472],
 }
 
-/// The bytes of a packet to be sent: 16 to 1472, or none before the first is written. A packet is encoded here when it
-/// is made and stays here until it is sent: a payload is copied once on that way, and a packet without one touches its
-/// own 16 to 84 bytes alone.
+/// The encoded bytes of a packet to be sent: 16 to 1472, or none before the first write. A packet is encoded in place
+/// and stays there until it is sent. So a payload is copied once, and the write of a packet without payload touches
+/// only its 16 to 84 bytes.
 #[derive(Drop)]
 pub struct EncodedPacket {
     len: usize,
@@ -27,7 +27,7 @@ pub struct EncodedPacket {
 impl EncodedPacket {
     ghost use Rattle.srt_packet.specs.Encoded.{bytes_of, IsPacketText};
 
-    /// No bytes. Doesn't allocate: the value itself has a fixed size.
+    /// Returns a value without bytes. Doesn't allocate: the value has a fixed size.
     #[tactic(auto, unfolding(crate::specs::Held::is_packet_or_nothing))]
     pub fn new() -> EncodedPacket
         ensures { bytes_of result ≡ [] }
@@ -38,7 +38,7 @@ impl EncodedPacket {
         }
     }
 
-    /// Encodes a packet over what stood here. One copy of a payload; doesn't allocate.
+    /// Encodes a packet over the previous content. Copies a payload once; doesn't allocate.
     #[tactic(auto, unfolding(crate::specs::Held::is_packet_or_nothing))]
     #[inline(always)]
     pub fn write(&mut self, packet: &Packet<'_>)
@@ -49,7 +49,7 @@ impl EncodedPacket {
         self.len = encode(packet, &mut self.array.bytes);
     }
 
-    /// The bytes.
+    /// Returns the bytes.
     #[inline(always)]
     pub fn bytes(&self) -> &[u8]
         ensures value { result.now ≡ bytes_of self.now }
@@ -59,7 +59,7 @@ impl EncodedPacket {
         &self.array.bytes[..self.len]
     }
 
-    /// Copies the bytes to the front of `out`, and returns their number. The rest of `out` doesn't change.
+    /// Copies the bytes to the front of `out`, and returns their number. The rest of `out` is unchanged.
     pub fn copy_to(&self, out: &mut [u8; 1472]) -> usize
         ensures within { result ≤ 1472 }
         ensures written { take result out.new ≡ bytes_of self.now }

@@ -1,17 +1,18 @@
-//! SRT packets: read from borrowed bytes, and written to a buffer (draft-sharabayko-srt-01, section 3).
+//! SRT packets: decoded from borrowed bytes, and encoded into a buffer (draft-sharabayko-srt-01, section 3).
 //!
-//! It knows the form of a packet, and no session: it doesn't look into handshakes (`srt_hs`) or loss lists
-//! (`srt_loss`), and it reads sequence numbers as plain words. It doesn't allocate.
+//! It knows the format of packets, and no sessions. It doesn't parse handshakes (`srt_hs`) or loss lists (`srt_loss`),
+//! and it reads sequence numbers as plain words. It doesn't allocate.
 //!
-//! Reading, in `reading.rt`: [`decode`] takes the bytes of a datagram, [`decode_parts`] its first 16 bytes and the
+//! Decoding, in `reading.rt`: [`decode`] reads the bytes of a datagram, [`decode_parts`] its first 16 bytes and the
 //! bytes after them. Both return a [`PacketRef`], whose [`Kind`] borrows the bytes, or the first [`PacketFault`].
 //! Subtypes, and bytes after the end of a control packet's information, are ignored.
 //!
-//! Writing, in `writing.rt`: fill a [`Packet`] with a [`Body`], and [`encode`] it. Each packet has one spelling. An
-//! [`EncodedPacket`], in `encoded.rt`, holds the bytes of a packet until they are sent.
+//! Encoding, in `writing.rt`: fill a [`Packet`] with a [`Body`], and [`encode`] it. Each packet has exactly one
+//! encoding here. An [`EncodedPacket`], in `encoded.rt`, holds the bytes of a packet until they are sent.
 //!
-//! `specs/Grammar.antt` defines which bytes are which packet, `specs/Reading.antt` the faults and their order, and
-//! `specs/Text.antt` what is written. `laws.rt` ties the three: what is written reads back as the same packet.
+//! `specs/Grammar.antt` defines which bytes encode which packet, `specs/Reading.antt` the faults and their order, and
+//! `specs/Text.antt` the bytes that are written. `laws.rt` connects the three: what is written reads back as the same
+//! packet.
 #![tactic(auto)]
 
 mod encoded;

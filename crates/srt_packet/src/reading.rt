@@ -1,4 +1,4 @@
-//! Packets read from borrowed bytes (draft-sharabayko-srt-01, section 3).
+//! Packets decoded from borrowed bytes (draft-sharabayko-srt-01, section 3).
 
 ghost use Rattle.std.specs.Prelude.{◌≡◌, ◌+◌, ◌^◌, ◌<◌, ◌≤◌, ◌++◌, length, IfOk, IfErr, IsOkAnd};
 ghost use Rattle.srt_packet.specs.Grammar.{Packet as ThePacket, Spells};
@@ -8,14 +8,14 @@ ghost use Rattle.srt_packet.specs.View.{body_read, packet_of, packet_read};
 use srt_seq::limits::{MAX_DATAGRAM, MAX_PAYLOAD};
 use srt_seq::{PayloadRef, read_word};
 
-/// Why bytes are no packet. If several apply, the first of this list is returned (the order is our choice).
+/// Why bytes are no packet. If several faults apply, the first variant is returned (the order is our choice).
 #[derive(Clone, Copy, Debug, PartialEq, Eq)]
 pub enum PacketFault {
-    /// Fewer than 16 bytes: no whole header.
+    /// Fewer than 16 bytes: the header is incomplete.
     Short,
     /// More than 1472 bytes: 1500 less the headers of IPv4 and UDP.
     Long,
-    /// A data packet of just a header.
+    /// A data packet with a header and no payload.
     NoPayload,
     /// A control packet of a type that section 3.2 doesn't list: 9 to 0x7ffe.
     UnknownType,
@@ -32,7 +32,7 @@ pub enum Kind<'a> {
         number: u32,
         /// The field KK, 0 to 3: 0 if the payload isn't encrypted.
         encryption: u8,
-        /// The bytes that it carries: 1 to 1456.
+        /// The payload: 1 to 1456 bytes.
         payload: PayloadRef<'a>,
     },
     /// A handshake (section 3.2.1). Its content isn't checked here.
@@ -54,13 +54,13 @@ pub enum Kind<'a> {
         /// All bytes after the header, 4 to 1456: a loss list, unchecked.
         info: &'a [u8],
     },
-    /// A congestion warning (section 3.2.6). What follows the header isn't looked at.
+    /// A congestion warning (section 3.2.6). Bytes after the header are ignored.
     CongestionWarning,
     /// The peer ends its session (section 3.2.7).
     Shutdown,
     /// The acknowledgement of an acknowledgement (section 3.2.8).
     AckAck {
-        /// The number of the Full ACK that it confirms: word 1 of the header, unchecked.
+        /// The acknowledgement number of the Full ACK that it confirms: word 1 of the header, unchecked.
         number: u32,
     },
     /// A message drop request (section 3.2.9).
@@ -72,13 +72,13 @@ pub enum Kind<'a> {
         /// The last sequence number to drop, as a word of any value.
         last: u32,
     },
-    /// A peer error (section 3.2.10). What follows the header isn't looked at.
+    /// A peer error (section 3.2.10). Bytes after the header are ignored.
     PeerError,
-    /// A user-defined packet: type 0x7fff (section 3.2). What follows the header isn't looked at.
+    /// A user-defined packet: type 0x7fff (section 3.2). Bytes after the header are ignored.
     UserDefined,
 }
 
-/// A packet that was read. It borrows the bytes of its datagram.
+/// A decoded packet. It borrows the bytes of its datagram.
 #[derive(Clone, Copy, Debug)]
 pub struct PacketRef<'a> {
     /// The timestamp, in microseconds modulo 2^32.
@@ -157,8 +157,8 @@ fn kind_of(word0: u32, word1: u32, rest: &[u8]) -> Result<Kind<'_>, PacketFault>
     }
 }
 
-/// The packet with the first 16 bytes of `head` as its header, and `rest` after it. Bytes of `head` after the first 16
-/// are ignored.
+/// Returns the packet with the first 16 bytes of `head` as its header and the bytes `rest` after it. Bytes of `head`
+/// after the first 16 are ignored.
 #[inline(always)]
 fn packet_of_parts<'a>(head: &[u8], rest: &'a [u8]) -> Result<PacketRef<'a>, PacketFault>
     requires header { 16 ≤ length head.now }
@@ -173,14 +173,14 @@ fn packet_of_parts<'a>(head: &[u8], rest: &'a [u8]) -> Result<PacketRef<'a>, Pac
     })
 }
 
-/// Reads the bytes of a datagram as a packet. It copies nothing. O(1).
+/// Reads the bytes of a datagram as a packet. Copies nothing. O(1).
 #[inline(always)]
 pub fn decode(bytes: &[u8]) -> Result<PacketRef<'_>, PacketFault>
     // The result as a function of the bytes.
     ensures value { packet_read result ≡ packet_in bytes.now }
-    // The bytes spell the packet that is read.
+    // The bytes encode the returned packet.
     ensures found { IfOk result (λ p. Spells bytes.now (packet_of p)) }
-    // A packet that the bytes spell is read, so a fault is returned only if they spell none.
+    // A packet that the bytes encode is returned, so a fault is returned only if they encode none.
     ensures only { (packet : ThePacket) → Spells bytes.now packet → IsOkAnd result (λ p. packet_of p ≡ packet) }
     // The fault is the first that applies.
     ensures fault { IfErr result (λ fault. IsFirstFault bytes.now fault) }
@@ -194,15 +194,15 @@ pub fn decode(bytes: &[u8]) -> Result<PacketRef<'_>, PacketFault>
     packet_of_parts(bytes, &bytes[16..])
 }
 
-/// Reads the first 16 bytes of a datagram, and the bytes after them, as a packet. The result is that of [`decode`] of
-/// both in a row, without [`PacketFault::Short`]. O(1).
+/// Reads the first 16 bytes of a datagram and the bytes after them as a packet. The result is that of [`decode`] for
+/// the concatenation, without [`PacketFault::Short`]. O(1).
 #[inline(always)]
 pub fn decode_parts<'a>(head: &[u8; 16], body: &'a [u8]) -> Result<PacketRef<'a>, PacketFault>
     // The result as a function of the bytes.
     ensures value { packet_read result ≡ packet_in (head.now ++ body.now) }
-    // The bytes spell the packet that is read.
+    // The bytes encode the returned packet.
     ensures found { IfOk result (λ p. Spells (head.now ++ body.now) (packet_of p)) }
-    // A packet that the bytes spell is read, so a fault is returned only if they spell none.
+    // A packet that the bytes encode is returned, so a fault is returned only if they encode none.
     ensures only { (packet : ThePacket) → Spells (head.now ++ body.now) packet → IsOkAnd result (λ p. packet_of p ≡ packet) }
     // The fault is the first that applies.
     ensures fault { IfErr result (λ fault. IsFirstFault (head.now ++ body.now) fault) }

@@ -1,4 +1,4 @@
-//! Packets of each kind with their bytes, written and read, and bytes with each fault.
+//! Packets of each kind with their bytes, encoded and decoded, and bytes with each fault.
 
 ghost use Rattle.std.specs.Prelude.{◌≡◌};
 ghost use Rattle.srt_packet.specs.Text.{IsWritable};
@@ -16,8 +16,8 @@ fn number(word: u32) -> Result<Seq31, Fail> {
     }
 }
 
-/// Asserts that `encode` writes these bytes, and an `EncodedPacket` likewise, which is longer before; what it then
-/// holds is read as a packet.
+/// Asserts that `encode` writes these bytes, and that an `EncodedPacket` with a longer packet before also does. Its
+/// content then reads as a packet.
 fn assert_written(
     rt: &(impl AllocGlobal + Abort),
     packet: &Packet<'_>,
@@ -52,7 +52,7 @@ fn assert_written(
     Ok(())
 }
 
-/// The first 16 bytes, and the bytes after them.
+/// Returns the first 16 bytes, and the bytes after them.
 fn split(bytes: &[u8]) -> Option<([u8; 16], &[u8])> {
     if bytes.len() < 16 {
         return None;
@@ -170,7 +170,7 @@ fn short_packets_are_written(rt: HostRuntime) -> Result<(), Fail> {
     )
 }
 
-/// The fault of these bytes, which must be the same for the whole datagram and for its two parts.
+/// Returns the fault of these bytes, which must be the same for the whole datagram and for its two parts.
 fn fault_of(rt: &(impl AllocGlobal + Abort), text: &str) -> Result<PacketFault, Fail> {
     let bytes = hex::decode(rt.alloc(), text)?;
     let whole = decode(&bytes).err().ok_or("no packet")?;
@@ -252,7 +252,7 @@ fn data_is_read(rt: HostRuntime) -> Result<(), Fail> {
     Ok(())
 }
 
-/// The name of a kind, its numbers, and the number of bytes after the header.
+/// Returns the name of a kind, its numbers, and the number of bytes after the header.
 fn told(kind: Kind<'_>) -> (&'static str, [u32; 3], usize) {
     match kind {
         Kind::Data {

@@ -1,4 +1,4 @@
-//! Packets written to a buffer (draft-sharabayko-srt-01, section 3).
+//! Packets encoded into a buffer (draft-sharabayko-srt-01, section 3).
 
 ghost use Rattle.std.specs.Prelude.{◌≡◌, ℕ, ◌+◌, ◌*◌, ◌≤◌, ◌++◌, length, take, drop};
 ghost use Rattle.srt_packet.specs.Grammar.{Spells};
@@ -9,7 +9,7 @@ ghost use Rattle.srt_packet.specs.Text.{text, word0_of, word1_of, rest_of, IsWri
 use arrayvec::ArrayVec;
 use srt_seq::{Msg26, PayloadRef, Seq31, write_at, write_words};
 
-/// What a Full ACK tells of the rates at which packets come (section 3.2.4).
+/// The rates of received packets that a Full ACK reports (section 3.2.4).
 #[derive(Clone, Copy, Debug, PartialEq, Eq)]
 pub struct Rates {
     /// The packets receiving rate, in packets per second.
@@ -20,11 +20,11 @@ pub struct Rates {
     pub bytes: u32,
 }
 
-/// The kind of a packet to be sent, and its content apart from timestamp and destination. It borrows a payload, so that
-/// making one copies no payload.
+/// The kind of a packet to be sent, and its content apart from timestamp and destination. It borrows its payload, so
+/// that its construction copies none.
 #[derive(Drop)]
 pub enum Body<'a> {
-    /// A data packet: a whole message in one packet, in order, unencrypted (section 3.1).
+    /// A data packet: a complete message in one packet, in order, unencrypted (section 3.1).
     Media {
         /// The packet sequence number.
         number: Seq31,
@@ -32,7 +32,7 @@ pub enum Body<'a> {
         message: Msg26,
         /// The field R: whether this is a retransmission.
         again: bool,
-        /// The bytes that it carries: 1 to 1456.
+        /// The payload: 1 to 1456 bytes.
         payload: PayloadRef<'a>,
     },
     /// A handshake: all bytes after the header, at most 84 (section 3.2.1).
@@ -47,11 +47,11 @@ pub enum Body<'a> {
         point: Seq31,
         /// The round-trip time, in microseconds.
         round_trip: u32,
-        /// The variance of the round-trip time, in microseconds.
+        /// The variance of the round-trip time (RTTVar), in microseconds.
         variance: u32,
-        /// The free space of the receiver's buffer, in packets.
+        /// The available receiver buffer size, in packets.
         available: u32,
-        /// The last three words.
+        /// The rates: the last three words.
         rates: Rates,
     },
     /// A Light ACK, of one word (section 3.2.4).
@@ -66,7 +66,7 @@ pub enum Body<'a> {
     },
     /// The acknowledgement of a Full ACK (section 3.2.8).
     AckAck {
-        /// The number of the Full ACK that it confirms.
+        /// The acknowledgement number of the Full ACK that it confirms.
         number: u32,
     },
     /// A message drop request (section 3.2.9).
@@ -75,10 +75,10 @@ pub enum Body<'a> {
         message: Msg26,
         /// The first sequence number to drop.
         first: Seq31,
-        /// The last sequence number to drop, itself included.
+        /// The last sequence number to drop, included.
         last: Seq31,
     },
-    /// The session ends (section 3.2.7).
+    /// The end of the session (section 3.2.7).
     Shutdown,
 }
 
@@ -119,7 +119,7 @@ fn first_words(body: &Body<'_>) -> (u32, u32)
     }
 }
 
-/// Writes what follows the header from the offset `at` on, and returns the offset of its end.
+/// Writes the bytes after the header from the offset `at` on, and returns the offset of their end.
 #[tactic(auto, using(srt_seq::proofs::WordBytes::length_of_words))]
 #[inline(always)]
 fn write_rest(body: &Body<'_>, out: &mut [u8], at: usize) -> usize
@@ -163,8 +163,8 @@ fn write_rest(body: &Body<'_>, out: &mut [u8], at: usize) -> usize
     }
 }
 
-/// Writes a packet to the front of the buffer, and returns its length in bytes: 16 to 1472. The rest of the buffer
-/// doesn't change. Linear in the length; it doesn't allocate. The subtype of a control packet is written as 0.
+/// Writes a packet to the front of the buffer, and returns its length in bytes: 16 to 1472. The rest of the buffer is
+/// unchanged. The subtype of a control packet is written as 0. Linear in the length; doesn't allocate.
 #[inline(always)]
 pub fn encode(packet: &Packet<'_>, out: &mut [u8; 1472]) -> usize
     requires { IsWritable packet.now.body }
@@ -172,7 +172,7 @@ pub fn encode(packet: &Packet<'_>, out: &mut [u8; 1472]) -> usize
     ensures len { result ≡ length (text packet.now) }
     ensures written { take result out.new ≡ text packet.now }
     ensures kept { drop result out.new ≡ drop result out.old }
-    // What is written is in the grammar, and reading it gives the packet back.
+    // What is written conforms to the grammar, and reading it returns the same packet.
     ensures spelled { Spells (take result out.new) (sent packet.now) }
     ensures read { packet_in (take result out.new) ≡ Ok (sent packet.now) }
     ensures can_be_sent { CanBeSent packet.now }

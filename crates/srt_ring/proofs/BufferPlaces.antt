@@ -33,7 +33,7 @@ slots_apart width first at d fi ai di ne = λ e. ne (slots_same e)
 pub slots_in : (width first at : ℕ) → first < width → at < width → slot_of width first at < width
 slots_in width first at fi ai = grind (arith, nat_tests)
 
--- the front moves by one place
+-- the front advances by one place
 pub slots_next : (width first next d : ℕ) → first < width → d + 1 < width → next ≡ (if first + 1 == width then 0 else first + 1)
     → slot_of width next d ≡ slot_of width first (d + 1)
 slots_next width first next d fi di e = grind (arith, nat_tests)

@@ -1,4 +1,4 @@
--- The payloads of a ring, by their distance from its front (their place).
+-- The payloads of a ring, by their distance from its front, the place.
 use Rattle.std.specs.Prelude.{ℕ, List}
 use Rattle.srt_ring.specs.Buffers.{bytes_at, slot_of}
 use Rattle.srt_ring.specs.Slots.{buffer_of_slot, slots_of}
@@ -12,7 +12,7 @@ width_of r = slots_of r.order
 abbrev pub first_of : PayloadRing → ℕ
 first_of r = r.first
 
--- the number of warm buffers, which the last places have
+-- the number of warm buffers, which are those of the last places
 abbrev pub warm_of : PayloadRing → ℕ
 warm_of r = r.warm
 

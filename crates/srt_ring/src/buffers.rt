@@ -18,8 +18,7 @@ impl PayloadArray {
     }
 }
 
-/// The payload of one packet, 0 to 1456 bytes. An array with a length, so that setting it is one copy and nothing
-/// more.
+/// The payload of one packet, 0 to 1456 bytes. An array and a length, so that setting it costs exactly one copy.
 #[derive(Drop)]
 pub struct PayloadBuffer {
     len: usize,
@@ -30,7 +29,7 @@ pub struct PayloadBuffer {
 impl PayloadBuffer {
     ghost use Rattle.srt_ring.specs.Buffers.{bytes_of};
 
-    /// An empty payload. Doesn't allocate: the value itself has a fixed size.
+    /// Returns an empty payload. Doesn't allocate: the value has a fixed size.
     pub fn new() -> PayloadBuffer
         ensures { bytes_of result ≡ [] }
     {
@@ -42,7 +41,7 @@ impl PayloadBuffer {
         }
     }
 
-    /// Replaces the payload by these bytes, at most 1456. One copy.
+    /// Replaces the payload by these bytes, at most 1456. Copies them once.
     pub fn set(&mut self, bytes: &[u8])
         requires { length bytes.now ≤ 1456 }
         ensures { bytes_of self.new ≡ bytes.now }
@@ -51,7 +50,7 @@ impl PayloadBuffer {
         self.len = bytes.len();
     }
 
-    /// The payload's bytes.
+    /// Returns the payload's bytes.
     pub fn bytes(&self) -> &[u8]
         ensures value { result.now ≡ bytes_of self.now }
         ensures fits { length result.now ≤ 1456 }

@@ -1,16 +1,16 @@
-//! A ring of payload buffers, for the receive buffer and the send buffer. Buffers never move; each is filled in place
-//! by one copy, since a copy of 1.4 KB costs more than all else that a buffer does for a packet.
+//! A ring of payload buffers, for the receive buffer and the send buffer. Buffers never move, and each is filled in
+//! place by one copy, since a copy of 1.4 KB costs more than all other work of a buffer for a packet.
 //!
-//! It holds bytes only. What an entry of the ring means, and which entries are free, is known to `srt_recvbuf` and
-//! `srt_sendbuf`, which keep a small record beside each payload.
+//! It only holds bytes. `srt_recvbuf` and `srt_sendbuf` define the meaning of the ring's entries and which are free,
+//! and keep a small record for each payload.
 //!
-//! [`PayloadRing`] is the one public type. An entry is addressed by its distance from the front, its *place*; it
-//! keeps the same *slot* until the front passes it; `order.rt` maps a slot to its *buffer* (`buffers.rt`).
+//! [`PayloadRing`] is the only public type. An entry is addressed by its distance from the front, its *place*. It has
+//! the same *slot* until the front passes it; `order.rt` maps a slot to its *buffer* (`buffers.rt`).
 //!
-//! Calls: `PayloadRing::open` with the width, the only call that allocates; then `set`, which copies one payload,
-//! `payload`, which lends one, and `advance`, which moves the front on by one place. Before a `set`,
-//! `take_warm` and `exchange` give the place a buffer that was used lately, so that a steady stream stays in the
-//! processor's caches. All calls but `open` are O(1), besides the bytes that they copy.
+//! Functions: `PayloadRing::open` with the width, the only one that allocates; then `set`, which copies one payload,
+//! `payload`, which borrows one, and `advance`, which moves the front by one place. Before a `set`, `take_warm` and
+//! `exchange` assign a recently used buffer to the place, so that a steady stream stays in the processor's caches. All
+//! functions except `open` are O(1), apart from the bytes that they copy.
 //!
 //! The rules are in `ring.rt`; the definitions that its contracts name are in `specs/Ring.antt`.
 #![tactic(auto)]

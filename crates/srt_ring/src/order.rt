@@ -1,11 +1,11 @@
-//! The map from slots of a ring to payload buffers, one to one.
+//! The bijection from slots of a ring to payload buffers.
 
 ghost use Rattle.std.specs.Prelude.{◌≡◌, ◌≢◌, ℕ, ◌<◌, IfOk, vec_len, slice_index_or};
 
 use std::alloc::{AllocError, Global};
 
-/// The index of each slot's payload buffer. No two slots share a buffer, so slots can exchange theirs and no bytes
-/// are lost.
+/// The index of each slot's payload buffer. No two slots share a buffer, so slots can exchange their buffers without a
+/// loss of bytes.
 #[derive(Drop)]
 pub struct BufferOrder {
     buffers: Vec<usize>,
@@ -18,8 +18,8 @@ pub struct BufferOrder {
 impl BufferOrder {
     ghost use Rattle.srt_ring.specs.Slots.{buffer_of_slot, slots_of};
 
-    /// A map of `width` slots, each with the buffer of its own index. Allocates; the error is a refused
-    /// allocation. O(width).
+    /// Returns a map of `width` slots, each with the buffer of the same index. Allocates; an error if the allocation
+    /// fails. O(width).
     pub fn open(alloc: Global, width: usize) -> Result<BufferOrder, AllocError>
         ensures { IfOk result (λ o. slots_of o ≡ width) }
     {
@@ -30,7 +30,7 @@ impl BufferOrder {
         Ok(BufferOrder { buffers })
     }
 
-    /// The index of a slot's buffer. O(1).
+    /// Returns the index of a slot's buffer. O(1).
     pub fn buffer(&self, slot: usize) -> usize
         requires { slot < slots_of self.now }
         ensures value { result ≡ buffer_of_slot self.now slot }

@@ -8,16 +8,16 @@ use crate::order::BufferOrder;
 use std::alloc::{AllocError, Global};
 
 /// A ring of 1 to 8192 places with a payload of 0 to 1456 bytes each. A place is a distance from the front, which
-/// moves on.
+/// advances.
 ///
-/// Buffers never move. A place's payload keeps its slot until the front passes it, and each slot has a buffer of its
-/// own. The buffers that the front passed last are *warm*, likely still in the processor's caches; they are offered
-/// first for new payloads, so that a steady stream uses few buffers whatever the width.
+/// Buffers never move. A place's payload keeps its slot until the front passes it, and each slot has a dedicated
+/// buffer. The buffers that the front passed last are *warm*: probably still in the processor's caches. They are used
+/// first for new payloads, so that a steady stream uses few buffers for any width.
 #[derive(Drop)]
 pub struct PayloadRing {
     buffers: Vec<PayloadBuffer>,
     order: BufferOrder,
-    /// The slot of the front's place. The other places follow it in order, round the end of the ring.
+    /// The slot of the front's place. The slots of the other places follow in order, and wrap at the end of the ring.
     first: usize,
     /// The number of warm buffers. They belong to the last places of the ring.
     warm: usize,
@@ -31,7 +31,7 @@ impl PayloadRing {
     ghost use Rattle.srt_ring.specs.Buffers.{slot_of};
     ghost use Rattle.srt_ring.specs.Ring.{width_of, first_of, warm_of, payload_at};
 
-    /// A ring of `width` empty payloads. The only call that allocates; the error is a refused allocation.
+    /// Returns a ring of `width` empty payloads. The only function that allocates; an error if an allocation fails.
     /// O(width).
     pub fn open(alloc: Global, width: usize) -> Result<PayloadRing, AllocError>
         requires some { 0 < width }
@@ -50,7 +50,7 @@ impl PayloadRing {
         })
     }
 
-    /// The number of places, 1 to 8192.
+    /// Returns the number of places, 1 to 8192.
     pub fn width(&self) -> usize
         ensures value { result ≡ width_of self.now }
         ensures some { 0 < result }
@@ -59,7 +59,7 @@ impl PayloadRing {
         self.buffers.len()
     }
 
-    /// The slot of a place; the place must be below the width. O(1).
+    /// Returns the slot of a place, which must be below the width. O(1).
     pub fn slot(&self, at: usize) -> usize
         requires { at < width_of self.now }
         ensures value { result ≡ slot_of (width_of self.now) (first_of self.now) at }
@@ -73,7 +73,7 @@ impl PayloadRing {
         }
     }
 
-    /// The place of a slot, the inverse of `slot`. It changes whenever the front moves. O(1).
+    /// Returns the place of a slot, the inverse of `slot`. It changes whenever the front advances. O(1).
     pub fn place_of_slot(&self, slot: usize) -> usize
         requires { slot < width_of self.now }
         ensures { (d : ℕ) → d < width_of self.now → slot_of (width_of self.now) (first_of self.now) d ≡ slot → d ≡ result }
@@ -85,7 +85,7 @@ impl PayloadRing {
         }
     }
 
-    /// The bytes of a place's payload, which is lent: no byte is copied. O(1).
+    /// Borrows the bytes of a place's payload: no byte is copied. O(1).
     pub fn payload(&self, at: usize) -> &[u8]
         requires { at < width_of self.now }
         ensures value { result.now ≡ payload_at self.now at }
@@ -95,7 +95,7 @@ impl PayloadRing {
         self.buffers[index].bytes()
     }
 
-    /// Replaces the payload of a place by these bytes, at most 1456. One copy.
+    /// Replaces the payload of a place by these bytes, at most 1456. Copies them once.
     pub fn set(&mut self, at: usize, bytes: &[u8])
         requires inside { at < width_of self.old }
         requires fits { length bytes.now ≤ 1456 }
@@ -109,8 +109,8 @@ impl PayloadRing {
         self.buffers[index].set(bytes);
     }
 
-    /// Takes one warm buffer: returns the first of the places that have one, whose buffer then no longer counts as
-    /// warm. None if no buffer is warm. No payload changes. O(1).
+    /// Takes one warm buffer: returns the first place that has one, whose buffer then is no longer warm. None if no
+    /// buffer is warm. No payload changes. O(1).
     pub fn take_warm(&mut self) -> Option<usize>
         ensures some { IfSome result (λ at. (at + warm_of self.old ≡ width_of self.old) × (warm_of self.old ≡ warm_of self.new + 1)) }
         ensures none { result ≡ None → (warm_of self.old ≡ 0) × (self.new ≡ self.old) }
@@ -142,9 +142,9 @@ impl PayloadRing {
         self.order.swap(one, other);
     }
 
-    /// Moves the front on by one place. The slot and the buffer of the place that was passed become the last place's,
-    /// and that buffer is warm. `free` is the number of free places, and the most warm buffers that count after the
-    /// call. O(1).
+    /// Advances the front by one place. The slot and the buffer of the place that it passes become those of the last
+    /// place, and that buffer is warm. `free` is the number of free places, and the maximum number of warm buffers
+    /// afterwards. O(1).
     pub fn advance(&mut self, free: usize)
         requires { free ≤ width_of self.old }
         ensures width { width_of self.new ≡ width_of self.old }

@@ -1,4 +1,4 @@
--- The Full ACK that a number confirms, and the book after that.
+-- The Full ACK that a number confirms, and the representation after that.
 use Rattle.std.proofs.Common.{◌≡◌, ◌≢◌, ℕ, zero, suc, ◌+◌, ◌-◌, ◌%◌, ◌<◌, ◌≤◌, min, Bool, true, Option, Some, None, List, [], ◌∷◌, length}
 use Rattle.std.proofs.Common.{map, take, get_or, inl, inr, set, refl, sym, ap, ◌∙◌, arith}
 use Rattle.std.specs.List.{find, position, position_or_len, slice_get}
@@ -99,6 +99,6 @@ sample_none h number now e = ap (option_map (sample_at now)) (not_found h number
 pub confirmed_none : (h : List Noted) (number : ℕ) → waiting_place number h ≡ None → confirmed number h ≡ h
 confirmed_none h number e = ap (λ (o : Option Noted). with_marked o h) (not_found h number e)
 
--- the Full ACK that a number confirms has a moment
+-- the Full ACK that a number confirms has a sending time
 pub has_moment : (h : List Noted) (number d : ℕ) → waiting_place number h ≡ Some d → moment_at h d ≢ None
 has_moment h number d e none = let f = found h number d e in let w = f.waits in cc

@@ -42,7 +42,7 @@ its_number number n w = grind (arith, nat_tests)
 pub still : (number : ℕ) (n : Noted) → is_waiting number n ≡ true → moment_of n ≡ Some n.moment
 still number n w = grind (arith, nat_tests)
 
--- a Full ACK of the last 64 has a number only if that number leads to its place
+-- one of the last 64 Full ACKs has a number only if that number leads to its place
 no_wait : (h : List Noted) (number e : ℕ)
     → IsNumbered h → e < length h → ack_number (length h - (e + 1)) ≢ number → is_waiting number (get_or h e nobody) ≡ false
 no_wait h number e k lt w = let i = index_at h e k lt in grind (arith, nat_tests)

@@ -1,2 +1,2 @@
--- What proofs and internal functions need: no public contract, law or document rests on it.
+-- Definitions for proofs and internal functions: no public contract, law or document depends on them.
 pub mod Steps

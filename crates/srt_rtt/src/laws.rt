@@ -1,9 +1,9 @@
-//! Laws of the book of Full ACKs.
+//! Laws of the confirmation of Full ACKs.
 
 ghost use Rattle.srt_rtt.specs.Book.{ConfirmsOnce, PlacesCountBack, WaitsAtPlace};
 
-/// An ACKACK confirms the Full ACK at the place that the book gives, and it does so only once. A place is the number of
-/// Full ACKs that were sent after it.
+/// An ACKACK confirms the Full ACK at its place, and only once. A place is the number of Full ACKs that were sent after
+/// it.
 pub fn confirmations()
     ensures at_place { WaitsAtPlace }
     ensures once { ConfirmsOnce }

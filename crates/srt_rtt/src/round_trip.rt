@@ -1,4 +1,4 @@
-//! The round-trip time and its variance (draft-sharabayko-srt-01, section 4.10).
+//! The round-trip time and its variance, RTTVar (draft-sharabayko-srt-01, section 4.10).
 
 ghost use Rattle.std.specs.Prelude.{◌≡◌, ◌≤◌};
 ghost use Rattle.srt_rtt.specs.RoundTrip.{start as at_first, with_sample, nak_interval as interval_of, resend_after as resend_of, round_trip_of};
@@ -13,7 +13,7 @@ pub struct Rtt {
 }
 
 impl Rtt {
-    /// The values before the first sample: 100 ms, and a variance of 50 ms.
+    /// Returns the values before the first sample: 100 ms, and a variance of 50 ms.
     pub fn start() -> Rtt
         ensures { round_trip_of result ≡ at_first }
     {
@@ -23,15 +23,15 @@ impl Rtt {
         }
     }
 
-    /// Replaces both values by those of an ACK, in microseconds. Any values of 32 bits are taken.
+    /// Replaces both values by those of an ACK, in microseconds. Any values of 32 bits are allowed.
     pub fn set(&mut self, time: u32, variance: u32)
         ensures { round_trip_of self.new ≡ record { time = time; variance = variance } }
     {
         *self = Rtt { time, variance };
     }
 
-    /// Takes one more sample, in microseconds. Round-trip time and variance move by 1/8 and 1/4 towards the new values,
-    /// rounded down (section 4.10; the rounding is our choice).
+    /// Smooths the values with one more sample, in microseconds. Round-trip time and variance move by 1/8 and 1/4
+    /// towards the new values, rounded down (section 4.10; the rounding is our choice).
     pub fn sample(&mut self, sample: u64)
         requires { sample ≤ 10_000_000 }
         ensures { round_trip_of self.new ≡ with_sample sample (round_trip_of self.old) }
@@ -44,16 +44,16 @@ impl Rtt {
         };
     }
 
-    /// The interval between two periodic NAKs, which name all gaps, in microseconds: half the sum of the round-trip
-    /// time and four times the variance, rounded down, and at least 20 ms (section 4.8.2).
+    /// Returns the interval between two periodic NAKs, which report all gaps, in microseconds: half the sum of the
+    /// round-trip time and four times the variance, rounded down, and at least 20 ms (section 4.8.2).
     pub fn nak_interval(&self) -> u64
         ensures { result ≡ interval_of (round_trip_of self.now) }
     {
         ((u64::from(self.time) + 4 * u64::from(self.variance)) / 2).max(MIN_NAK_INTERVAL_US)
     }
 
-    /// The time, in microseconds, after which everything in flight is sent again, counted from the last new
-    /// acknowledgement or the last data packet sent, whichever was later: the round-trip time plus four times the
+    /// Returns the time, in microseconds, after which all packets in flight are retransmitted, counted from the last
+    /// new acknowledgement or the last data packet sent, whichever was later: the round-trip time plus four times the
     /// variance plus 20 ms (our choice). It can exceed 32 bits.
     pub fn resend_after(&self) -> u64
         ensures { result ≡ resend_of (round_trip_of self.now) }
@@ -61,14 +61,14 @@ impl Rtt {
         u64::from(self.time) + 4 * u64::from(self.variance) + RESEND_MARGIN_US
     }
 
-    /// The smoothed round-trip time, in microseconds, as an ACK carries it.
+    /// Returns the smoothed round-trip time, in microseconds, as in an ACK.
     pub fn rtt(&self) -> u32
         ensures { result ≡ (round_trip_of self.now).time }
     {
         self.time
     }
 
-    /// The variance, in microseconds, as an ACK carries it.
+    /// Returns the variance, in microseconds, as in an ACK.
     pub fn variance(&self) -> u32
         ensures { result ≡ (round_trip_of self.now).variance }
     {

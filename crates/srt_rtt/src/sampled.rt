@@ -1,4 +1,4 @@
-//! The round-trip time and its variance as samples give them, with what the first sample does
+//! The round-trip time and its variance as computed from samples, and the effect of the first sample
 //! (draft-sharabayko-srt-01, section 4.10).
 
 ghost use Rattle.std.specs.Prelude.{◌≡◌, ℕ, ◌≤◌, List, [], ◌∷◌};
@@ -8,7 +8,7 @@ ghost use Rattle.srt_rtt.specs.RoundTrip.{round_trip_of};
 use crate::round_trip::Rtt;
 use srt_seq::Callers;
 
-/// What a sample does to the round-trip time and its variance.
+/// The effect of a sample on the round-trip time and its variance.
 #[derive(Clone, Copy, Debug, PartialEq, Eq)]
 pub enum Fold {
     /// The sample becomes the round-trip time, and half of it the variance.
@@ -21,15 +21,15 @@ pub enum Fold {
 #[derive(Clone, Copy, Debug, PartialEq, Eq)]
 pub struct SampledRtt {
     values: Rtt,
-    /// What the next sample does.
+    /// The effect of the next sample.
     next: Fold,
 }
 
 impl SampledRtt {
     ghost use Rattle.srt_rtt.specs.RoundTrip.{StandsFor, values_of};
 
-    /// The values before the first sample: 100 ms, and a variance of 50 ms. Where the callers speak libsrt, the first
-    /// sample replaces them.
+    /// Returns the values before the first sample: 100 ms, and a variance of 50 ms. For callers that run libsrt, the
+    /// first sample replaces them.
     pub fn start(callers: Callers) -> SampledRtt
         ensures { StandsFor callers result [] }
     {
@@ -42,8 +42,9 @@ impl SampledRtt {
         }
     }
 
-    /// Takes one more sample, in microseconds. The first one of callers that speak libsrt becomes the round-trip time,
-    /// and half of it, rounded down, the variance; every other one is smoothed, as `Rtt::sample` does.
+    /// Updates the values with one more sample, in microseconds. For callers that run libsrt, the first sample becomes
+    /// the round-trip time, and half of it, rounded down, the variance. Every other sample is smoothed, as
+    /// `Rtt::sample` does.
     pub fn sample(&mut self, sample: u64)
         requires { sample ≤ 10_000_000 }
         ensures { (callers : TheCallers) (samples : List ℕ) → StandsFor callers self.old samples → StandsFor callers self.new (sample ∷ samples) }
@@ -55,7 +56,7 @@ impl SampledRtt {
         self.next = Fold::Smooth;
     }
 
-    /// The values after all samples so far.
+    /// Returns the values after all samples so far.
     pub fn values(&self) -> Rtt
         ensures { round_trip_of result ≡ values_of self.now }
     {

@@ -1,10 +1,10 @@
--- Bytes put at the end of a text.
+-- Bytes appended to a text.
 use Rattle.std.proofs.Common.{◌≡◌, ℕ, ◌+◌, ◌*◌, ◌<◌, List, [], ◌++◌, length, take, get_or, ap, sym, ◌∙◌, append_assoc, suc, arith}
 use Rattle.std.proofs.lemmas.List.{take_more, flat_map_more}
 use Rattle.std.specs.List.{flat_map}
 use Rattle.srt_samples.specs.Samples.{group, groups}
 
--- one piece more of a text that is put piece by piece
+-- one more element of a list that is written element by element
 pub one_more : {A : Type 0} (f : A → List ℕ) (d : A) (xs : List A) (i : ℕ)
     → i < length xs → flat_map f (take (i + 1) xs) ≡ flat_map f (take i xs) ++ f (get_or xs i d)
 one_more f d xs i within =
@@ -14,6 +14,6 @@ one_more f d xs i within =
 pub one_group_more : (text : List ℕ) (i : ℕ) → groups text (i + 1) ≡ groups text i ++ group text (4 * i)
 one_group_more text i = let e : i + 1 ≡ suc i = omega arith in ap (groups text) e
 
--- one text put behind another
+-- one text appended to another
 pub joined : (x y z a b : List ℕ) → y ≡ x ++ a → z ≡ y ++ b → z ≡ x ++ (a ++ b)
 joined x y z a b e f = f ∙ ap (λ (l : List ℕ). l ++ b) e ∙ append_assoc x a b

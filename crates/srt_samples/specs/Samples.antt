@@ -20,7 +20,7 @@ use Rattle.srt_samples.specs.declared.handshakes.Block.TheVariants.{Request, Res
 abbrev pub word : ℕ → List ℕ
 word n = to_be_bytes w32 n
 
--- words one after another
+-- a sequence of words
 abbrev pub words : List ℕ → List ℕ
 words ns = flat_map word ns
 
@@ -28,37 +28,38 @@ words ns = flat_map word ns
 abbrev pub header_bytes : ℕ → ℕ → ℕ → ℕ → List ℕ
 header_bytes first second stamp destination = words (first ∷ second ∷ stamp ∷ destination ∷ [])
 
--- a header, a body, and the bytes behind it
+-- a datagram: a header, a body, and the bytes after it
 abbrev pub packet : ℕ → ℕ → ℕ → ℕ → List ℕ → List ℕ → List ℕ
 packet first second stamp destination body rest = header_bytes first second stamp destination ++ body ++ rest
 
--- an entry of a loss list: a range is its first number with the top bit set, and its last one
+-- an entry of a loss list: a range is its first number with the top bit set, and its last number (appendix A)
 abbrev pub loss_bytes : Loss → List ℕ
 loss_bytes (Single number) = words (number ∷ [])
 loss_bytes (Range first last) = words (((first + 2 ^ 31) % 2 ^ 32) ∷ last ∷ [])
 
--- a Full ACK, whose last three words are 0
+-- the words of a Full ACK; the last three are 0 (section 3.2.4)
 abbrev pub ack_words : Acknowledged → List ℕ
 ack_words told = told.point ∷ told.rtt ∷ told.variance ∷ told.available ∷ 0 ∷ 0 ∷ 0 ∷ []
 
--- the word of a handshake type
+-- the word of a handshake type (section 3.2.1, table 4)
 abbrev pub phase_word : Phase → ℕ
 phase_word Induction = 1
 phase_word Conclusion = 0xffff_ffff
 phase_word (Refused code) = code
 
--- a handshake up to its extension blocks
+-- the bytes of a handshake before its extension blocks (section 3.2.1)
 abbrev pub handshake_bytes : Handshake → List ℕ
 handshake_bytes h = words (h.version ∷ h.fields ∷ h.initial ∷ h.mtu ∷ h.window ∷ phase_word h.phase ∷ h.id ∷ h.cookie ∷ h.address ∷ 0 ∷ 0 ∷ 0 ∷ [])
 
--- a caller's induction and its conclusion, up to their extension blocks, from 127.0.0.1
+-- the words of a caller's induction before the extension blocks, from 127.0.0.1 (section 4.3.1.1)
 abbrev pub induction_words : Caller → List ℕ
 induction_words c = 4 ∷ 2 ∷ c.initial ∷ c.mtu ∷ c.window ∷ 1 ∷ c.id ∷ 0 ∷ 0x0100_007f ∷ 0 ∷ 0 ∷ 0 ∷ []
 
+-- the words of a caller's conclusion before the extension blocks, from 127.0.0.1 (section 4.3.1.2)
 abbrev pub conclusion_words : Caller → List ℕ
 conclusion_words c = 5 ∷ 5 ∷ c.initial ∷ c.mtu ∷ c.window ∷ 0xffff_ffff ∷ c.id ∷ c.cookie ∷ 0x0100_007f ∷ 0 ∷ 0 ∷ 0 ∷ []
 
--- HSREQ or HSRSP, with its type and its length in words
+-- HSREQ or HSRSP, with its type and its length in words (section 3.2.1.1)
 abbrev pub offer_words : ℕ → Offer → List ℕ
 offer_words kind o = (kind * 0x1_0000 + 3) ∷ o.version ∷ o.flags ∷ (o.receiver_ms * 0x1_0000 + o.sender_ms) ∷ []
 
@@ -66,16 +67,16 @@ offer_words kind o = (kind * 0x1_0000 + 3) ∷ o.version ∷ o.flags ∷ (o.rece
 abbrev pub byte_at : List ℕ → ℕ → ℕ
 byte_at text at = slice_index_or text at 0
 
--- four bytes at an offset in reversed order
+-- the four bytes at an offset in reverse order (section 3.2.1.3)
 abbrev pub group : List ℕ → ℕ → List ℕ
 group text at = byte_at text (at + 3) ∷ byte_at text (at + 2) ∷ byte_at text (at + 1) ∷ byte_at text at ∷ []
 
--- the first groups of four bytes
+-- the first n groups of four bytes
 abbrev pub groups : List ℕ → ℕ → List ℕ
 groups text zero = []
 groups text (suc n) = groups text n ++ group text (4 * n)
 
--- how many groups a text of at most 512 bytes has
+-- the number of groups of a text, of which at most 512 bytes are written
 abbrev pub group_count : List ℕ → ℕ
 group_count text = (min (length text) 512 + 3) / 4
 
@@ -90,7 +91,7 @@ block_bytes (Response offer) = words (offer_words 2 offer)
 block_bytes (StreamId text) = text_bytes 5 text.now
 block_bytes (Congestion text) = text_bytes 6 text.now
 
--- what follows the header
+-- the bytes after the header, up to surplus ones
 abbrev pub body_bytes : Body → List ℕ
 body_bytes Nothing = words []
 body_bytes (Point point) = words (point ∷ [])
@@ -100,6 +101,6 @@ body_bytes (Losses losses) = flat_map loss_bytes losses.now
 body_bytes (Dropped first last) = words (first ∷ last ∷ [])
 body_bytes (Shakes handshake blocks) = handshake_bytes handshake ++ flat_map block_bytes blocks.now
 
--- the datagram
+-- the bytes of the datagram
 abbrev pub bytes_of : Sample → List ℕ
 bytes_of s = packet s.first s.second s.stamp s.destination (body_bytes s.body) s.rest.now

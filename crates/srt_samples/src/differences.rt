@@ -1,4 +1,4 @@
-//! Where two datagrams differ, in the words of the draft: an assertion that prints it tells what was received.
+//! The difference between two datagrams, in the terms of the draft, for the messages of failed assertions.
 
 ghost use Rattle.std.specs.Prelude.{◌≡◌, IsNone};
 ghost use Rattle.srt_samples.specs.Samples.{byte_at};
@@ -28,7 +28,7 @@ pub enum Kind {
     Other,
 }
 
-/// The part of a datagram in which a byte stands (section 3).
+/// The part of a datagram that contains a byte (section 3).
 #[derive(Clone, Copy, Debug, PartialEq, Eq)]
 pub enum Field {
     /// The sequence number, or the type of a control packet: bytes 0 to 3.
@@ -39,22 +39,22 @@ pub enum Field {
     Timestamp,
     /// The destination's socket ID: bytes 12 to 15.
     Destination,
-    /// What follows the header.
+    /// The bytes after the header.
     Contents,
 }
 
-/// What a datagram says.
+/// The summary of a datagram.
 #[derive(Clone, Copy, Debug, PartialEq, Eq)]
 pub struct Outline {
-    /// Its kind.
+    /// The kind.
     pub kind: Kind,
-    /// Its length, in bytes.
+    /// The length, in bytes.
     pub length: usize,
-    /// Its sequence number; of a control packet its first word.
+    /// The sequence number; of a control packet the first word.
     pub first: u32,
-    /// Its second word.
+    /// The second word.
     pub second: u32,
-    /// Its timestamp, in microseconds.
+    /// The timestamp, in microseconds.
     pub stamp: u32,
     /// The destination's socket ID.
     pub destination: u32,
@@ -62,20 +62,20 @@ pub struct Outline {
     pub word: u32,
 }
 
-/// Two datagrams that differ.
+/// The first difference between two datagrams.
 #[derive(Clone, Copy, Debug, PartialEq, Eq)]
 pub struct Difference {
     /// The offset of the first byte that differs, or the length of the shorter datagram.
     pub at: usize,
-    /// The part in which it stands.
+    /// The part that contains this byte.
     pub field: Field,
     /// The received datagram.
     pub came: Outline,
-    /// The datagram that was wanted.
+    /// The expected datagram.
     pub wanted: Outline,
 }
 
-/// The byte at this offset, or 0 past the end.
+/// Returns the byte at this offset, or 0 past the end.
 fn byte_at(text: &[u8], at: usize) -> u8
     ensures { result ≡ byte_at text.now at }
 {
@@ -85,7 +85,7 @@ fn byte_at(text: &[u8], at: usize) -> u8
     }
 }
 
-/// The word at this offset, with zeros past the end.
+/// Returns the word at this offset, with zeros past the end.
 fn word_at(text: &[u8], at: usize) -> u32 {
     u32::from_be_bytes([
         byte_at(text, at),
@@ -95,7 +95,7 @@ fn word_at(text: &[u8], at: usize) -> u32 {
     ])
 }
 
-/// The kind of a datagram.
+/// Returns the kind of a datagram.
 fn kind_of(bytes: &[u8]) -> Kind {
     if bytes.len() < 16 {
         return Kind::TooShort;
@@ -113,7 +113,7 @@ fn kind_of(bytes: &[u8]) -> Kind {
     }
 }
 
-/// The part of a datagram at this offset.
+/// Returns the part of a datagram at this offset.
 fn field_at(at: usize) -> Field {
     match at {
         0..=3 => Field::NumberOrType,
@@ -124,7 +124,7 @@ fn field_at(at: usize) -> Field {
     }
 }
 
-/// What a datagram says, and its word at this offset.
+/// Returns the summary of a datagram, with its word at this offset.
 fn outline_of(bytes: &[u8], at: usize) -> Outline {
     Outline {
         kind: kind_of(bytes),
@@ -137,7 +137,7 @@ fn outline_of(bytes: &[u8], at: usize) -> Outline {
     }
 }
 
-/// The offset of the first byte that differs, or the length of the shorter text.
+/// Returns the offset of the first byte that differs, or the length of the shorter text.
 fn first_other(came: &[u8], wanted: &[u8]) -> usize {
     let shorter = came.len().min(wanted.len());
     for at in 0..shorter {
@@ -148,7 +148,8 @@ fn first_other(came: &[u8], wanted: &[u8]) -> usize {
     shorter
 }
 
-/// Where the received datagram differs from the wanted one: `None` if and only if the bytes are the same.
+/// Returns the first difference of the received datagram from the expected one: `None` if and only if the bytes are the
+/// same.
 pub fn first_difference(came: &[u8], wanted: &[u8]) -> Option<Difference>
     ensures none { IsNone result → came.now ≡ wanted.now }
     ensures same { came.now ≡ wanted.now → IsNone result }

@@ -1,4 +1,4 @@
-//! Handshakes, of callers and of listeners (section 3.2.1).
+//! Handshakes of callers and of listeners (section 3.2.1).
 
 ghost use Rattle.std.specs.Prelude.{◌≡◌, [], ◌∷◌, ◌++◌};
 ghost use Rattle.std.specs.List.{flat_map};
@@ -6,18 +6,18 @@ ghost use Rattle.srt_samples.specs.Samples.{bytes_of, packet, handshake_bytes, b
 
 use crate::samples::{Sample, handshake_of};
 
-/// What a caller says of itself in both of its handshakes.
+/// The fields of a caller that both of its handshakes have.
 #[derive(Clone, Copy)]
 pub struct Caller {
-    /// Its socket ID.
+    /// The socket ID.
     pub id: u32,
     /// The sequence number of the first data packet.
     pub initial: u32,
-    /// The maximum transmission unit, in bytes with all headers.
+    /// The maximum transmission unit, in bytes, including all headers.
     pub mtu: u32,
-    /// The flow window, in packets.
+    /// The maximum flow window size, in packets.
     pub window: u32,
-    /// The cookie that it gives back in its conclusion.
+    /// The cookie that it returns in its conclusion.
     pub cookie: u32,
 }
 
@@ -41,9 +41,9 @@ pub struct Handshake {
     pub fields: u32,
     /// The sequence number of the first data packet.
     pub initial: u32,
-    /// The maximum transmission unit, in bytes with all headers.
+    /// The maximum transmission unit, in bytes, including all headers.
     pub mtu: u32,
-    /// The flow window, in packets.
+    /// The maximum flow window size, in packets.
     pub window: u32,
     /// The handshake type.
     pub phase: Phase,
@@ -55,16 +55,16 @@ pub struct Handshake {
     pub address: u32,
 }
 
-/// What HSREQ and HSRSP say (section 3.2.1.1).
+/// The contents of HSREQ and HSRSP (section 3.2.1.1).
 #[derive(Clone, Copy)]
 pub struct Offer {
     /// The version of SRT.
     pub version: u32,
     /// The flags.
     pub flags: u32,
-    /// The receiver's delay, in milliseconds.
+    /// The receiver TSBPD delay, in milliseconds.
     pub receiver_ms: u16,
-    /// The sender's delay, in milliseconds.
+    /// The sender TSBPD delay, in milliseconds.
     pub sender_ms: u16,
 }
 
@@ -81,14 +81,14 @@ pub enum Block<'a> {
     Congestion(&'a str),
 }
 
-/// A handshake with these words and blocks.
+/// Returns a handshake with these words and blocks.
 pub fn handshake_packet<'a>(handshake: Handshake, blocks: &'a [Block<'a>]) -> Sample<'a>
     ensures { bytes_of result ≡ packet 0x8000_0000 0 0 0 (handshake_bytes handshake ++ flat_map block_bytes blocks.now) [] }
 {
     handshake_of(handshake, blocks)
 }
 
-/// A caller's induction, from 127.0.0.1 (section 4.3.1.1).
+/// Returns a caller's induction, from 127.0.0.1 (section 4.3.1.1).
 pub fn induction<'a>(caller: Caller) -> Sample<'a>
     ensures { bytes_of result ≡ packet 0x8000_0000 0 0 0 (words (induction_words caller) ++ []) [] }
 {
@@ -108,8 +108,8 @@ pub fn induction<'a>(caller: Caller) -> Sample<'a>
     )
 }
 
-/// A caller's conclusion, from 127.0.0.1, with these blocks; its extension field says HSREQ and CONFIG, whatever the
-/// blocks are (section 4.3.1.2).
+/// Returns a caller's conclusion, from 127.0.0.1, with these blocks; its extension field has the flags HSREQ and
+/// CONFIG, whatever the blocks are (section 4.3.1.2).
 pub fn conclusion<'a>(caller: Caller, blocks: &'a [Block<'a>]) -> Sample<'a>
     ensures { bytes_of result ≡ packet 0x8000_0000 0 0 0 (words (conclusion_words caller) ++ flat_map block_bytes blocks.now) [] }
 {

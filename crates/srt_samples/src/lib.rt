@@ -1,13 +1,13 @@
-//! Datagrams for tests, written field by field (draft-sharabayko-srt-01, sections 3 and 3.2, appendix A).
+//! Datagrams for tests, defined field by field (draft-sharabayko-srt-01, sections 3 and 3.2, appendix A).
 //!
-//! It uses nothing of the gateway, so that a test whose datagrams are written here can show a mistake of the gateway's
-//! own reading and writing. Its own tests hold every kind of packet against bytes of real callers, or against the
-//! figures of the draft.
+//! It uses no other crate of the gateway, so that a test with these datagrams can reveal an error in the gateway's
+//! decoding or encoding. Its tests compare every kind of packet with bytes of real callers, or with the diagrams of the
+//! draft.
 //!
-//! A [`Sample`] is a datagram with its fields. `samples.rt` begins one of each kind, as [`data_packet`] or [`nak`],
-//! with timestamp 0 and destination 0; its methods, as [`Sample::stamp`] and [`Sample::to`], return it with one field
-//! changed. `handshakes.rt` has the handshakes. [`Sample::bytes`], in `writing.rt`, writes it. [`first_difference`], in
-//! `differences.rt`, tells where the received bytes differ from those that were wanted.
+//! A [`Sample`] is a datagram with its fields. `samples.rt` has a constructor for each kind, such as [`data_packet`] or
+//! [`nak`], with timestamp 0 and destination 0; methods such as [`Sample::stamp`] and [`Sample::to`] return it with one
+//! field changed. `handshakes.rt` has the handshakes. [`Sample::bytes`], in `writing.rt`, returns its bytes.
+//! [`first_difference`], in `differences.rt`, returns where received bytes differ from the expected ones.
 //!
 //! `specs/Samples.antt` defines the bytes of each sample.
 #![tactic(auto)]

@@ -1,5 +1,5 @@
-//! Each kind of sample against bytes from outside. The handshakes' are those of libsrt 1.5.1 and ffmpeg, as captured;
-//! the others were written with Python's struct.pack, field by field after the figures of the draft (section 3).
+//! Each kind of sample against bytes from outside. The handshakes are those of libsrt 1.5.1 and ffmpeg, as captured.
+//! The others were computed by Python's struct.pack, field by field from the diagrams of the draft (section 3).
 
 use crate::{
     Acknowledged, Block, Caller, Difference, Field, Handshake, Kind, Loss, Offer, Outline, Phase,
@@ -22,7 +22,7 @@ fn assert_bytes(
     Ok(())
 }
 
-/// HSREQ of libsrt 1.5.1.
+/// Returns an HSREQ of libsrt 1.5.1.
 fn offer<'a>(flags: u32, receiver_ms: u16, sender_ms: u16) -> Block<'a> {
     Block::Request(Offer {
         version: 0x1_0501,
@@ -36,7 +36,7 @@ fn offer<'a>(flags: u32, receiver_ms: u16, sender_ms: u16) -> Block<'a> {
 fn data_packets(rt: HostRuntime) -> Result<(), Fail> {
     let packet = data_packet(9).stamp(111_000).to(2).payload(b"hi");
     assert_bytes(&rt, packet, "00000009c00000010001b198000000026869")?;
-    // Sent again.
+    // Retransmitted.
     let again = packet.flags(0xc400_0001);
     assert_bytes(&rt, again, "00000009c40000010001b198000000026869")
 }
@@ -125,7 +125,7 @@ fn handshakes_of_a_publisher(rt: HostRuntime) -> Result<(), Fail> {
     )
 }
 
-/// The blocks of a caller in buffer mode that asks for a stream by its name.
+/// The blocks of a caller in buffer mode that requests a stream by its name.
 #[test]
 fn a_conclusion_in_buffer_mode(rt: HostRuntime) -> Result<(), Fail> {
     let caller = Caller {
@@ -218,7 +218,7 @@ fn a_difference_is_told_in_words(rt: HostRuntime) -> Result<(), Fail> {
     Ok(())
 }
 
-/// The word at the end of one that is only longer is what the other one lacks.
+/// Where one datagram is a prefix of the other, its differing word is 0.
 #[test]
 fn a_longer_datagram_differs_at_its_end(rt: HostRuntime) -> Result<(), Fail> {
     let came = light_ack(64).to(1).bytes(rt.alloc())?;

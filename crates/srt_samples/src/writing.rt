@@ -1,4 +1,4 @@
-//! The bytes of a sample. An error means that memory was refused; the text then has the bytes of all calls before.
+//! The bytes of a sample. An error is a failed allocation; the text then has the bytes of all previous calls.
 
 ghost use Rattle.std.specs.Prelude.{◌≡◌, ◌++◌, ◌≤◌, ◌<◌, IfOk, OnOk};
 ghost use Rattle.std.specs.List.{flat_map};
@@ -9,21 +9,21 @@ use crate::handshakes::{Block, Handshake, Offer, Phase};
 use crate::samples::{Acknowledged, Body, Loss, Sample};
 use std::alloc::{AllocError, Global};
 
-/// Puts bytes at the end of a text.
+/// Appends bytes to a text.
 fn put(out: &mut Vec<u8>, bytes: &[u8]) -> Result<(), AllocError>
     ensures { OnOk result (out.new.items ≡ out.old.items ++ bytes.now) }
 {
     out.extend_from_slice(bytes)
 }
 
-/// Puts a word, its most significant byte first.
+/// Appends a word, its most significant byte first.
 fn put_word(out: &mut Vec<u8>, word: u32) -> Result<(), AllocError>
     ensures { OnOk result (out.new.items ≡ out.old.items ++ word_bytes word) }
 {
     put(out, &word.to_be_bytes())
 }
 
-/// Puts words.
+/// Appends words.
 #[tactic(auto, using(crate::proofs::Puts::one_more))]
 fn put_words(out: &mut Vec<u8>, list: &[u32]) -> Result<(), AllocError>
     ensures { OnOk result (out.new.items ≡ out.old.items ++ words list.now) }
@@ -34,7 +34,7 @@ fn put_words(out: &mut Vec<u8>, list: &[u32]) -> Result<(), AllocError>
     Ok(())
 }
 
-/// Puts an entry of a loss list: a range is its first number with the top bit set, and its last one (appendix A).
+/// Appends an entry of a loss list: a range is its first number with the top bit set, and its last number (appendix A).
 fn put_loss(out: &mut Vec<u8>, loss: Loss) -> Result<(), AllocError>
     ensures { OnOk result (out.new.items ≡ out.old.items ++ loss_bytes loss) }
 {
@@ -44,7 +44,7 @@ fn put_loss(out: &mut Vec<u8>, loss: Loss) -> Result<(), AllocError>
     }
 }
 
-/// Puts a loss list.
+/// Appends a loss list.
 #[tactic(auto, using(crate::proofs::Puts::one_more))]
 fn put_losses(out: &mut Vec<u8>, losses: &[Loss]) -> Result<(), AllocError>
     ensures { OnOk result (out.new.items ≡ out.old.items ++ flat_map loss_bytes losses.now) }
@@ -55,7 +55,7 @@ fn put_losses(out: &mut Vec<u8>, losses: &[Loss]) -> Result<(), AllocError>
     Ok(())
 }
 
-/// The word of a handshake type (section 3.2.1, table 4).
+/// Returns the word of a handshake type (section 3.2.1, table 4).
 fn phase_word(phase: Phase) -> u32
     ensures { result ≡ phase_word phase }
 {
@@ -66,7 +66,7 @@ fn phase_word(phase: Phase) -> u32
     }
 }
 
-/// Puts the words of a handshake before its extension blocks.
+/// Appends the words of a handshake before its extension blocks.
 fn put_handshake(out: &mut Vec<u8>, handshake: Handshake) -> Result<(), AllocError>
     ensures { OnOk result (out.new.items ≡ out.old.items ++ handshake_bytes handshake) }
 {
@@ -89,7 +89,7 @@ fn put_handshake(out: &mut Vec<u8>, handshake: Handshake) -> Result<(), AllocErr
     )
 }
 
-/// The byte at this offset, or 0 past the end.
+/// Returns the byte at this offset, or 0 past the end.
 fn byte_at(text: &[u8], at: usize) -> u8
     ensures { result ≡ byte_at text.now at }
 {
@@ -99,7 +99,7 @@ fn byte_at(text: &[u8], at: usize) -> u8
     }
 }
 
-/// Puts the four bytes of a text at an offset in reversed order, with zeros past its end (section 3.2.1.3).
+/// Appends the four bytes of a text at an offset in reverse order, with zeros past its end (section 3.2.1.3).
 fn put_group(out: &mut Vec<u8>, text: &[u8], at: usize) -> Result<(), AllocError>
     requires { at < 512 }
     ensures { OnOk result (out.new.items ≡ out.old.items ++ group text.now at) }
@@ -115,7 +115,7 @@ fn put_group(out: &mut Vec<u8>, text: &[u8], at: usize) -> Result<(), AllocError
     )
 }
 
-/// Puts the first groups of four bytes of a text, as many as are asked for.
+/// Appends the first `count` groups of four bytes of a text.
 #[tactic(auto, using(crate::proofs::Puts::one_group_more))]
 fn put_groups(out: &mut Vec<u8>, text: &[u8], count: u32) -> Result<(), AllocError>
     requires { count ≤ 128 }
@@ -127,7 +127,7 @@ fn put_groups(out: &mut Vec<u8>, text: &[u8], count: u32) -> Result<(), AllocErr
     Ok(())
 }
 
-/// Puts a block of this type with a text, in groups of four bytes. Of a text that is too long it puts the first 512
+/// Appends a block of this type with a text, in groups of four bytes. A text that is too long is cut off after 512
 /// bytes.
 #[tactic(auto, using(crate::proofs::Puts::joined))]
 fn put_text(out: &mut Vec<u8>, kind: u16, text: &str) -> Result<(), AllocError>
@@ -139,7 +139,7 @@ fn put_text(out: &mut Vec<u8>, kind: u16, text: &str) -> Result<(), AllocError>
     put_groups(out, bytes, count)
 }
 
-/// Puts HSREQ, of type 1, or HSRSP, of type 2 (section 3.2.1.1).
+/// Appends HSREQ, of type 1, or HSRSP, of type 2 (section 3.2.1.1).
 fn put_offer(out: &mut Vec<u8>, kind: u16, offer: Offer) -> Result<(), AllocError>
     ensures { OnOk result (out.new.items ≡ out.old.items ++ words (offer_words kind offer)) }
 {
@@ -154,7 +154,7 @@ fn put_offer(out: &mut Vec<u8>, kind: u16, offer: Offer) -> Result<(), AllocErro
     )
 }
 
-/// Puts an extension block.
+/// Appends an extension block.
 fn put_block(out: &mut Vec<u8>, block: Block<'_>) -> Result<(), AllocError>
     ensures { OnOk result (out.new.items ≡ out.old.items ++ block_bytes block.entry) }
 {
@@ -166,7 +166,7 @@ fn put_block(out: &mut Vec<u8>, block: Block<'_>) -> Result<(), AllocError>
     }
 }
 
-/// Puts extension blocks.
+/// Appends extension blocks.
 #[tactic(auto, using(crate::proofs::Puts::one_more))]
 fn put_blocks(out: &mut Vec<u8>, blocks: &[Block<'_>]) -> Result<(), AllocError>
     ensures { OnOk result (out.new.items ≡ out.old.items ++ flat_map block_bytes blocks.now) }
@@ -177,7 +177,7 @@ fn put_blocks(out: &mut Vec<u8>, blocks: &[Block<'_>]) -> Result<(), AllocError>
     Ok(())
 }
 
-/// Puts a handshake and its extension blocks.
+/// Appends a handshake and its extension blocks.
 #[tactic(auto, using(crate::proofs::Puts::joined))]
 fn put_handshake_and_blocks(
     out: &mut Vec<u8>,
@@ -190,7 +190,7 @@ fn put_handshake_and_blocks(
     put_blocks(out, blocks)
 }
 
-/// Puts the words of a Full ACK.
+/// Appends the words of a Full ACK.
 fn put_acknowledged(out: &mut Vec<u8>, told: Acknowledged) -> Result<(), AllocError>
     ensures { OnOk result (out.new.items ≡ out.old.items ++ words (ack_words told)) }
 {
@@ -200,7 +200,7 @@ fn put_acknowledged(out: &mut Vec<u8>, told: Acknowledged) -> Result<(), AllocEr
     )
 }
 
-/// Puts what follows the header.
+/// Appends the bytes after the header.
 fn put_body(out: &mut Vec<u8>, body: Body<'_>) -> Result<(), AllocError>
     ensures { OnOk result (out.new.items ≡ out.old.items ++ body_bytes body.entry) }
 {
@@ -215,7 +215,7 @@ fn put_body(out: &mut Vec<u8>, body: Body<'_>) -> Result<(), AllocError>
     }
 }
 
-/// Puts the words of the header.
+/// Appends the words of the header.
 fn put_header(out: &mut Vec<u8>, sample: &Sample<'_>) -> Result<(), AllocError>
     ensures { OnOk result (out.new.items ≡ out.old.items ++ header_bytes sample.now.first sample.now.second sample.now.stamp sample.now.destination) }
 {
@@ -231,7 +231,7 @@ fn put_header(out: &mut Vec<u8>, sample: &Sample<'_>) -> Result<(), AllocError>
 }
 
 impl<'a> Sample<'a> {
-    /// The datagram. It fails only if memory is refused.
+    /// Returns the bytes of the datagram. Its only error is a failed allocation.
     #[tactic(auto, using(crate::proofs::Puts::joined))]
     pub fn bytes(&self, alloc: Global) -> Result<Vec<u8>, AllocError>
         ensures { IfOk result (λ bytes. bytes.items ≡ bytes_of self.now) }

@@ -1,4 +1,4 @@
--- An integer is its remainder plus a multiple of the modulus; the lifted time.
+-- An integer is its remainder plus a multiple of the modulus; the time that a timestamp denotes.
 use Rattle.std.proofs.Common.{◌≡◌, ℕ, ◌+◌, ◌-◌, ◌/◌, ◌%◌, ◌^◌, ℤ, pos, negsuc, ◌+ℤ◌, ◌-ℤ◌, ◌*ℤ◌, ◌≤ℤ◌, ◌<ℤ◌, arith}
 use Rattle.std.specs.Int.{int_rem_euclid}
 use Rattle.std.proofs.lemmas.Int.{ints}
@@ -16,7 +16,7 @@ rem_high : (z : ℤ) → int_rem_euclid z (pos (2 ^ 32)) <ℤ pos (2 ^ 32)
 rem_high (pos a) = omega (arith, ints)
 rem_high (negsuc a) = omega (arith, ints)
 
--- the lifted time, if it is that many multiples of 2^32 away from the timestamp read in the same multiple as e
+-- the time of a timestamp, if it is k multiples of 2^32 away from the timestamp in the same multiple as e
 pub lifted : (t : ℕ) (e inside k n : ℤ) → inside ≡ int_rem_euclid e (pos (2 ^ 32))
     → n ≡ e +ℤ (pos t -ℤ inside) +ℤ (k *ℤ pos (2 ^ 32)) → e ≤ℤ (n +ℤ pos (2 ^ 31)) → n <ℤ (e +ℤ pos (2 ^ 31))
     → IsLift t e n

@@ -1,11 +1,11 @@
--- Ranges may be counted from an initial number.
+-- Ranges may be relative to an initial number.
 use Rattle.std.proofs.Common.{◌≡◌, ℕ, ◌+◌, ◌^◌, ◌<◌, true, refl, ap, ◌∙◌, arith}
 use Rattle.std.specs.Prelude.{nat_lt, nat_le}
 use Rattle.std.proofs.lemmas.Bool.{lt-ltb}
 use Rattle.srt_seq.specs.Window.{offset_of, counted_from}
 use Rattle.srt_seq.specs.Runs.{RangesFromInitial}
 
--- a word counted from the initial number is its offset from that number
+-- a word relative to the initial number is its offset from that number
 pub counted_is : (initial word : ℕ) → word < 2 ^ 31 → counted_from initial word ≡ offset_of word initial
 counted_is initial word lt = let b : nat_lt word (2 ^ 31) ≡ true = lt-ltb _ _ lt in rw b refl
 

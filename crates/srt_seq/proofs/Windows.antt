@@ -1,4 +1,4 @@
--- The function in_window gives the only number, and numbers may be counted from an initial one.
+-- The value of in_window is the only number of the window, and numbers may be relative to an initial one.
 use Rattle.std.proofs.Common.{arith}
 use Rattle.std.proofs.lemmas.Bool.Decides.{nat_tests}
 use Rattle.srt_seq.specs.Window.{in_window, InWindowIsTheNumber, NumbersFromInitial}

@@ -2,15 +2,15 @@
 use Rattle.std.specs.Prelude.{ℕ, ◌+◌, ◌-◌, ◌%◌, ◌^◌}
 use Rattle.srt_seq.specs.declared.numbers.Msg26.{Msg26}
 
--- the k-th value, counted from 0, of a counter that runs from 1 to many and then starts at 1 again
+-- the k-th value, from k = 0, of a counter that runs from 1 to many and then starts at 1 again
 abbrev pub round_number : (many k : ℕ) → ℕ
 round_number many k = 1 + k % many
 
--- the message number of a subscriber's k-th packet, counted from 0: after 2^26 - 1 comes 1 (section 3.1)
+-- the message number of a subscriber's k-th packet, from k = 0: 1 follows 2^26 - 1 (section 3.1)
 abbrev pub message_number : ℕ → ℕ
 message_number k = round_number (2 ^ 26 - 1) k
 
--- the number of the k-th Full ACK of a publisher's session, counted from 0: after 2^32 - 1 comes 1 (our choice)
+-- the acknowledgement number of the k-th Full ACK of a publisher's session, from k = 0: 1 follows 2^32 - 1 (our choice)
 abbrev pub ack_number : ℕ → ℕ
 ack_number k = round_number (2 ^ 32 - 1) k
 

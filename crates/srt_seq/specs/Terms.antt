@@ -5,6 +5,7 @@ use Rattle.srt_seq.specs.declared.shared.Entry.{Entry}
 use Rattle.srt_seq.specs.declared.shared.Rules.{Rules}
 use Rattle.srt_seq.specs.Access.{AccessTerms, access_of}
 
+-- the configuration of a route; the fields have the units and limits of `Entry` in `src/shared.rt`
 pub record Terms : Type 0 where
   pub name : List ℕ
   pub mode : Mode
@@ -16,6 +17,7 @@ pub record Terms : Type 0 where
   pub access : AccessTerms
   pub rules : Rules
 
+-- the configuration that a value of the code represents
 abbrev pub terms_of : Entry → Terms
 terms_of e = record {
   name = string_bytes e.name;

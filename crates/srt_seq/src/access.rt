@@ -1,4 +1,4 @@
-//! Who may call a route: networks and keys (our choice).
+//! Access control of routes: networks and keys (our choice).
 
 ghost use Rattle.std.specs.Prelude.{◌≡◌, ◌≤◌, option_map, string_bytes, IfOk, length};
 ghost use Rattle.std.specs.List.{list_any};
@@ -10,10 +10,10 @@ use crate::shared::{Access, Network, Peer, Role, RoleAccess};
 use crate::words::read_word;
 use std::alloc::{AllocError, Global};
 
-/// The first bytes of an IPv4 address in the form `::ffff:a.b.c.d`.
+/// The first 12 bytes of an IPv4 address in the form `::ffff:a.b.c.d`.
 const IPV4_FRONT: [u8; 12] = [0, 0, 0, 0, 0, 0, 0, 0, 0, 0, 255, 255];
 
-/// The number of the IPv4 address in the 16 bytes of an address; None if they have another form.
+/// Returns the IPv4 address in the 16 bytes of an address, as a number. None if they have another form.
 fn ipv4_in(ip: &[u8]) -> Option<u32>
     requires { 16 ≤ length ip.now }
     ensures { result ≡ ipv4_in ip.now }
@@ -26,8 +26,8 @@ fn ipv4_in(ip: &[u8]) -> Option<u32>
 }
 
 impl Network {
-    /// The network of all addresses that have their first bits in common with this one: `prefix` of them, 0 to 32. None
-    /// if the address has a bit set behind them.
+    /// Returns the network of all addresses whose first `prefix` bits, 0 to 32, are those of `address`. None if
+    /// `address` has a bit set after the prefix.
     pub fn of_prefix(address: u32, prefix: u32) -> Option<Network>
         requires { prefix ≤ 32 }
         ensures { result ≡ network_of address prefix }
@@ -43,7 +43,7 @@ impl Network {
         }
     }
 
-    /// Whether the network has this address.
+    /// Whether the network contains this address.
     pub fn contains(&self, address: u32) -> bool
         ensures { result ≡ contains address self.now }
     {
@@ -66,7 +66,7 @@ fn lists(networks: &[Network], peer: Peer) -> bool
     }
 }
 
-/// A copy of a list. Allocates; an error if memory was refused.
+/// Returns a copy of a list. Allocates; an error if the allocation fails.
 fn copied_list(
     alloc: Global,
     from: &Option<Vec<Network>>,
@@ -79,7 +79,7 @@ fn copied_list(
     }
 }
 
-/// A copy of a key. Allocates; an error if memory was refused.
+/// Returns a copy of a key. Allocates; an error if the allocation fails.
 fn copied_key(alloc: Global, key: &Option<String>) -> Result<Option<String>, AllocError>
     ensures { IfOk result (λ copy. option_map string_bytes copy ≡ option_map string_bytes key.now) }
 {
@@ -90,7 +90,7 @@ fn copied_key(alloc: Global, key: &Option<String>) -> Result<Option<String>, All
 }
 
 impl RoleAccess {
-    /// Every caller may call, from anywhere and without a key.
+    /// Returns the rules that admit every caller: neither a list of networks nor a key.
     pub fn every_caller() -> RoleAccess
         ensures { role_access_of result ≡ every_caller }
     {
@@ -100,7 +100,7 @@ impl RoleAccess {
         }
     }
 
-    /// Whether the list has the address of this caller; without a list, always. Linear in the number of networks.
+    /// Whether the list contains the caller's address. Without a list, always. Linear in the number of networks.
     pub fn lists(&self, peer: Peer) -> bool
         ensures { result ≡ lists (role_access_of self.now).from peer }
     {
@@ -110,7 +110,7 @@ impl RoleAccess {
         }
     }
 
-    /// Whether a Stream ID that brought this text as its key brought the right one; without a key, always.
+    /// Whether `brought`, the key in a Stream ID, is the right one. If no key is required, always.
     pub fn is_right_key(&self, brought: Option<&[u8]>) -> bool
         ensures { result ≡ is_right_key (role_access_of self.now).key (option_copied brought.entry) }
     {
@@ -123,7 +123,7 @@ impl RoleAccess {
         }
     }
 
-    /// A copy. Allocates; an error if memory was refused.
+    /// Returns a copy. Allocates; an error if the allocation fails.
     pub fn copy(&self, alloc: Global) -> Result<RoleAccess, AllocError>
         ensures { IfOk result (λ copy. role_access_of copy ≡ role_access_of self.now) }
     {
@@ -135,7 +135,7 @@ impl RoleAccess {
 }
 
 impl Access {
-    /// Anyone may call, in both roles.
+    /// Returns the rules that admit every caller in both roles.
     pub fn anyone() -> Access
         ensures { access_of result ≡ anyone }
     {
@@ -145,7 +145,7 @@ impl Access {
         }
     }
 
-    /// Who may call in this role.
+    /// Returns the rules for a role.
     pub fn in_role(&self, role: Role) -> &RoleAccess
         ensures { role_access_of result.now ≡ in_role (access_of self.now) role }
     {
@@ -155,14 +155,14 @@ impl Access {
         }
     }
 
-    /// Whether one of the two lists has the address of this caller. Linear in the number of networks.
+    /// Whether one of the two lists contains the caller's address. Linear in the number of networks.
     pub fn knows(&self, peer: Peer) -> bool
         ensures { result ≡ knows (access_of self.now) peer }
     {
         self.publish.lists(peer) || self.request.lists(peer)
     }
 
-    /// A copy. Allocates; an error if memory was refused.
+    /// Returns a copy. Allocates; an error if the allocation fails.
     pub fn copy(&self, alloc: Global) -> Result<Access, AllocError>
         ensures { IfOk result (λ copy. access_of copy ≡ access_of self.now) }
     {

@@ -1,4 +1,4 @@
-//! The form of a route's name, and the limits of its numbers. Both are this gateway's choice.
+//! The form of a route's name, and the limits of its numbers. Both are our choice.
 
 ghost use Rattle.std.specs.Prelude.{◌≡◌};
 ghost use Rattle.std.specs.List.{list_all};
@@ -35,8 +35,8 @@ fn are_name_bytes(bytes: &[u8]) -> bool
     bytes.iter().all(|b| is_name_byte(*b))
 }
 
-/// Whether a route may have these bytes as its name: 1 to 64 bytes, each an ASCII letter or digit, `-`, `_`, `.` or
-/// `/`. Linear in the length.
+/// Whether these bytes are a valid route name: 1 to 64 bytes, each an ASCII letter or digit, `-`, `_`, `.` or `/`.
+/// Linear in the length.
 pub fn is_name(name: &[u8]) -> bool
     ensures { result ≡ is_name name.now }
 {
@@ -53,7 +53,7 @@ fn is_between_if(low: usize, high: usize, n: Option<u32>) -> bool
 }
 
 impl Rules {
-    /// A route without rules of its own: the draft's.
+    /// The rules of a route that follows the draft alone.
     pub const DRAFT: Rules = Rules {
         callers: Callers::Draft,
         reserved: 0,
@@ -62,7 +62,7 @@ impl Rules {
         resend_percent: None,
     };
 
-    /// Whether each number is within its limits, in a route of this number of sessions.
+    /// Whether each number is within its limits, for a route with this maximum number of sessions.
     fn are_in_limits(&self, sessions: u32) -> bool
         ensures { result ≡ are_rules sessions self.now }
     {
@@ -75,8 +75,8 @@ impl Rules {
 }
 
 impl Entry {
-    /// Whether each number is within its limits, which are listed at the fields of [`Entry`] and [`Rules`]. The name isn't
-    /// checked.
+    /// Whether each number is within its limits, which are listed at the fields of [`Entry`] and [`Rules`]. The name
+    /// isn't checked.
     pub fn in_limits(&self) -> bool
         ensures { result ≡ in_limits (terms_of self.now) }
     {

@@ -1,23 +1,23 @@
-//! Laws of the definitions: a session may count its numbers and times from its own beginning.
+//! Laws of the definitions: a session may count its numbers and times from its own start.
 
 ghost use Rattle.srt_seq.specs.Window.{InWindowIsTheNumber, NumbersFromInitial};
 ghost use Rattle.srt_seq.specs.Runs.{RangesFromInitial};
 ghost use Rattle.srt_seq.specs.Lift.{LiftIsTheTime, LiftMoves, TimesFromFirst};
 
-/// A word means at most one number of a window. A session may count from its initial number: each number of a window is
-/// the initial number plus a number counted from it.
+/// A word is the word of at most one number of a window. A session may count from its initial number: each number of a
+/// window is the initial number plus a number counted from it.
 pub fn windows()
     ensures number { InWindowIsTheNumber }
     ensures from_initial { NumbersFromInitial }
 {}
 
-/// A range covers the same numbers, whether they are counted from a session's initial number or from 0.
+/// A range contains the same numbers, whether they are counted from a session's initial number or from 0.
 pub fn ranges()
     ensures from_initial { RangesFromInitial }
 {}
 
-/// Near a given time, a timestamp means exactly one time. A shifted timestamp lifts to a time that is shifted as much,
-/// so a session may count from its first timestamp.
+/// Near a given time, a timestamp denotes exactly one time. A shifted timestamp lifts to a time that is shifted by the
+/// same amount, so a session may count from its first timestamp.
 pub fn lifts()
     ensures time { LiftIsTheTime }
     ensures moves { LiftMoves }

@@ -2,8 +2,8 @@
 
 ghost use Rattle.std.specs.Prelude.{◌≡◌, ℕ, ◌+◌, ◌-◌, ◌%◌, ◌^◌, ◌<◌, ◌≤◌, ◌↔◌, IsSome, IfSome, if◌then◌else◌, ◌==◌};
 
-/// A packet sequence number as the wire carries it: 31 bits, so that 0 follows 2^31 - 1. Numbers that wrap have no
-/// order: use [`offset_in`](Seq31::offset_in) to place one in a window. The default is 0.
+/// A packet sequence number: 31 bits, so that 0 follows 2^31 - 1. Numbers that wrap have no order: use
+/// [`offset_in`](Seq31::offset_in) to locate one in a window. The default is 0.
 #[derive(Clone, Copy, Debug, PartialEq, Eq)]
 pub struct Seq31 {
     word: u32,
@@ -17,7 +17,7 @@ impl Seq31 {
     /// The number 0.
     pub const ZERO: Seq31 = Seq31 { word: 0 };
 
-    /// The number of a word. None if the word's top bit is set: such a word is no sequence number.
+    /// Returns the sequence number of a word. None if the word's top bit is set, as in no sequence number.
     pub fn new(word: u32) -> Option<Seq31>
         ensures some { IsSome result ↔ (word < 2 ^ 31) }
         ensures value { IfSome result (λ s. word_of s ≡ word) }
@@ -29,7 +29,7 @@ impl Seq31 {
         }
     }
 
-    /// The number as a word of 32 bits. Its top bit is 0.
+    /// Returns the number as a word of 32 bits. Its top bit is 0.
     pub fn get(self) -> u32
         ensures value { result ≡ word_of self }
         ensures small { result < 2 ^ 31 }
@@ -37,7 +37,7 @@ impl Seq31 {
         self.word
     }
 
-    /// The number `steps` packets later, modulo 2^31. Any `steps` of 32 bits will do.
+    /// Returns the number `steps` packets later, modulo 2^31. All values of `steps` are allowed.
     pub fn add(self, steps: u32) -> Seq31
         // If the word is that of an unbounded number n, the result is the word of n + steps.
         ensures number { (n : ℕ) → n % 2 ^ 31 ≡ word_of self → word_of result ≡ (n + steps) % 2 ^ 31 }
@@ -48,12 +48,12 @@ impl Seq31 {
         }
     }
 
-    /// The offset of the number from `front`, in packets, if it is below `width`; else None. `width` is 0 to 2^31
-    /// packets. O(1), whatever the width.
+    /// Returns the offset of the number from `front`, in packets, if it is below `width`; else None. `width` is 0 to
+    /// 2^31 packets. O(1) for every width.
     #[tactic(auto, unfolding(crate::specs::Window::in_window))]
     pub fn offset_in(self, front: Seq31, width: u32) -> Option<u32>
         requires { width ≤ 2 ^ 31 }
-        // Of the unbounded numbers with this word, it gives the one in the window.
+        // `a` plus the result is the only unbounded number in the window that has this word.
         ensures number { (a : ℕ) → a % 2 ^ 31 ≡ word_of front → IsWindowNumber (word_of self) a width (option_map (λ d. a + d) result) }
         ensures value { (a : ℕ) → a % 2 ^ 31 ≡ word_of front → option_map (λ d. a + d) result ≡ in_window (word_of self) a width }
         ensures below { IfSome result (λ d. d < width) }
@@ -66,7 +66,7 @@ impl Seq31 {
 impl Default for Seq31 {
     ghost use Rattle.srt_seq.specs.Window.{word_of};
 
-    /// The number 0.
+    /// Returns the number 0.
     fn default() -> Self
         ensures { word_of result ≡ 0 }
     {
@@ -74,7 +74,7 @@ impl Default for Seq31 {
     }
 }
 
-/// A message number as the wire carries it: 1 to 2^26 - 1, and then 1 again.
+/// A message number: 1 to 2^26 - 1, so that 1 follows 2^26 - 1.
 #[derive(Clone, Copy, Debug, PartialEq, Eq)]
 pub struct Msg26 {
     number: u32,
@@ -85,14 +85,14 @@ pub struct Msg26 {
 impl Msg26 {
     ghost use Rattle.srt_seq.specs.Counts.{message_number, message_of};
 
-    /// The message number of a subscriber's first packet: 1.
+    /// Returns the message number of a subscriber's first packet: 1.
     pub fn first() -> Msg26
         ensures { message_of result ≡ message_number 0 }
     {
         Msg26 { number: 1 }
     }
 
-    /// The message number of the next packet: 1 after 2^26 - 1.
+    /// Returns the message number of the next packet: 1 after 2^26 - 1.
     pub fn next(self) -> Msg26
         ensures number { (k : ℕ) → message_of self ≡ message_number k → message_of result ≡ message_number (k + 1) }
         ensures value { message_of result ≡ (if message_of self == 2 ^ 26 - 1 then 1 else message_of self + 1) }
@@ -106,7 +106,7 @@ impl Msg26 {
         }
     }
 
-    /// The number as a word of 32 bits. Its upper six bits are 0.
+    /// Returns the number as a word of 32 bits. Its upper six bits are 0.
     pub fn get(self) -> u32
         ensures value { result ≡ message_of self }
         ensures some { 0 < result }

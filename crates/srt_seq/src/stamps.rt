@@ -3,8 +3,8 @@
 ghost use Rattle.std.specs.Prelude.{◌≡◌, ◌^◌, pos, ◌≤ℤ◌, ◌+ℤ◌};
 ghost use Rattle.srt_seq.specs.Lift.{IsLift, lift as the_lift};
 
-/// A packet's timestamp as the wire carries it: microseconds modulo 2^32, so that it wraps about every 71.6 minutes.
-/// What the microseconds count from is its sender's choice.
+/// A packet's timestamp: microseconds modulo 2^32, so that it wraps about every 71.6 minutes. The sender chooses the
+/// time from which the microseconds count.
 #[derive(Clone, Copy, Debug, PartialEq, Eq)]
 pub struct Stamp32 {
     /// The microseconds, modulo 2^32. Every value is a timestamp.
@@ -12,14 +12,14 @@ pub struct Stamp32 {
 }
 
 impl Stamp32 {
-    /// The timestamp of a word of the wire.
+    /// Returns the timestamp with this word.
     pub fn new(word: u32) -> Stamp32
         ensures { result.word ≡ word }
     {
         Stamp32 { word }
     }
 
-    /// The time, in microseconds, that the timestamp means near `elapsed`: of all times with this timestamp, the one
+    /// Returns the time near `elapsed` that the timestamp denotes, in microseconds: the only time with this timestamp
     /// from `elapsed` - 2^31 to `elapsed` + 2^31, the upper end excluded. `elapsed` is a time on the same clock, in
     /// microseconds, from -2^62 to 2^62. The result can be negative. O(1).
     pub fn lift(self, elapsed: i64) -> i64

@@ -3,7 +3,7 @@
 ghost use Rattle.std.specs.Prelude.{◌≡◌, ℕ, ◌+◌, ◌*◌, ◌≤◌, ◌++◌, length, take, drop};
 ghost use Rattle.srt_seq.specs.Words.{word_at, words};
 
-/// The word that the four bytes at the offset `at` encode.
+/// Returns the word that the four bytes at the offset `at` encode.
 pub fn read_word(bytes: &[u8], at: usize) -> u32
     requires { at + 4 ≤ length bytes.now }
     ensures { result ≡ word_at bytes.now at }
@@ -11,7 +11,7 @@ pub fn read_word(bytes: &[u8], at: usize) -> u32
     u32::from_be_bytes([bytes[at], bytes[at + 1], bytes[at + 2], bytes[at + 3]])
 }
 
-/// Copies `bytes` into `out` at the offset `at`, and returns the offset of their end. The rest of `out` doesn't change.
+/// Copies `bytes` into `out` at the offset `at`, and returns the offset of their end. The rest of `out` is unchanged.
 pub fn write_at(out: &mut [u8], at: usize, bytes: &[u8]) -> usize
     requires { at + length bytes.now ≤ length out.old }
     ensures end { result ≡ at + length bytes.now }
@@ -23,8 +23,8 @@ pub fn write_at(out: &mut [u8], at: usize, bytes: &[u8]) -> usize
     end
 }
 
-/// Writes the words of `list` into `out` one after another from the offset `at` on, four bytes each, and returns the
-/// offset of their end. The rest of `out` doesn't change.
+/// Writes the words of `list` into `out` from the offset `at` on, four bytes each, and returns the offset of their end.
+/// The rest of `out` is unchanged.
 pub fn write_words(out: &mut [u8], at: usize, list: &[u32]) -> usize
     requires { at + 4 * length list.now ≤ length out.old }
     ensures end { result ≡ at + length (words list.now) }

@@ -1,11 +1,11 @@
--- The keys of parts, wherever the parts start.
+-- The keys in parts, whatever the offsets of the parts.
 use Rattle.std.proofs.Common.{◌≡◌, ℕ, ◌+◌, ◌==◌, Bool, true, false, cond, List, [], ◌∷◌, Option, None, Some, take, drop, codes, refl, ap, ◌∙◌}
 use Rattle.std.specs.Bool.{⊤}
 use Rattle.std.specs.List.{cons_option}
 use Rattle.std.specs.Str.{byte, bytes_eq}
 use Rattle.srt_streamid.specs.Parts.{Piece, joined, parts_from, equals_in, value_behind, key_in, keys_in, first_text}
 
--- parts of the same texts
+-- parts with the same texts
 abbrev Alike : List Piece → List Piece → Type 0
 Alike [] [] = ⊤
 Alike [] (q ∷ qs) = ⊥
@@ -28,7 +28,7 @@ parts_alike i j (b ∷ bs) = by (b == byte ",") (parts_alike (i + 1) (j + 1) bs)
     by true h = (refl, h)
     by false h = joined_alike i j b (parts_from (i + 1) bs) (parts_from (j + 1) bs) h
 
--- the first key among these, given the key of the part before them
+-- the first key of a part with this = and of the parts after it
 first_behind : (part other : Piece) (rest more : List Piece) (o : Option ℕ) → part.text ≡ other.text
     → first_text (keys_in rest) ≡ first_text (keys_in more)
     → first_text (cons_option (value_behind (codes "k") part o) (keys_in rest))

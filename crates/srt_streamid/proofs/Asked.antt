@@ -1,4 +1,4 @@
--- What is read is what the Stream ID asks for, and a fault that is read is one that it has.
+-- A returned request is the request of the Stream ID, and a returned fault is one that it has.
 use Rattle.std.proofs.Common.{◌≡◌, ℕ, ◌<◌, ◌==◌, Bool, true, false, if◌then◌else◌, List, [], ◌∷◌, ◌++◌, Option, None, Some, unwrap_or}
 use Rattle.std.proofs.Common.{Result, Ok, Err, MatchResult, length, take, drop, codes, nat_eq, ◌⊎◌, inl, inr, refl, sym, ap, subst, ◌∙◌}
 use Rattle.std.proofs.Common.{arith, Decides}
@@ -102,7 +102,7 @@ pub list_told : (bytes : List ℕ) → ListTold bytes (list_in bytes)
 unfolding list_in
 list_told bytes = asked_told bytes _ (parts_told [] (parts_of bytes) nothing (record { name = tt; role = tt }))
 
--- the test whether the bytes begin like a list
+-- the test whether the bytes begin as a list does
 list_tested : (bytes : List ℕ) → Decides (starts_with nat_eq bytes (codes "#!::")) (codes "#!::" ≡ take 4 bytes)
 list_tested bytes = bytes_eq-Decides (codes "#!::") (take 4 bytes)
 
@@ -113,7 +113,7 @@ list_or_not bytes = list_cases bytes (starts_with nat_eq bytes (codes "#!::")) r
     list_cases bytes true e = inl (sym ((list_tested bytes).0 e))
     list_cases bytes false e = inr (λ h. false≢true (sym e ∙ (list_tested bytes).1 (sym h)))
 
--- a result is what is asked for, or the fault
+-- a result is the request or the fault of the Stream ID
 abbrev pub Told : List ℕ → Result Ask AskFault → Type 0
 Told bytes read = MatchResult read (Asks bytes) (HasFault bytes)
 

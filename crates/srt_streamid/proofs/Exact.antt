@@ -1,4 +1,4 @@
--- A Stream ID asks for at most one thing, or has one fault.
+-- A Stream ID makes at most one request, or has one fault.
 use Rattle.std.proofs.Common.{◌≡◌, ◌≢◌, ℕ, ◌+◌, ◌<◌, ◌≤◌, List, [], ◌∷◌, ◌++◌, Option, None, Some, Result, Ok, Err, length, take, drop, map}
 use Rattle.std.proofs.Common.{inl, inr, refl, sym, ap, subst, ◌∙◌, arith, append_assoc, length-take, length-drop}
 use Rattle.std.proofs.Math.Seq.{take-length}
@@ -49,13 +49,13 @@ one_list bytes a b x y =
 one_name : (bytes : List ℕ) (a b : Ask) → NameAsks bytes a → NameAsks bytes b → a ≡ b
 one_name bytes a b x y = same_ask a b (x.start ∙ sym y.start) (x.len ∙ sym y.len) (x.role ∙ sym y.role)
 
--- at most one thing is asked for
+-- there is at most one request
 one_ask : (bytes : List ℕ) (a b : Ask) → Asks bytes a → Asks bytes b → a ≡ b
 one_ask bytes a b x y =
     elim (list_or_not bytes)
     [ inl list ↦ one_list bytes a b (x.list list) (y.list list) | inr plain ↦ one_name bytes a b (x.plain plain) (y.plain plain) ]
 
--- a list that spells a role has no bad mode and no second mode
+-- a list with a role has no bad mode and no second mode
 good_mode : (modes more : List Piece) (mode : Option Piece) (role : Role) → IsBadMode mode → ¬ (SayRole (modes ++ cons_option mode more) role)
 good_mode modes more None role bad s = bad
 good_mode [] [] (Some mode) role bad s = bad role s
@@ -84,7 +84,7 @@ value_faultless names modes more_names more_modes name mode BadMode one role n s
 value_faultless names modes more_names more_modes name mode RepeatedKey one role n s h =
     elim h.1 [ inl again ↦ once_name names more_names name one again n | inr again ↦ once_mode modes more_modes mode role again s ]
 
--- a list that asks for a route has no part with a fault
+-- a list that requests a route has no part with a fault
 asks_faultless : (before parts : List Piece) (fault : AskFault) (one : Piece) (role : Role)
     → names_in (before ++ parts) ≡ one ∷ [] → SayRole (modes_in (before ++ parts)) role → ¬ (HasFirstFault before parts fault)
 asks_faultless before [] fault one role n s h = h
@@ -97,7 +97,7 @@ asks_faultless before (part ∷ parts) fault one role n s h = elim h [
       (subst (λ (all : List Piece). SayRole (modes_in all) role) (sym (append_assoc before (part ∷ []) parts)) s) later.1
 ]
 
--- a list that names nothing asks for nothing
+-- a list without a route's name requests nothing
 some_name : (names : List Piece) (start : ℕ) (text : List ℕ) → names ≡ record { start = start; text = text } ∷ [] → NameNothing names → text ≡ []
 some_name [] start text e h = cc
 some_name (name ∷ []) start text e h = let same : name.text ≡ text = cc in sym same ∙ h
@@ -111,7 +111,7 @@ list_names bytes ask some a h =
 name_names : (bytes : List ℕ) (ask : Ask) → 0 < ask.len → NameAsks bytes ask → bytes ≢ []
 name_names bytes ask some a none = let size : length bytes ≡ 0 = ap length none in omega (arith, a.len)
 
--- a Stream ID that asks for something has no fault
+-- a Stream ID that requests something has no fault
 no_fault : (bytes : List ℕ) (ask : Ask) (fault : AskFault) → Asks bytes ask → ¬ (HasFault bytes fault)
 no_fault bytes ask NotUtf8 a h = h a.utf8
 no_fault bytes ask NoRoute a h =

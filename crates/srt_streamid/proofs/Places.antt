@@ -1,4 +1,4 @@
--- Names lie at the offsets that reading gives.
+-- Names lie at the offsets that reading returns.
 use Rattle.std.proofs.Common.{◌≡◌, ℕ, suc, ◌+◌, ◌<◌, ◌==◌, Bool, true, false, if◌then◌else◌, List, [], ◌∷◌, Option, None, Some, length}
 use Rattle.std.proofs.Common.{take, drop, refl, sym, ap, ◌∙◌, arith, length-drop}
 use Rattle.std.specs.List.{AllByRecursion, filter_map, cons_option}
@@ -7,7 +7,7 @@ use Rattle.std.proofs.lemmas.List.{drop-drop, drop-take}
 use Rattle.std.proofs.lemmas.List.Quantifiers.{position-Some}
 use Rattle.srt_streamid.specs.Parts.{Piece, joined, parts_from, equals_in, value_behind, value_of}
 
--- the bytes have the piece's text at the offset where the piece starts
+-- the bytes have the piece's text at the offset of the piece
 abbrev pub StandsIn : List ℕ → Piece → Type 0
 StandsIn bytes piece = piece.text ≡ take (length piece.text) (drop piece.start bytes)
 

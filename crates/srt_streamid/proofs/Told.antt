@@ -1,4 +1,4 @@
--- What was found is right for the parts so far, and each fault is the first of the parts.
+-- The state is right for the parts so far, and each fault is the first of the parts.
 use Rattle.std.proofs.Common.{◌≡◌, ◌≢◌, ℕ, Bool, true, false, if◌then◌else◌, List, [], ◌∷◌, ◌++◌, Option, None, Some, is_some, Result, Ok}
 use Rattle.std.proofs.Common.{Err, MatchResult, length, take, codes, inl, inr, refl, sym, ap, ◌∙◌, append_assoc, append-nil, Decides, subst}
 use Rattle.std.specs.Bool.{⊤}
@@ -34,12 +34,12 @@ RoleStands (mode ∷ []) None = ⊥
 RoleStands (mode ∷ []) (Some role) = mode.text ≡ mode_of role
 RoleStands (mode ∷ again ∷ modes) role = ⊥
 
--- what was found is the only name and the role of the only mode
+-- the state has the only name, and the role of the only mode
 pub record Stands (names modes : List Piece) (found : Found) : Type 0 where
   pub name : NameStands names found.name
   pub role : RoleStands modes found.role
 
--- a text that is no mode spells no role
+-- a text that is no mode is the mode of no role
 neither : (text : List ℕ) → text ≢ codes "publish" → text ≢ codes "request" → (role : Role) → text ≢ mode_of role
 neither text p q Publish = p
 neither text p q Request = q
@@ -57,7 +57,7 @@ role_cases text false false d e = (refl, neither text (λ h. cc (d.1 h)) (λ h. 
 role_told : (text : List ℕ) → RoleTold text (role_in text)
 role_told text = role_cases text _ _ (bytes_eq-Decides text (codes "publish")) (bytes_eq-Decides text (codes "request"))
 
--- no fault, if the mode isn't bad and nothing is given twice
+-- there is no fault if the mode isn't bad and no value is repeated
 faultless : (names modes : List Piece) (name mode : Option Piece) → ¬ (IsBadMode mode) → ¬ (IsSaidAgain names name)
     → ¬ (IsSaidAgain modes mode) → (fault : AskFault)
     → ¬ (HasValueFault names modes name mode fault)
@@ -66,7 +66,7 @@ faultless names modes name mode good once first NoRoute = λ h. h
 faultless names modes name mode good once first BadMode = good
 faultless names modes name mode good once first RepeatedKey = λ h. elim h.1 [ inl again ↦ once again | inr again ↦ first again ]
 
--- what follows from the result of reading one part
+-- the consequence of the result of reading one part
 abbrev PartTold : (names modes : List Piece) (name mode : Option Piece) → Result Found AskFault → Type 0
 PartTold names modes name mode read =
     MatchResult read
@@ -74,7 +74,7 @@ PartTold names modes name mode read =
     Stands (names ++ cons_option name []) (modes ++ cons_option mode []) more)
     (HasValueFault names modes name mode)
 
--- a part gives a name, or a mode, or neither
+-- a part has a name, or a mode, or neither
 abbrev pub Alone : Option Piece → Option Piece → Type 0
 Alone None mode = ⊤
 Alone (Some name) None = ⊤
@@ -143,7 +143,7 @@ matched : {T : Type 0} (read : Result T AskFault) (P Q : T → Type 0) (R S : As
 matched (Ok x) P Q R S h p r = p x h
 matched (Err e) P Q R S h p r = r e h
 
--- what follows from the result of reading the parts that follow the parts before them
+-- the consequence of the result of reading parts, after the parts before them
 abbrev pub PartsTold : (before parts : List Piece) → Result Found AskFault → Type 0
 PartsTold before parts read =
     MatchResult read (λ more. NoneIsAtFault before parts × Stands (names_in (before ++ parts)) (modes_in (before ++ parts)) more)

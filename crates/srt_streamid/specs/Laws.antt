@@ -1,4 +1,4 @@
--- Reading Stream IDs agrees with what they mean.
+-- Reading Stream IDs agrees with the definition of their requests.
 use Rattle.std.specs.Prelude.{◌≡◌, ℕ, ◌+◌, ◌<◌, ◌≤◌, ◌↔◌, List, [], ◌∷◌, Ok, Err, length, map}
 use Rattle.srt_streamid.specs.declared.reading.Ask.{Ask}
 use Rattle.srt_streamid.specs.declared.reading.AskFault.{AskFault}
@@ -6,23 +6,23 @@ use Rattle.srt_streamid.specs.Parts.{names_in, parts_of}
 use Rattle.srt_streamid.specs.Reading.{ask_in, name_of}
 use Rattle.srt_streamid.specs.Spelling.{IsList, Asks, HasFault}
 
--- reading gives what is asked for, and nothing else
+-- reading returns a request exactly if the Stream ID makes it
 abbrev pub AskIsRead : Type 0
 AskIsRead = (bytes : List ℕ) (ask : Ask) → (ask_in bytes ≡ Ok ask) ↔ Asks bytes ask
 
--- reading gives the fault that a Stream ID has, and no other
+-- reading returns a fault exactly if the Stream ID has it
 abbrev pub FaultIsRead : Type 0
 FaultIsRead = (bytes : List ℕ) (fault : AskFault) → (ask_in bytes ≡ Err fault) ↔ HasFault bytes fault
 
--- a name has at least one byte, and lies within the Stream ID
+-- the returned name has at least one byte, and lies within the Stream ID
 abbrev pub NameIsInside : Type 0
 NameIsInside = (bytes : List ℕ) (ask : Ask) → ask_in bytes ≡ Ok ask → (0 < ask.len) × (ask.start + ask.len ≤ length bytes)
 
--- the name is the value of the list's only r; a text that is no list is itself the name
+-- the route's name in a Stream ID: the value of the list's only r, or the whole text if it is no list
 pub record IsRouteName (bytes name : List ℕ) : Type 0 where
   pub list : IsList bytes → map (λ piece. piece.text) (names_in (parts_of bytes)) ≡ name ∷ []
   pub plain : ¬ (IsList bytes) → name ≡ bytes
 
--- each name that is read is the route's name in this sense
+-- the name that is returned is the route's name in this sense
 abbrev pub NameIsSaid : Type 0
 NameIsSaid = (bytes : List ℕ) (ask : Ask) → ask_in bytes ≡ Ok ask → IsRouteName bytes (name_of bytes ask)

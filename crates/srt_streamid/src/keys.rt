@@ -1,6 +1,5 @@
-//! The keys of a list, read from left to right: the parts between its commas, the name that `r` gives and the role that
-//! `m` gives, and the fault of a repeated key (draft-sharabayko-srt-01, appendix B.2; the order of faults is our
-//! choice).
+//! The keys of a list, read from left to right: the parts between its commas, the name under `r` and the role under
+//! `m`, and the fault of a repeated key (draft-sharabayko-srt-01, appendix B.2; the order of faults is our choice).
 
 ghost use Rattle.std.specs.Prelude.{◌≡◌, ℕ, ◌+◌, ◌<◌, ◌≤◌, ◌^◌, ◌==◌, ◌∷◌, List, length, position, IfSome, MatchOption, option_map};
 ghost use Rattle.std.specs.Option.{option_copied};
@@ -10,7 +9,7 @@ ghost use Rattle.srt_streamid.specs.Reading.{role_in, list_in};
 use crate::reading::{Ask, AskFault, named};
 use srt_seq::Role;
 
-/// The place of a name in the bytes of a Stream ID.
+/// The position of a name in the bytes of a Stream ID.
 #[derive(Clone, Copy)]
 pub struct Span {
     /// The offset of its first byte.
@@ -19,12 +18,12 @@ pub struct Span {
     pub len: usize,
 }
 
-/// The name and the role that were found so far.
+/// The name and the role found so far.
 #[derive(Clone, Copy)]
 pub struct Found {
-    /// The route's name, if a part gave it. It may be empty.
+    /// The route's name, if a part has it. It may be empty.
     pub name: Option<Span>,
-    /// The role, if a part gave it.
+    /// The role, if a part has it.
     pub role: Option<Role>,
 }
 
@@ -34,7 +33,7 @@ const RESOURCE: &[u8] = b"r";
 /// The key of a mode (appendix B.2).
 const MODE: &[u8] = b"m";
 
-/// The key of admission that a route may ask for (our choice).
+/// The key that a route may require for admission (our choice).
 const ADMISSION: &[u8] = b"k";
 
 /// The mode of a caller that sends the stream (appendix B.2).
@@ -43,7 +42,7 @@ const PUBLISH: &[u8] = b"publish";
 /// The mode of a caller that receives the stream (appendix B.2).
 const REQUEST: &[u8] = b"request";
 
-/// The offset of the first byte of the text with this value. None if there is none. Linear in the length.
+/// Returns the offset of the first byte of the text with this value. None if there is none. Linear in the length.
 fn place_of(byte: u8, text: &[u8]) -> Option<usize>
     ensures value { result ≡ position (λ b. b == byte) text.now }
     ensures inside { IfSome result (λ at. at < length text.now) }
@@ -51,7 +50,7 @@ fn place_of(byte: u8, text: &[u8]) -> Option<usize>
     text.iter().position(|b| *b == byte)
 }
 
-/// The role of a mode. `BadMode` if it is neither `publish` nor `request`.
+/// Returns the role of a mode. `BadMode` if it is neither `publish` nor `request`.
 fn role_of(mode: &[u8]) -> Result<Role, AskFault>
     ensures { result ≡ role_in mode.now }
 {
@@ -68,7 +67,7 @@ impl Found {
     ghost use Rattle.srt_streamid.specs.Reading.{nothing, with_name, with_mode, with_part, asked};
     ghost use Rattle.srt_streamid.specs.Parts.{Piece};
 
-    /// Before any part: neither a name nor a role.
+    /// Returns the state before any part: neither a name nor a role.
     pub fn nothing() -> Found
         ensures { result ≡ nothing }
     {
@@ -103,8 +102,9 @@ impl Found {
         })
     }
 
-    /// What was found so far with one more part, which starts at this offset. A part without `=`, or with a key other
-    /// than `r` and `m`, changes nothing. `BadMode` for another mode, else `RepeatedKey` for a second `r` or `m`.
+    /// Adds the part that starts at this offset to the name and the role found so far. A part without `=`, or with a
+    /// key other than `r` and `m`, changes nothing. `BadMode` for an unknown mode, else `RepeatedKey` for a second `r`
+    /// or `m`.
     #[tactic(auto, unfolding(crate::specs::Reading::with_part))]
     pub fn with_part(self, start: usize, part: &[u8]) -> Result<Found, AskFault>
         requires { start + length part.now < 2 ^ 64 }
@@ -127,8 +127,8 @@ impl Found {
         }
     }
 
-    /// What the whole list asks for; without a mode the role is request. `NoRoute` if no name was found, or an empty
-    /// one.
+    /// Returns the request of the whole list; without a mode the role is request. `NoRoute` if no name was found, or an
+    /// empty one.
     pub fn asked(self) -> Result<Ask, AskFault>
         ensures { result ≡ asked self }
     {
@@ -139,7 +139,7 @@ impl Found {
     }
 }
 
-/// The first part of a list, and what follows its comma; None if there is no comma.
+/// Returns the first part of a list, and the bytes after its comma; None if there is no comma.
 fn first_part(list: &[u8]) -> (&[u8], Option<&[u8]>)
     ensures parts { (start : ℕ) → parts_from start list.now ≡ record { start = start; text = result.0.now }
         ∷ parts_behind (start + (length result.0.now + 1)) (option_copied result.1) }
@@ -152,7 +152,7 @@ fn first_part(list: &[u8]) -> (&[u8], Option<&[u8]>)
     }
 }
 
-/// What a list asks for. `bytes` begins with the four bytes `#!::`.
+/// Returns the request of a list. `bytes` begins with the four bytes `#!::`.
 pub fn read_list(bytes: &[u8]) -> Result<Ask, AskFault>
     requires { 4 ≤ length bytes.now }
     ensures { result ≡ list_in bytes.now }
@@ -171,7 +171,7 @@ pub fn read_list(bytes: &[u8]) -> Result<Ask, AskFault>
     }
 }
 
-/// The key that a part brings; None if the part has no `=`, or another name before it.
+/// Returns the value of a part with the key `k`; None if the part has no `=`, or another key before it.
 fn key_of_part(part: &[u8]) -> Option<&[u8]>
     ensures { (start : ℕ) → option_copied result ≡ option_map (λ value. value.text) (key_in (record { start = start; text = part.now })) }
 {
@@ -183,7 +183,7 @@ fn key_of_part(part: &[u8]) -> Option<&[u8]>
     }
 }
 
-/// The key that a list brings: that of its first part that has one. `bytes` begins with the four bytes `#!::`.
+/// Returns the key in a list: that of the first part with one. `bytes` begins with the four bytes `#!::`.
 #[tactic(auto, using(crate::proofs::Anywhere::anywhere))]
 pub fn key_of_list(bytes: &[u8]) -> Option<&[u8]>
     requires { 4 ≤ length bytes.now }

@@ -1,15 +1,16 @@
-//! Laws of the definitions: reading from left to right gives what all parts of a Stream ID together mean.
+//! Laws of the definitions: reading from left to right agrees with the definition over all parts of a Stream ID at
+//! once.
 
 ghost use Rattle.srt_streamid.specs.Laws.{AskIsRead, FaultIsRead, NameIsInside, NameIsSaid};
 
-/// Reading gives what the Stream ID asks for, or else the fault that it has.
+/// Reading returns what the Stream ID requests, or the fault that it has.
 pub fn meanings()
     ensures asks { AskIsRead }
     ensures faults { FaultIsRead }
 {}
 
-/// A name that is read lies within the bytes. It is the value of the only `r` of a list, or the whole text if that is
-/// no list.
+/// A name that is returned lies within the bytes. It is the value of the only `r` of a list, or the whole text if that
+/// is no list.
 pub fn names()
     ensures inside { NameIsInside }
     ensures said { NameIsSaid }

@@ -1,4 +1,4 @@
-//! Stream IDs, and the routes and roles that they ask for.
+//! Stream IDs, and the routes and roles that they request.
 
 use crate::{Ask, AskFault, read};
 use srt_seq::Role;

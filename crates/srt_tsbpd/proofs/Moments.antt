@@ -1,4 +1,4 @@
--- There is one deadline; deadlines may be counted from the opening.
+-- There is exactly one deadline; deadlines may be relative to the opening.
 use Rattle.std.proofs.Common.{◌≡◌, ℕ, ◌+◌, ◌-◌, ◌≤◌, ℤ, pos, ◌+ℤ◌, ◌-ℤ◌, refl, arith}
 use Rattle.std.proofs.lemmas.Int.{ints}
 use Rattle.srt_seq.specs.Lift.{lift, stamped_from}

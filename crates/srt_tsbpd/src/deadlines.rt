@@ -4,8 +4,8 @@ ghost use Rattle.std.specs.Prelude.{◌≡◌, ◌^◌, ◌<◌, ◌≤◌};
 
 use srt_seq::Stamp32;
 
-/// The relation of the sender's clock to ours: the moment at which a session was opened, and the timestamp of the
-/// conclusion that opened it.
+/// The relation of the sender's clock to the gateway's: the time at which a session was opened, and the timestamp of
+/// the conclusion that opened it.
 #[derive(Clone, Copy, Debug)]
 pub struct Base {
     opening: u64,
@@ -16,7 +16,7 @@ pub struct Base {
 impl Base {
     ghost use Rattle.srt_tsbpd.specs.Deadline.{opening_of, first_of, IsDeadline, deadline_at, deadline_from_opening};
 
-    /// The base of a session that is opened at `moment`, in microseconds, by a conclusion with this timestamp.
+    /// Returns the base of a session that is opened at `moment`, in microseconds, by a conclusion with this timestamp.
     pub fn new(moment: u64, conclusion: Stamp32) -> Base
         requires { moment < 2 ^ 62 }
         ensures opening { opening_of result ≡ moment }
@@ -28,14 +28,15 @@ impl Base {
         }
     }
 
-    /// The moment at which a packet that has this timestamp and comes at `now` is due: the sender's time of the packet,
-    /// on our clock, plus the delay (section 4.5.1). The timestamp is read as the time nearest to the sender's time at
-    /// `now`. All are microseconds; the result is negative if the packet was due before moment 0.
+    /// Returns the time at which a packet with this timestamp that arrives at `now` is due: the packet's time on the
+    /// sender's clock, converted to the gateway's clock, plus the delay (section 4.5.1). The timestamp denotes the time
+    /// nearest to the sender's time at `now`. All are microseconds; the result is negative if the packet was due before
+    /// time 0.
     pub fn deadline(self, stamp: Stamp32, now: u64, delay: u32) -> i64
         requires early { now < 2 ^ 62 }
         ensures moment { IsDeadline (opening_of self) (first_of self) stamp.word now delay result }
         ensures value { result ≡ deadline_at (opening_of self) (first_of self) stamp.word now delay }
-        // The same, counted from the session's opening and its first timestamp.
+        // The same, relative to the session's opening and its first timestamp.
         ensures own { opening_of self ≤ now → result ≡ deadline_from_opening (opening_of self) (first_of self) stamp.word now delay }
     {
         let since_first = Stamp32::new(stamp.word.wrapping_sub(self.first.word));

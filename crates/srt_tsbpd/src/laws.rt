@@ -1,4 +1,4 @@
-//! Laws of the definitions: a packet has one deadline, and a session may count its times from its own opening.
+//! Laws of the definitions: a packet has exactly one deadline, and a session may count its times from its opening.
 
 ghost use Rattle.srt_tsbpd.specs.Deadline.{DeadlineIsTheMoment, DeadlinesFromOpening, ThresholdsFromOpening};
 
@@ -8,7 +8,7 @@ pub fn deadlines()
     ensures from_opening { DeadlinesFromOpening }
 {}
 
-/// The cut-off of too-late packets may be counted from a session's opening.
+/// The threshold of too-late packets may be relative to a session's opening.
 pub fn thresholds()
     ensures { ThresholdsFromOpening }
 {}

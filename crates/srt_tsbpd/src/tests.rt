@@ -1,4 +1,4 @@
-//! Deadlines and thresholds worked out by hand.
+//! Deadlines and thresholds computed by hand.
 
 ghost use Rattle.std.specs.Prelude.{◌^◌, ◌<◌};
 
@@ -9,7 +9,7 @@ use std::test::Fail;
 /// A second, in microseconds.
 const SECOND: u64 = 1_000_000;
 
-/// The deadline of a timestamp in a session that was opened at moment 1,000,000.
+/// Returns the deadline of a timestamp in a session that was opened at time 1,000,000.
 fn deadline(first: u32, stamp: u32, since_opening: u64, delay: u32) -> i64
     requires { since_opening < 2 ^ 61 }
 {
@@ -34,7 +34,7 @@ fn stamps_go_round_between_the_conclusion_and_the_packet(rt: HostRuntime) -> Res
 
 #[test]
 fn stamps_are_read_nearest_to_the_senders_time(rt: HostRuntime) -> Result<(), Fail> {
-    // A time 2^31 earlier can be read, one 2^31 later can't.
+    // A time 2^31 earlier is in the range of a timestamp, one 2^31 later isn't.
     assert_eq!(rt; deadline(0, 0, 1 << 31, 120_000), 1_120_000);
     assert_eq!(rt; deadline(0, 0, (1 << 31) + 1, 120_000), 4_296_087_296);
     assert_eq!(rt; deadline(0, 0x8000_0000, 0, 120_000), -2_146_363_648);

@@ -5,9 +5,9 @@ ghost use Rattle.srt_tsbpd.specs.Deadline.{IsTooLate, too_late_at};
 
 use srt_seq::limits::MIN_TLPKTDROP_US;
 
-/// The cut-off of too-late packet drop: a packet that was queued before the returned moment is too late at `now`. That
-/// is `now` less the greater of 1.25 times the session's delay `latency` and one second (section 4.6). All are
-/// microseconds; the result is negative while no packet can be too late.
+/// Returns the threshold of too-late packet drop: a packet that was queued before the returned time is too late at
+/// `now`. It is `now` less the greater of 1.25 times the session's delay `latency` and one second (section 4.6). All
+/// are microseconds; the result is negative while no packet can be too late.
 pub fn too_late_before(now: u64, latency: u32) -> i64
     requires { now < 2 ^ 62 }
     ensures too_late { (origin : ℕ) → (pos origin <ℤ result) ↔ IsTooLate latency (pos now -ℤ pos origin) }

@@ -1,4 +1,4 @@
-//! Names that are appended, hidden, and shown later.
+//! Names that are appended hidden, and made visible later.
 
 use super::{
     ADDRESS, CONCLUSION, COOKIE_0, HEADER, HSREQ, STUDIO_ASKED, TO_SESSIONS, assert_refused,
@@ -10,32 +10,33 @@ use std::alloc::Global;
 use std::process::Abort;
 use std::test::Fail;
 
-/// The memory of a route with this name.
+/// Returns the allocated name of a route to be added.
 fn new_name(alloc: Global, name: &str) -> Result<NewName, Fail> {
     Ok(NewName::of(alloc, &entry(alloc, name)?)?)
 }
 
-/// Appends a name; there are fewer than 511.
+/// Appends a name to fewer than 511.
 fn append(rt: &impl Abort, names: &mut Names, name: NewName) {
     assert!(rt; names.len() < 511);
     names.append(name);
 }
 
-/// Shows a route whose name no other shown route has.
+/// Makes a route visible whose name no other visible route has.
 fn show(rt: &impl Abort, names: &mut Names, r: usize) {
     assert!(rt; r < names.len());
     assert!(rt; names.is_unused(r));
     names.show(r);
 }
 
-/// Asserts which of the first routes have a name that no other shown route has.
+/// Asserts which of the first routes have a name that no other visible route has.
 fn assert_unused(rt: &impl Abort, names: &Names, wanted: &[bool]) {
     for r in 0..wanted.len() {
         assert_eq!(rt; names.is_unused(r), wanted[r], "{r}");
     }
 }
 
-/// A name that a shown route has is appended: it has no datagrams until the other one is hidden and it is shown.
+/// A visible route's name is appended: the new route receives no datagrams until the other one is hidden and it is
+/// visible.
 #[test]
 fn a_name_in_use_is_appended(rt: HostRuntime) -> Result<(), Fail> {
     let alloc = rt.alloc();
@@ -61,7 +62,7 @@ fn a_name_in_use_is_appended(rt: HostRuntime) -> Result<(), Fail> {
     Ok(())
 }
 
-/// A name that no route has is appended, and then once more: each may be shown while the other is hidden.
+/// A name that no route has is appended twice: each route may be visible while the other is hidden.
 #[test]
 fn a_new_name_is_appended_twice(rt: HostRuntime) -> Result<(), Fail> {
     let alloc = rt.alloc();
@@ -80,7 +81,7 @@ fn a_new_name_is_appended_twice(rt: HostRuntime) -> Result<(), Fail> {
     Ok(())
 }
 
-/// `route-1` to `route-510`, hidden.
+/// Returns the names `route-1` to `route-510`, to be appended.
 fn many(alloc: Global) -> Result<Vec<NewName>, Fail> {
     let mut made = Vec::new(alloc);
     for i in 1..511u32 {
@@ -90,7 +91,7 @@ fn many(alloc: Global) -> Result<Vec<NewName>, Fail> {
     Ok(made)
 }
 
-/// Names are appended until there are 511. Their memory was taken before, so no step here can be refused any.
+/// Names are appended until there are 511. Their memory was allocated before, so no step here allocates.
 #[test]
 fn names_are_appended_up_to_511(rt: HostRuntime) -> Result<(), Fail> {
     let alloc = rt.alloc();
@@ -111,7 +112,7 @@ fn names_are_appended_up_to_511(rt: HostRuntime) -> Result<(), Fail> {
     Ok(())
 }
 
-/// If memory is refused, no name is made, and the next one is as the first.
+/// If an allocation fails, no name is returned, and the next attempt is unaffected.
 #[test]
 fn refused_memory_makes_no_name(rt: HostRuntime) -> Result<(), Fail> {
     let alloc = rt.alloc();

@@ -1,4 +1,4 @@
-//! Why a conclusion is refused with 1002. The rows are written from the rules of lists and keys.
+//! Why a conclusion is refused with 1002. The test vectors follow from the rules of lists and keys.
 
 use crate::{Names, refusal_cause};
 use srt_samples::{Block, Caller, Offer, conclusion};
@@ -45,7 +45,8 @@ fn network() -> Result<Network, Fail> {
     }
 }
 
-/// Publishers from 10.0.0.0/8 with the key `in`, subscribers from anywhere with the key `out`.
+/// Returns rules that admit publishers from 10.0.0.0/8 with the key `in`, and subscribers from anywhere with the key
+/// `out`.
 fn guarded(alloc: Global) -> Result<Access, Fail> {
     let mut from = Vec::new(alloc);
     from.push(network()?)?;
@@ -75,7 +76,7 @@ fn entry(alloc: Global, name: &str, access: Access) -> Result<Entry, Fail> {
     })
 }
 
-/// `studio`, which is guarded, and `open`, which isn't.
+/// Returns the names `studio`, with these rules, and `open`, without rules.
 fn names(alloc: Global) -> Result<Names, Fail> {
     let mut entries = Vec::new(alloc);
     entries.push(entry(alloc, "studio", guarded(alloc)?)?)?;
@@ -131,7 +132,7 @@ fn an_unknown_name_is_told_from_none(rt: HostRuntime) -> Result<(), Fail> {
     Ok(())
 }
 
-/// A conclusion that is refused for another reason, here for want of its HSREQ, has no such cause.
+/// A conclusion that is refused for another reason, here a missing HSREQ, has no such cause.
 #[test]
 fn another_reason_comes_first(rt: HostRuntime) -> Result<(), Fail> {
     let blocks = [Block::StreamId("#!::r=studi,m=publish")];

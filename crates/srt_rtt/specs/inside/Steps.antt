@@ -1,9 +1,9 @@
--- From the number of a Full ACK to the number of those sent after it.
+-- The number of Full ACKs sent after the one with a given number.
 use Rattle.std.specs.Prelude.{◌≡◌, ℕ, ◌+◌, ◌-◌, ◌<◌, Option, None, Some}
 use Rattle.srt_seq.specs.Counts.{ack_number}
 
 -- after count Full ACKs: the place, counted back from the newest (place 0), of the only one of the last 64 that can
--- have this number; None if none of them has it
+-- have this number; none if none of them has it
 abbrev pub IsStepsBack : (number count : ℕ) → Option ℕ → Type 0
 IsStepsBack number count (Some steps) =
     (steps < count → ack_number (count - (steps + 1)) ≡ number)

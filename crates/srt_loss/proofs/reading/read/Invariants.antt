@@ -3,7 +3,7 @@ use Rattle.std.specs.Result.{result_err}
 use Rattle.srt_loss.specs.Reading.{losses_in}
 use Rattle.srt_loss.proofs.reading.read.Given as goal
 
--- the fault of the rest is the fault of all the bytes
+-- the remaining bytes have the same fault as all bytes
 abbrev pub invariant-loop-rest : goal.invariant-loop-rest
 invariant-loop-rest l =
     record { whole : length l.rest % 4 ≡ 0; same_fault : result_err (losses_in l.rest) ≡ result_err (losses_in l.bytes) }

@@ -3,7 +3,6 @@ use Rattle.srt_samples.specs.Samples.{group, groups}
 use Rattle.srt_samples.proofs.Puts.{joined, one_group_more}
 use Rattle.srt_samples.proofs.writing.put_groups.Goals as goal
 
--- src/writing.rt:124:5
 pub loop-at-preserved : goal.loop-at-preserved
 loop-at-preserved c =
     let old = c.args.out.now.items in

@@ -2,7 +2,7 @@ use Rattle.std.proofs.Common.{◌≡◌, ℕ, ◌+◌, ◌*◌, ◌≤◌, ◌++
 use Rattle.srt_seq.specs.Words.{words}
 use Rattle.srt_seq.proofs.words.write_words.Given as goal
 
--- the first count words of the list are written
+-- the first count words of the list have been written
 pub record IsWrittenTo (old new list : List ℕ) (at end count : ℕ) : Type 0 where
   pub end_is : end ≡ at + 4 * count
   pub written : take end new ≡ take at old ++ words (take count list)

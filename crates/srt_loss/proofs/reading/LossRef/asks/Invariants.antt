@@ -3,7 +3,7 @@ use Rattle.srt_seq.specs.Window.{word_of}
 use Rattle.srt_seq.specs.Runs.{is_asked}
 use Rattle.srt_loss.proofs.reading.LossRef.asks.Given as goal
 
--- no range that was taken contains the number
+-- no range read so far contains the number
 abbrev pub invariant-loop-first : goal.invariant-loop-first
 invariant-loop-first l = is_asked l.ranges (word_of l.number) ≡ is_asked l.self (word_of l.number)
 
