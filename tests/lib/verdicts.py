@@ -53,19 +53,35 @@ class Checksums(NamedTuple):
 
 # What begins a line that is a comment, by the end of a file's name.
 COMMENTS = {".rt": b"//", ".antt": b"--"}
+# What counts in a line of code: an escaped character, a quote as a character, a quote, and a comment's beginning.
+MARKS = re.compile(rb"""\\.|'"'|"|//""")
+# A text in which a quote can stand as it is.
+RAW_TEXT = re.compile(rb'\br#+"')
 
 
-def has_long_text(text: bytes) -> bool:
-    """Whether a text between quotes may go over the end of a line, in which a line that looks like a comment is none."""
-    return any(re.sub(rb"\\.|'\"'", b"", line).count(b'"') % 2 for line in text.split(b"\n") if not line.lstrip().startswith(b"//"))
+def ends_inside(line: bytes, inside: bool) -> bool:
+    """Whether a text between quotes goes on after this line of code, if one did before it (`inside`) or not."""
+    for mark in MARKS.findall(line):
+        if mark == b"//" and not inside:
+            return False
+        inside ^= mark == b'"'
+    return inside
 
 
-def without_comments(path: str, text: bytes) -> bytes:
-    """A source's text without the lines that are comments; all of it for other files."""
-    mark = COMMENTS.get(os.path.splitext(path)[1])
-    if mark is None or (path.endswith(".rt") and has_long_text(text)):
+@functools.cache
+def without_comments(ending: str, text: bytes) -> bytes:
+    """The text of a file with this ending without the lines that are comments; all of it for other files."""
+    mark = COMMENTS.get(ending)
+    if mark is None or (ending == ".rt" and RAW_TEXT.search(text)):
         return text
-    return b"\n".join(line for line in text.split(b"\n") if not line.lstrip().startswith(mark))
+    kept: list[bytes] = []
+    inside = False
+    for line in text.split(b"\n"):
+        if not inside and line.lstrip().startswith(mark):
+            continue
+        kept.append(line)
+        inside = ending == ".rt" and ends_inside(line, inside)
+    return text if inside else b"\n".join(kept)
 
 
 def sum_of_content(paths: Iterable[str], more: str = "", top: str = TOP) -> str:
@@ -73,7 +89,7 @@ def sum_of_content(paths: Iterable[str], more: str = "", top: str = TOP) -> str:
     total = hashlib.sha256(more.encode())
     for path in paths:
         with open(path, "rb") as file:
-            text = without_comments(path, file.read())
+            text = without_comments(os.path.splitext(path)[1], file.read())
         total.update(f"{os.path.relpath(path, top)}\0".encode() + text + b"\0")
     return total.hexdigest()
 
