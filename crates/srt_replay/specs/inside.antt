@@ -1,5 +1,4 @@
 -- What proofs and internal functions need: no public contract, law or document rests on it.
 pub mod Parts
 pub mod Pieces
-pub mod Said
 pub mod Step
