@@ -1,5 +1,5 @@
 -- The transcript of a tape and of the output of its replay (our choice).
-use Rattle.std.specs.Prelude.{ℕ, ◌≡◌, ◌⊎◌, ◌+◌, ◌-◌, ◌<◌, ◌≤◌, Bool, List, [], ◌∷◌, ◌++◌, take, drop, length, All, codes, decimal, if◌then◌else◌}
+use Rattle.std.specs.Prelude.{ℕ, ◌≡◌, ◌⊎◌, ◌+◌, ◌-◌, ◌<◌, ◌≤◌, Bool, true, List, [], ◌∷◌, ◌++◌, take, drop, length, All, codes, decimal, if◌then◌else◌}
 use Rattle.std.specs.Prelude.{Option, None, Some, is_some, Result, Ok, Err}
 use Rattle.srt_replay.specs.Tape.{lines_of, max_line}
 use Rattle.srt_replay.specs.Replay.{event_at, max_lines}
@@ -14,6 +14,11 @@ max_routes = 511
 -- whether a line with this number is an event for a replay over a gateway with all routes
 abbrev pub is_event : (number : ℕ) → (line : List ℕ) → Bool
 is_event number line = is_some (event_at max_routes number line)
+
+-- a line that is an event for a gateway with some routes is one here
+abbrev pub EventsOfFewerRoutes : Type 0
+EventsOfFewerRoutes =
+    (routes number : ℕ) (line : List ℕ) → routes ≤ 511 → is_some (event_at routes number line) ≡ true → is_event number line ≡ true
 
 -- the number of the first line that isn't an event; the first line has this number
 abbrev pub no_event_from : (number : ℕ) → List (List ℕ) → Option ℕ

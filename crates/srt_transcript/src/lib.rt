@@ -12,6 +12,7 @@
 //! Files: `transcribing.rt` reads both line by line and writes, `lines.rt` has the line of an explanation, `events.rt` the
 //! words of an event and `answers.rt` those of an output's line. `packets.rt`, `handshakes.rt`, `blocks.rt` and `losses.rt`
 //! have the words of a datagram, `addresses.rt` those of an address, `text.rt` a text while it is made.
+//! `laws.rt` relates the events of transcripts to those of replays.
 #![tactic(auto)]
 
 mod addresses;
@@ -19,6 +20,7 @@ mod answers;
 mod blocks;
 mod events;
 mod handshakes;
+pub mod laws;
 mod lines;
 mod losses;
 mod packets;

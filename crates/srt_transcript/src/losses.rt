@@ -15,7 +15,7 @@ fn put_range(words: &mut Words, first: Option<u32>, last: u32) {
     words.put_word(last);
 }
 
-/// Puts the separator before the range or number `index`, counted from 0.
+/// Puts the separator of a list, except before its first item.
 fn put_separator(words: &mut Words, is_first: bool) {
     if !is_first {
         words.put(b", ");
