@@ -2,7 +2,7 @@
 _srtgw() {
   local word=${COMP_WORDS[COMP_CWORD]} before=${COMP_WORDS[COMP_CWORD - 1]} command=${COMP_WORDS[1]-} words=""
   if [ "$COMP_CWORD" -eq 1 ]; then
-    mapfile -t COMPREPLY < <(compgen -W "check replay serve run help --help --version" -- "$word")
+    mapfile -t COMPREPLY < <(compgen -W "check replay explain serve run help --help --version" -- "$word")
     return
   fi
   case $before in
@@ -12,9 +12,10 @@ _srtgw() {
   case $command in
     check) words="--explain --help" ;;
     replay) words="--help" ;;
+    explain) words="--output --help" ;;
     serve) words="--rounds --help" ;;
     run) words="--for --no-time --help" ;;
-    help) words="check replay serve run" ;;
+    help) words="check replay explain serve run" ;;
   esac
   if [[ $command == help || $word == -* ]]; then
     mapfile -t COMPREPLY < <(compgen -W "$words" -- "$word")

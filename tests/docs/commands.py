@@ -35,17 +35,18 @@ RT = {
 @dataclass
 class Command:
     """A subcommand of the program: the names of its arguments, its options with the greatest number that each takes (0 if it takes
-    a duration), those that may not be left out, and its flags, which take nothing and may be left out."""
+    a duration), those that take a file, those that may not be left out, and its flags, which take nothing and may be left out."""
 
     arguments: List[str] = field(default_factory=list)
     options: Dict[str, int] = field(default_factory=dict)
+    files: Set[str] = field(default_factory=set)
     required: Set[str] = field(default_factory=set)
     flags: Set[str] = field(default_factory=set)
 
     def takes(self, option: str, value: str) -> bool:
-        """Whether an option takes this value, or a placeholder of its value."""
-        if PLACEHOLDER.fullmatch(value):
-            return True
+        """Whether an option takes this value, or a placeholder of its value. A file isn't looked for here."""
+        if PLACEHOLDER.fullmatch(value) or option in self.files:
+            return bool(value)
         most = self.options[option]
         return value.isdigit() and int(value) <= most if most else bool(DURATION.fullmatch(value))
 
@@ -66,6 +67,7 @@ def program_of(index: Index) -> Dict[str, Command]:
                 command.flags.add(f"--{option.group(1)}")
             elif option:
                 command.options[f"--{option.group(1)}"] = constants.get(most.group(1), 0) if most else 0
+                command.files |= {f"--{option.group(1)}"} if '.value_name("FILE")' in body else set()
                 command.required |= {f"--{option.group(1)}"} if ".required(true)" in body else set()
             else:
                 command.arguments.append(argument)
@@ -127,6 +129,8 @@ class Checker:
                 given.add(word)
                 if not command.takes(word, value):
                     return f"{word} takes no {value!r}"
+                if word in command.files and not self.has_file(value):
+                    return f"no file {value}"
             else:
                 files.append(word)
         if len(files) != len(command.arguments) or not command.required <= given:

@@ -403,6 +403,7 @@ def wrong_of_command(one: Shown) -> str:
     serves = command in ("run", "serve")
     words = [command, *(("nowhere.toml" if serves else file_of(it, command, one.folder)) if at in files else it for at, it in enumerate(rest))]
     words = [{"N": "1", "DURATION": "1s"}.get(it, it) for it in words]
+    words = [f"{TOP}/examples/opening.out" if words[at - 1] == "--output" else it for at, it in enumerate(words)]
     said = subprocess.run([PROGRAM, *words], cwd="/", stdin=subprocess.DEVNULL, capture_output=True, text=True, timeout=60)
     wanted = (1, "file fault\n") if serves else (0, said.stdout)
     return "" if (said.returncode, said.stdout) == wanted else f"{' '.join(words)} ends with {said.returncode}, {said.stdout[:80]!r}, {said.stderr[:160]!r}"
@@ -418,6 +419,6 @@ def commands_are_right():
 @case("a wrong command line is found")
 def wrong_commands_are_found():
     for line in ("run gateway.toml --hurry", "serve gateway.toml", "serve gateway.toml --rounds 1000000001", "run gateway.toml --for 8x", "play a b",
-                 "check", "check a b", "check a --hurry", "replay examples/tapes.toml", "run", "run --rounds 5 gateway.toml"):
+                 "check", "check a b", "check a --hurry", "replay examples/tapes.toml", "run", "run --rounds 5 gateway.toml", "explain", "explain a.tape b.tape", "explain a.tape --output"):
         expect(wrong_of_command(Shown("here", "", line.split())), f"{line!r} isn't found")
     expect(wrong_of_command(Shown("here", "", ["check", "--hurry"], True)), "a mention of a flag that isn't there isn't found")

@@ -8,7 +8,7 @@ use std::alloc::{AllocError, Global};
 const MAX_SERVE_ROUNDS: u64 = 1_000_000_000;
 
 /// The version, as CHANGELOG.md has it.
-pub const VERSION: &str = "0.5";
+pub const VERSION: &str = "0.6";
 
 fn path<'a>(alloc: Global, name: &'a str, help: &'a str) -> Arg<'a> {
     Arg::new(alloc, name)
@@ -31,6 +31,16 @@ fn tape<'a>(alloc: Global) -> Arg<'a> {
         "TAPE",
         "A text of events, one a line: datagrams that arrive, ticks of the clock, turns of a route, sends",
     )
+}
+
+fn output<'a>(alloc: Global) -> Arg<'a> {
+    Arg::new(alloc, "output")
+        .long("output")
+        .value_name("FILE")
+        .action(ArgAction::Set)
+        .help(
+            "What replay printed for the tape: each of its lines follows the tape's line of the same number",
+        )
 }
 
 fn rounds<'a>(alloc: Global) -> Arg<'a> {
@@ -83,11 +93,22 @@ fn replay<'a>(alloc: Global) -> Result<Command<'a>, AllocError> {
         .about(
             "Runs the gateway's core over a tape, a text of events, and prints what comes of each event",
         )
-        .after_help(
-            "docs/PROTOCOL.md has the form of a tape; bin/explain prints one as a person reads it.",
-        )
+        .after_help("docs/PROTOCOL.md has the form of a tape; srtgw explain prints one in words.")
         .arg(config(alloc))?
         .arg(tape(alloc))
+}
+
+/// The command `explain`.
+fn explain_tape<'a>(alloc: Global) -> Result<Command<'a>, AllocError> {
+    Command::new(alloc, "explain")
+        .about(
+            "Prints each line of a tape in words, up to the first that is no event: time, address or route, packet, fields",
+        )
+        .after_help(
+            "Example: srtgw explain events.tape --output events.out, where events.out is what srtgw replay printed for the tape. The status is 1 if a line is no event. docs/PROTOCOL.md has the form of a tape.",
+        )
+        .arg(tape(alloc))?
+        .arg(output(alloc))
 }
 
 /// The command `serve`.
@@ -117,9 +138,15 @@ fn run<'a>(alloc: Global) -> Result<Command<'a>, AllocError> {
         .arg(no_time(alloc))
 }
 
-/// The commands that open no socket.
-fn with_files<'a>(alloc: Global, all: Command<'a>) -> Result<Command<'a>, AllocError> {
-    all.subcommand(check(alloc)?)?.subcommand(replay(alloc)?)
+/// The command that reads a configuration alone.
+fn with_check<'a>(alloc: Global, all: Command<'a>) -> Result<Command<'a>, AllocError> {
+    all.subcommand(check(alloc)?)
+}
+
+/// The commands that read tapes.
+fn with_tapes<'a>(alloc: Global, all: Command<'a>) -> Result<Command<'a>, AllocError> {
+    all.subcommand(replay(alloc)?)?
+        .subcommand(explain_tape(alloc)?)
 }
 
 /// The commands that serve callers.
@@ -140,6 +167,7 @@ fn program<'a>(alloc: Global) -> Result<Command<'a>, AllocError> {
 
 /// The program's commands with their arguments and help. It allocates; the only error is that it is refused.
 pub fn command<'a>(alloc: Global) -> Result<Command<'a>, AllocError> {
-    let all = with_files(alloc, program(alloc)?)?;
+    let all = with_check(alloc, program(alloc)?)?;
+    let all = with_tapes(alloc, all)?;
     with_callers(alloc, all)
 }

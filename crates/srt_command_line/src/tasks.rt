@@ -33,6 +33,13 @@ pub enum Task<'a> {
         /// The tape's file.
         tape: &'a str,
     },
+    /// Print a tape in words.
+    Explain {
+        /// The tape's file.
+        tape: &'a str,
+        /// The file of what `replay` printed for it, if it is given.
+        output: Option<&'a str>,
+    },
     /// Serve the routes of a configuration.
     Serve {
         /// The configuration's file.
@@ -81,7 +88,18 @@ fn run_in<'a>(matches: &ArgMatches<'a>) -> Option<Given<'a>>
     }
 }
 
-/// The task of a command other than `run`; None if a word is missing, or for another name.
+/// The task of `explain`; None if a word is missing.
+fn explain_in<'a>(matches: &ArgMatches<'a>) -> Option<Task<'a>>
+    ensures { IfSome result (λ task. command_of (Given.Task task) ≡ codes "explain") }
+{
+    let tape = matches.get_str("TAPE")?;
+    Some(Task::Explain {
+        tape,
+        output: matches.get_str("output"),
+    })
+}
+
+/// The task of a command with a configuration, other than `run`; None if a word is missing, or for another name.
 fn task_in<'a>(name: &str, matches: &ArgMatches<'a>) -> Option<Task<'a>>
     ensures { IfSome result (λ task. command_of (Given.Task task) ≡ name.now) }
 {
@@ -103,6 +121,16 @@ fn task_in<'a>(name: &str, matches: &ArgMatches<'a>) -> Option<Task<'a>>
     }
 }
 
+/// The task of a command other than `run`; None if a word is missing, or for another name.
+fn task_named<'a>(name: &str, matches: &ArgMatches<'a>) -> Option<Task<'a>>
+    ensures { IfSome result (λ task. command_of (Given.Task task) ≡ name.now) }
+{
+    if name == "explain" {
+        return explain_in(matches);
+    }
+    task_in(name, matches)
+}
+
 /// What a command line asks for that was parsed: a task of its own command. None if a word is missing, which `command`
 /// doesn't accept.
 pub(crate) fn given_in<'a>(matches: &ArgMatches<'a>) -> Option<Given<'a>>
@@ -112,7 +140,7 @@ pub(crate) fn given_in<'a>(matches: &ArgMatches<'a>) -> Option<Given<'a>>
     if name == "run" {
         return run_in(inner);
     }
-    match task_in(name, inner) {
+    match task_named(name, inner) {
         Some(task) => Some(Given::Task(task)),
         None => None,
     }

@@ -4,8 +4,10 @@ use Rattle.srt_command_line.specs.declared.words.WordsFault.{WordsFault}
 use Rattle.srt_command_line.specs.declared.words.WordsFault.TheVariants as words
 use Rattle.srt_replay.specs.declared.replaying.ReplayFault.{ReplayFault}
 use Rattle.srt_replay.specs.declared.replaying.ReplayFault.TheVariants as replays
+use Rattle.srt_transcript.specs.declared.transcribing.TranscriptFault.{TranscriptFault}
+use Rattle.srt_transcript.specs.declared.transcribing.TranscriptFault.TheVariants as transcripts
 use Rattle.srt_offline.specs.declared.faults.OfflineFault.{OfflineFault}
-use Rattle.srt_offline.specs.declared.faults.OfflineFault.TheVariants.{File, Config, Replay, Memory, Output}
+use Rattle.srt_offline.specs.declared.faults.OfflineFault.TheVariants.{File, Config, Replay, Transcript, Memory, Output}
 
 -- a replay's fault is printed as a line, unless it is that of an output that can't be written
 abbrev pub is_replay_printed : ReplayFault → Bool
@@ -14,11 +16,19 @@ is_replay_printed replays.OutOfMemory = true
 is_replay_printed replays.Read = true
 is_replay_printed replays.Write = false
 
+-- a transcript's fault is, unless it is that, or its last line states it
+abbrev pub is_transcript_printed : TranscriptFault → Bool
+is_transcript_printed (transcripts.NoEvent line) = false
+is_transcript_printed transcripts.Output = true
+is_transcript_printed transcripts.Read = true
+is_transcript_printed transcripts.Write = false
+
 -- so is every other fault
 abbrev pub is_printed : OfflineFault → Bool
 is_printed File = true
 is_printed (Config fault) = true
 is_printed (Replay fault) = is_replay_printed fault
+is_printed (Transcript fault) = is_transcript_printed fault
 is_printed Memory = true
 is_printed Output = false
 
@@ -37,6 +47,7 @@ abbrev pub IsConfigFault : OfflineFault → Type 0
 IsConfigFault File = Unit {0}
 IsConfigFault (Config fault) = Unit {0}
 IsConfigFault (Replay fault) = ⊥
+IsConfigFault (Transcript fault) = ⊥
 IsConfigFault Memory = Unit {0}
 IsConfigFault Output = ⊥
 
@@ -45,6 +56,7 @@ abbrev pub IsCheckFault : OfflineFault → Type 0
 IsCheckFault File = Unit {0}
 IsCheckFault (Config fault) = Unit {0}
 IsCheckFault (Replay fault) = ⊥
+IsCheckFault (Transcript fault) = ⊥
 IsCheckFault Memory = Unit {0}
 IsCheckFault Output = Unit {0}
 
@@ -53,6 +65,7 @@ abbrev pub IsReplayFault : OfflineFault → Type 0
 IsReplayFault File = Unit {0}
 IsReplayFault (Config fault) = Unit {0}
 IsReplayFault (Replay fault) = Unit {0}
+IsReplayFault (Transcript fault) = ⊥
 IsReplayFault Memory = Unit {0}
 IsReplayFault Output = ⊥
 
@@ -60,3 +73,17 @@ IsReplayFault Output = ⊥
 abbrev pub command_end : Result (Unit {0}) ReplayFault → Result (Unit {0}) OfflineFault
 command_end (Ok done) = Ok done
 command_end (Err fault) = Err (Replay fault)
+
+-- an explanation of a tape reads no configuration and replays nothing
+abbrev pub IsExplainFault : OfflineFault → Type 0
+IsExplainFault File = Unit {0}
+IsExplainFault (Config fault) = ⊥
+IsExplainFault (Replay fault) = ⊥
+IsExplainFault (Transcript fault) = Unit {0}
+IsExplainFault Memory = Unit {0}
+IsExplainFault Output = ⊥
+
+-- a transcript ends as it does; its fault is the command's, unchanged
+abbrev pub explain_end : Result (Unit {0}) TranscriptFault → Result (Unit {0}) OfflineFault
+explain_end (Ok done) = Ok done
+explain_end (Err fault) = Err (Transcript fault)

@@ -7,11 +7,12 @@ ghost use Rattle.srt_offline.specs.Ends.{is_printed, status_after, words_fault};
 use srt_command_line::WordsFault;
 use srt_config::ConfigFault;
 use srt_replay::ReplayFault;
+use srt_transcript::TranscriptFault;
 use std::process::ExitCode;
 use thiserror::Error;
 
-/// Why a command ended early. All give status 1, and all but an output that can't be written print one line, their text,
-/// on standard output.
+/// Why a command ended early. All yield status 1. All but an output that can't be written, and a tape's line that isn't an
+/// event, print one line, their text, on standard output.
 #[derive(Debug, Drop, Error)]
 pub enum OfflineFault {
     /// A file can't be read, or is larger than its limit.
@@ -23,6 +24,9 @@ pub enum OfflineFault {
     /// A replay ended with this fault.
     #[error(transparent)]
     Replay(ReplayFault),
+    /// A transcript ended with this fault.
+    #[error(transparent)]
+    Transcript(TranscriptFault),
     /// Memory was refused.
     #[error("memory")]
     Memory,
@@ -39,6 +43,13 @@ impl OfflineFault {
         OfflineFault::Replay(fault)
     }
 
+    /// The fault of a transcript that ended with this one.
+    pub fn of_transcript(fault: TranscriptFault) -> OfflineFault
+        ensures { result ≡ OfflineFault.Transcript fault }
+    {
+        OfflineFault::Transcript(fault)
+    }
+
     /// The fault of a command line that came to nothing.
     pub fn of_words(fault: WordsFault) -> OfflineFault
         ensures { result ≡ words_fault fault }
@@ -49,15 +60,18 @@ impl OfflineFault {
         }
     }
 
-    /// Whether the fault's text is printed as a line: for all faults but an output that can't be written.
+    /// Whether the fault's text is printed as a line: not after an output that can't be written, nor after a transcript whose
+    /// last line states that the tape's line isn't an event.
     pub fn is_printed(&self) -> bool
         ensures { result ≡ is_printed self.now }
     {
         match self {
             OfflineFault::Output | OfflineFault::Replay(ReplayFault::Write) => false,
+            OfflineFault::Transcript(TranscriptFault::NoEvent(_) | TranscriptFault::Write) => false,
             OfflineFault::File
             | OfflineFault::Config(_)
             | OfflineFault::Replay(_)
+            | OfflineFault::Transcript(_)
             | OfflineFault::Memory => true,
         }
     }

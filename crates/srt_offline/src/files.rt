@@ -43,7 +43,7 @@ impl Unread {
 }
 
 /// What an error of opening or reading a file means.
-fn cause_of(error: io::Error) -> Unread
+pub(crate) fn cause_of(error: io::Error) -> Unread
     ensures told { (limit : ℕ) → IsLimit limit result }
     ensures larger { (limit : ℕ) (known : List ℕ) → IsLarger limit known result }
 {

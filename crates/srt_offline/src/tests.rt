@@ -3,6 +3,7 @@
 use crate::faults::OfflineFault;
 use srt_config::{ConfigFault, Key};
 use srt_replay::ReplayFault;
+use srt_transcript::TranscriptFault;
 use std::fmt::InlineText;
 use std::process::Abort;
 use std::test::Fail;
@@ -43,6 +44,16 @@ fn each_fault_has_its_line(rt: HostRuntime) -> Result<(), Fail> {
         "memory",
     );
     assert_line(&rt, OfflineFault::Replay(ReplayFault::Read), "file fault");
+    assert_line(
+        &rt,
+        OfflineFault::Transcript(TranscriptFault::Read),
+        "file fault",
+    );
+    assert_line(
+        &rt,
+        OfflineFault::Transcript(TranscriptFault::Output),
+        "file fault",
+    );
     assert_line(&rt, OfflineFault::File, "file fault");
     assert_line(&rt, OfflineFault::Memory, "memory");
     Ok(())
@@ -52,4 +63,10 @@ fn each_fault_has_its_line(rt: HostRuntime) -> Result<(), Fail> {
 fn an_output_that_fails_has_no_line(rt: HostRuntime) {
     assert!(rt; !OfflineFault::Output.is_printed());
     assert!(rt; !OfflineFault::Replay(ReplayFault::Write).is_printed());
+    assert!(rt; !OfflineFault::Transcript(TranscriptFault::Write).is_printed());
+}
+
+#[test]
+fn a_line_that_is_no_event_has_no_other_line(rt: HostRuntime) {
+    assert!(rt; !OfflineFault::Transcript(TranscriptFault::NoEvent(3)).is_printed());
 }

@@ -1,6 +1,7 @@
 pub mod inside
 pub mod Tape
 pub mod Events
+pub mod EventRead
 pub mod Texts
 pub mod Replay
 pub mod Known

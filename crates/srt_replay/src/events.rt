@@ -5,7 +5,7 @@ ghost use Rattle.srt_replay.specs.Tape.{fields_of};
 ghost use Rattle.srt_replay.specs.inside.Pieces.{fields_behind, FourOf};
 ghost use Rattle.srt_replay.specs.inside.Parts.{OneOf, TwoOf};
 ghost use Rattle.srt_replay.specs.Events.{event_of, event_in, text_in, mode_in, numbers_in, arrival_in, tick_in, turn_in, send_in, opening_in, closing_in};
-ghost use Rattle.srt_replay.specs.inside.Said.{event_said, IsSound};
+ghost use Rattle.srt_replay.specs.EventRead.{event_read, IsSound};
 ghost use Rattle.srt_config.specs.RouteNumbers.{numbers_of};
 
 use crate::fields::split_field;
@@ -14,20 +14,20 @@ use crate::lines::MAX_LINE;
 use srt_config::{RouteNumbers, read_number};
 use srt_seq::{MOMENT_END, Mode, Peer};
 
-/// A route that is to be opened: the entry of its line, whose name and numbers may be any.
+/// A route that is to be opened: the entry of its line, with any name and any numbers.
 #[derive(Clone, Copy)]
-pub(crate) struct NewRoute<'a> {
+pub struct NewRoute<'a> {
     /// The name.
-    pub(crate) name: &'a str,
+    pub name: &'a str,
     /// The mode.
-    pub(crate) mode: Mode,
+    pub mode: Mode,
     /// The numbers.
-    pub(crate) numbers: RouteNumbers,
+    pub numbers: RouteNumbers,
 }
 
-/// An event as it was read. The bytes of an arrival's datagram are at the front of a buffer beside it.
+/// An event of a tape. The bytes of an arrival's datagram are at the front of the buffer that was passed to [`read_event`].
 #[derive(Clone, Copy)]
-pub(crate) enum Said<'a> {
+pub enum TapeEvent<'a> {
     /// `A`: a datagram arrives.
     Arrival {
         /// The sender's address.
@@ -129,9 +129,9 @@ fn four_fields(text: &[u8]) -> Option<Four<'_>>
 
 /// Reads an arrival from the fields after the line's letter: moment, address, port and bytes. The datagram is written
 /// to the front of the buffer.
-fn read_arrival<'a>(text: &[u8], buffer: &mut [u8; 2048]) -> Option<Said<'a>>
+fn read_arrival<'a>(text: &[u8], buffer: &mut [u8; 2048]) -> Option<TapeEvent<'a>>
     requires { length text.now ≤ 4096 }
-    ensures value { option_map (event_said buffer.new) result ≡ arrival_in (fields_of text.now) }
+    ensures value { option_map (event_read buffer.new) result ≡ arrival_in (fields_of text.now) }
     ensures sound { IfSome result (IsSound 0) }
 {
     let fields = four_fields(text)?;
@@ -143,38 +143,38 @@ fn read_arrival<'a>(text: &[u8], buffer: &mut [u8; 2048]) -> Option<Said<'a>>
         ip,
         port: port as u16,
     };
-    Some(Said::Arrival { peer, moment, len })
+    Some(TapeEvent::Arrival { peer, moment, len })
 }
 
-fn read_tick<'a>(text: &[u8], routes: usize) -> Option<Said<'a>>
-    ensures value { option_map (event_said []) result ≡ tick_in routes (fields_of text.now) }
+fn read_tick<'a>(text: &[u8], routes: usize) -> Option<TapeEvent<'a>>
+    ensures value { option_map (event_read []) result ≡ tick_in routes (fields_of text.now) }
     ensures sound { IfSome result (IsSound routes) }
 {
     let fields = two_fields(text)?;
     let route = read_number(fields.first, routes as u64)?;
     let moment = read_number(fields.second, MOMENT_END)?;
-    Some(Said::Tick {
+    Some(TapeEvent::Tick {
         route: route as usize,
         moment,
     })
 }
 
-fn read_turn<'a>(text: &[u8], routes: usize) -> Option<Said<'a>>
-    ensures value { option_map (event_said []) result ≡ turn_in routes (fields_of text.now) }
+fn read_turn<'a>(text: &[u8], routes: usize) -> Option<TapeEvent<'a>>
+    ensures value { option_map (event_read []) result ≡ turn_in routes (fields_of text.now) }
     ensures sound { IfSome result (IsSound routes) }
 {
     let route = read_number(one_field(text)?, routes as u64)?;
-    Some(Said::Turn {
+    Some(TapeEvent::Turn {
         route: route as usize,
     })
 }
 
-fn read_send<'a>(text: &[u8], routes: usize) -> Option<Said<'a>>
-    ensures value { option_map (event_said []) result ≡ send_in routes (fields_of text.now) }
+fn read_send<'a>(text: &[u8], routes: usize) -> Option<TapeEvent<'a>>
+    ensures value { option_map (event_read []) result ≡ send_in routes (fields_of text.now) }
     ensures sound { IfSome result (IsSound routes) }
 {
     let route = read_number(one_field(text)?, routes as u64)?;
-    Some(Said::Send {
+    Some(TapeEvent::Send {
         route: route as usize,
     })
 }
@@ -223,8 +223,8 @@ fn read_numbers(text: &[u8]) -> Option<RouteNumbers>
 }
 
 #[tactic(auto, unfolding(crate::specs::Events::opening_in, crate::specs::Events::numbers_in))]
-fn read_opening(text: &[u8]) -> Option<Said<'_>>
-    ensures value { (buffer : List ℕ) → option_map (event_said buffer) result ≡ opening_in (fields_of text.now) }
+fn read_opening(text: &[u8]) -> Option<TapeEvent<'_>>
+    ensures value { (buffer : List ℕ) → option_map (event_read buffer) result ≡ opening_in (fields_of text.now) }
     ensures sound { IfSome result (IsSound 0) }
 {
     let name = split_field(text);
@@ -232,21 +232,21 @@ fn read_opening(text: &[u8]) -> Option<Said<'_>>
     let name = read_text(name.field)?;
     let live_or_buffer = read_mode(mode.field)?;
     let numbers = read_numbers(mode.rest?)?;
-    Some(Said::Opens(NewRoute {
+    Some(TapeEvent::Opens(NewRoute {
         name,
         mode: live_or_buffer,
         numbers,
     }))
 }
 
-fn read_closing<'a>(text: &[u8], routes: usize) -> Option<Said<'a>>
-    ensures value { option_map (event_said []) result ≡ closing_in routes (fields_of text.now) }
+fn read_closing<'a>(text: &[u8], routes: usize) -> Option<TapeEvent<'a>>
+    ensures value { option_map (event_read []) result ≡ closing_in routes (fields_of text.now) }
     ensures sound { IfSome result (IsSound routes) }
 {
     let two = two_fields(text)?;
     let route = read_number(two.first, routes as u64)?;
     let moment = read_number(two.second, MOMENT_END)?;
-    Some(Said::Closes {
+    Some(TapeEvent::Closes {
         route: route as usize,
         moment,
     })
@@ -260,9 +260,9 @@ fn read_kind<'a>(
     text: &'a [u8],
     routes: usize,
     buffer: &mut [u8; 2048],
-) -> Option<Said<'a>>
+) -> Option<TapeEvent<'a>>
     requires { length text.now ≤ 4096 }
-    ensures value { option_map (event_said buffer.new) result ≡ event_in routes (letter.now ∷ fields_of text.now) }
+    ensures value { option_map (event_read buffer.new) result ≡ event_in routes (letter.now ∷ fields_of text.now) }
     ensures sound { IfSome result (IsSound routes) }
 {
     match letter {
@@ -278,9 +278,9 @@ fn read_kind<'a>(
 
 /// Reads the event of a line; None if it isn't one. A datagram is written to the front of the buffer.
 #[tactic(auto, using(crate::proofs::Letters::letter_alone))]
-fn read_fields<'a>(line: &'a [u8], routes: usize, buffer: &mut [u8; 2048]) -> Option<Said<'a>>
+fn read_fields<'a>(line: &'a [u8], routes: usize, buffer: &mut [u8; 2048]) -> Option<TapeEvent<'a>>
     requires { length line.now ≤ 4096 }
-    ensures value { option_map (event_said buffer.new) result ≡ event_in routes (fields_of line.now) }
+    ensures value { option_map (event_read buffer.new) result ≡ event_in routes (fields_of line.now) }
     ensures sound { IfSome result (IsSound routes) }
 {
     let letter = split_field(line);
@@ -293,12 +293,12 @@ fn read_fields<'a>(line: &'a [u8], routes: usize, buffer: &mut [u8; 2048]) -> Op
 /// Reads the event of a line, for a gateway with `routes` routes; None if it isn't one or is longer than 4096 bytes. A
 /// datagram is written to the front of the buffer, whose bytes mean nothing after None.
 #[tactic(auto, unfolding(crate::specs::Events::event_of))]
-pub(crate) fn read_event<'a>(
+pub fn read_event<'a>(
     line: &'a [u8],
     routes: usize,
     buffer: &mut [u8; 2048],
-) -> Option<Said<'a>>
-    ensures value { option_map (event_said buffer.new) result ≡ event_of routes line.now }
+) -> Option<TapeEvent<'a>>
+    ensures value { option_map (event_read buffer.new) result ≡ event_of routes line.now }
     ensures sound { IfSome result (IsSound routes) }
 {
     if line.len() > MAX_LINE {

@@ -5,9 +5,11 @@
 //! by `srt_config`.
 //!
 //! Types: `CountedReader` and `CountedWriter`, a reader and a writer with a bound on the number of calls; `ReplayFault`,
-//! why a replay ended early.
+//! why a replay ended early; `TapeEvent`, the event of a line.
 //!
-//! Calls: `replay` on a configuration and a tape, or `replay_over` with a hub of one's own.
+//! Calls: `replay` on a configuration and a tape, or `replay_over` with a separate hub. For other programs that read tapes
+//! (`srt_transcript`): `next_line` reads a line, `read_event` its event, `read_address` and `read_bytes` its hexadecimal
+//! digits.
 //!
 //! Files: `events.rt`, `fields.rt` and `hexadecimal.rt` have the grammar of a line (docs/PROTOCOL.md, "Tapes");
 //! `lines.rt` and `reader.rt` take lines; `texts.rt` and `writer.rt` write the answers; `replaying.rt` joins them.
@@ -24,9 +26,12 @@ mod replaying;
 mod texts;
 mod writer;
 
-pub use reader::{Brought, CountedReader};
-pub use replaying::{ReplayFault, replay, replay_over};
-pub use writer::{CountedWriter, Tried};
+pub use events::{NewRoute, TapeEvent, read_event};
+pub use hexadecimal::{read_address, read_bytes};
+pub use lines::{MAX_LINE, Taken, next_line};
+pub use reader::{Brought, CountedReader, ReadFailed};
+pub use replaying::{MAX_LINES, ReplayFault, replay, replay_over};
+pub use writer::{CountedWriter, Tried, WriteFailed};
 
 #[cfg(test)]
 mod tests;

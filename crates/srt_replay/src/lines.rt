@@ -8,11 +8,11 @@ use crate::reader::{CountedReader, Piece, ReadFailed};
 use std::io::BufRead;
 
 /// The greatest length of a line, in bytes, without its LF.
-pub(crate) const MAX_LINE: usize = 4096;
+pub const MAX_LINE: usize = 4096;
 
 /// The result of taking a line.
 #[derive(Clone, Copy)]
-pub(crate) enum Taken {
+pub enum Taken {
     /// A line with this length in bytes, without its LF.
     Line(usize),
     /// Nothing; the next line is longer than 4096 bytes.
@@ -33,9 +33,9 @@ fn at_end(len: usize) -> Taken
     }
 }
 
-/// Takes the next line and writes it to the front of `line`. The error is that the reader failed or has no read left;
-/// such a reader isn't called again.
-pub(crate) fn next_line<R: BufRead>(
+/// Reads the next line and writes it to the front of `line`, without its LF. The error is that the reader failed or has no
+/// read left; such a reader isn't called again.
+pub fn next_line<R: BufRead>(
     reader: &mut CountedReader<R>,
     line: &mut [u8; MAX_LINE],
 ) -> Result<Taken, ReadFailed>

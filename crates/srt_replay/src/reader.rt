@@ -46,7 +46,7 @@ pub struct CountedReader<R> {
 
 /// The reader failed, or no read is left.
 #[derive(Clone, Copy)]
-pub(crate) struct ReadFailed;
+pub struct ReadFailed;
 
 /// The result of one read. A length is that of the line so far.
 #[derive(Clone, Copy)]

@@ -7,14 +7,14 @@ ghost use Rattle.srt_seq.specs.Terms.{terms_of};
 ghost use Rattle.srt_seq.specs.Entries.{in_limits};
 ghost use Rattle.srt_config.specs.Routes.{terms_with};
 ghost use Rattle.srt_config.specs.RouteNumbers.{numbers_of};
-ghost use Rattle.srt_replay.specs.inside.Said.{arrival, terms_said, event_said, IsSound};
+ghost use Rattle.srt_replay.specs.EventRead.{arrival, terms_read, event_read, IsSound};
 ghost use Rattle.srt_replay.specs.Replay.{WasRefused};
 ghost use Rattle.srt_replay.specs.Counted.{source, reads_left, last_brought, TurnRead, ReplayRead};
 ghost use Rattle.srt_replay.specs.Tries.{sink, HasWriteCause, ReplayWritten};
 ghost use Rattle.srt_replay.specs.inside.Step.{Answers, Tries, TriesLine, TriesNext};
 ghost use Rattle.srt_replay.specs.ReplayOver.{ReplaysOver, ReplaysOf};
 
-use crate::events::{NewRoute, Said, read_event};
+use crate::events::{NewRoute, TapeEvent, read_event};
 use crate::lines::{MAX_LINE, Taken, next_line};
 use crate::reader::CountedReader;
 use crate::texts::{
@@ -31,7 +31,7 @@ use std::io::{BufRead, Write};
 use thiserror::Error;
 
 /// The greatest number of lines of a tape.
-pub(crate) const MAX_LINES: u32 = 1_000_000;
+pub const MAX_LINES: u32 = 1_000_000;
 
 /// Why a replay ended early. What was written before stays written. Its text is the line that the program prints,
 /// which prints none for `Write`.
@@ -136,7 +136,7 @@ fn entry_with(name: String, opening: NewRoute<'_>) -> Entry
 
 /// The entry of a line. Allocates a copy of the name.
 fn entry_of(alloc: Global, opening: NewRoute<'_>) -> Result<Entry, OutOfMemory>
-    ensures { IfOk result (λ entry. terms_of entry ≡ terms_said opening.entry) }
+    ensures { IfOk result (λ entry. terms_of entry ≡ terms_read opening.entry) }
 {
     match String::from_str(alloc, opening.name) {
         Ok(name) => Ok(entry_with(name, opening)),
@@ -146,7 +146,7 @@ fn entry_of(alloc: Global, opening: NewRoute<'_>) -> Result<Entry, OutOfMemory>
 
 /// Whether each number of a line is within its limits. Doesn't allocate.
 fn has_right_numbers(alloc: Global, opening: NewRoute<'_>) -> bool
-    ensures { result ≡ in_limits (terms_said opening.entry) }
+    ensures { result ≡ in_limits (terms_read opening.entry) }
 {
     entry_with(String::new(alloc), opening).in_limits()
 }
@@ -157,10 +157,10 @@ fn opening_fault<R: RouteStep, L: Doors>(
     hub: &Hub<R, L>,
     opening: NewRoute<'_>,
 ) -> Option<OpenFault>
-    ensures fault { FaultAnswers ⟦<Hub<R, L> as Gateway>⟧.stands hub.now L.class R.reply (terms_said opening.entry).name
-        (in_limits (terms_said opening.entry)) result }
+    ensures fault { FaultAnswers ⟦<Hub<R, L> as Gateway>⟧.stands hub.now L.class R.reply (terms_read opening.entry).name
+        (in_limits (terms_read opening.entry)) result }
     // An opening that has a fault changes nothing.
-    ensures stands { IfSome result (λ _. Happened ⟦<Hub<R, L> as Gateway>⟧.stands hub.now hub.now (Opens (terms_said opening.entry) false)) }
+    ensures stands { IfSome result (λ _. Happened ⟦<Hub<R, L> as Gateway>⟧.stands hub.now hub.now (Opens (terms_read opening.entry) false)) }
 {
     hub.opening_fault(opening.name.as_bytes(), has_right_numbers(alloc, opening))
 }
@@ -185,7 +185,7 @@ fn answer_opening<R: RouteStep, L: Doors>(
     out: &mut [u8; MAX_TEXT],
 ) -> Result<usize, OutOfMemory>
     ensures within { IfOk result (λ n. n ≤ 4096) }
-    ensures answered { Tries ⟦<Hub<R, L> as Gateway>⟧.stands hub.old hub.new L.class R.reply (Opens (terms_said opening.entry) false) out.new result }
+    ensures answered { Tries ⟦<Hub<R, L> as Gateway>⟧.stands hub.old hub.new L.class R.reply (Opens (terms_read opening.entry) false) out.new result }
 {
     if let Some(fault) = opening_fault(alloc, hub, opening) {
         return Ok(write_opened(Err(fault), out));
@@ -237,15 +237,15 @@ struct Workspace {
 /// Runs an event, and writes its answer as a line to the front of the desk's text. Returns the line's length.
 fn answer_event<R: RouteStep, L: Doors>(
     hub: &mut Hub<R, L>,
-    event: Said<'_>,
+    event: TapeEvent<'_>,
     desk: &mut Desk,
 ) -> Result<usize, OutOfMemory>
     requires { IsSound (⟦<Hub<R, L> as Gateway>⟧.routes hub.old) event }
     ensures within { IfOk result (λ n. n ≤ 4096) }
-    ensures answered { Tries ⟦<Hub<R, L> as Gateway>⟧.stands hub.old hub.new L.class R.reply (event_said desk.old.datagram event.entry) desk.new.text result }
+    ensures answered { Tries ⟦<Hub<R, L> as Gateway>⟧.stands hub.old hub.new L.class R.reply (event_read desk.old.datagram event.entry) desk.new.text result }
 {
     match event {
-        Said::Arrival { peer, moment, len } => {
+        TapeEvent::Arrival { peer, moment, len } => {
             answer_arrival(
                 desk.alloc,
                 hub,
@@ -255,11 +255,16 @@ fn answer_event<R: RouteStep, L: Doors>(
                 &mut desk.text,
             )
         }
-        Said::Tick { route, moment } => Ok(answer_tick(hub, route, moment, &mut desk.text)),
-        Said::Turn { route } => Ok(answer_turn(hub, route, &mut desk.text)),
-        Said::Send { route } => Ok(answer_send(hub, route, &mut desk.packet, &mut desk.text)),
-        Said::Opens(opening) => answer_opening(desk.alloc, hub, opening, &mut desk.text),
-        Said::Closes { route, moment } => Ok(answer_closing(hub, route, moment, &mut desk.text)),
+        TapeEvent::Tick { route, moment } => Ok(answer_tick(hub, route, moment, &mut desk.text)),
+        TapeEvent::Turn { route } => Ok(answer_turn(hub, route, &mut desk.text)),
+        TapeEvent::Send { route } => Ok(answer_send(hub, route, &mut desk.packet, &mut desk.text)),
+        TapeEvent::Opens(opening) => answer_opening(desk.alloc, hub, opening, &mut desk.text),
+        TapeEvent::Closes { route, moment } => Ok(answer_closing(
+            hub,
+            route,
+            moment,
+            &mut desk.text,
+        )),
     }
 }
 

@@ -43,7 +43,7 @@ pub struct CountedWriter<W> {
 
 /// The writer failed, took none of the bytes, or was interrupted too often.
 #[derive(Clone, Copy)]
-pub(crate) struct WriteFailed;
+pub struct WriteFailed;
 
 /// The result of a write that returned this.
 fn outcome_of_write(written: &io::Result<usize>) -> Tried
@@ -185,8 +185,8 @@ impl<W> CountedWriter<W> {
 }
 
 impl<W: Write> CountedWriter<W> {
-    /// Writes all bytes, or a prefix of them if the writer fails.
-    pub(crate) fn write_bytes(&mut self, bytes: &[u8]) -> Result<(), WriteFailed>
+    /// Writes all bytes, or a prefix of them if the writer fails. An interrupted write is tried again, up to 2^33 tries.
+    pub fn write_bytes(&mut self, bytes: &[u8]) -> Result<(), WriteFailed>
         ensures ok { OnOk result (Wrote (W.contents (sink self.old)) (W.contents (sink self.new)) bytes.now) }
         ensures err { OnErr result ((n : ℕ) × Wrote (W.contents (sink self.old)) (W.contents (sink self.new)) (take n bytes.now)) }
         ensures cause { OnErr result (IsUnwritten self.new) }
@@ -194,8 +194,8 @@ impl<W: Write> CountedWriter<W> {
         write_bytes(&mut self.writer, &mut self.note, bytes)
     }
 
-    /// Flushes the writer.
-    pub(crate) fn flush(&mut self) -> Result<(), WriteFailed>
+    /// Flushes the writer. An interrupted flush is tried again, up to 2^33 tries.
+    pub fn flush(&mut self) -> Result<(), WriteFailed>
         ensures bytes { Keeps (W.contents (sink self.old)) (W.contents (sink self.new)) }
         ensures ok { OnOk result (last_try self.new ≡ Tried.Flushed) }
         ensures cause { OnErr result (IsUnwritten self.new) }

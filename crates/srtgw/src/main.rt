@@ -6,8 +6,8 @@
 //!
 //! Types: `Fault` (`faults.rt`), why a run ended early. What the command line asks for is `srt_command_line`'s `Task`.
 //!
-//! Calls: `main` takes the words, and `run` does their task: `check` and `replay` are `srt_offline`'s, `serve`
-//! (`serving.rt`) binds the UDP socket and runs threads until the rounds are over, `run` (`running.rt`) until it is told to
+//! Calls: `main` takes the words, and `run` does their task: `check`, `replay` and `explain` are `srt_offline`'s,
+//! `serve` (`serving.rt`) binds the UDP socket and runs threads until the rounds are over, `run` (`running.rt`) until it is told to
 //! stop, with a watcher over `srt_host`. `clocks.rt` has the routes' clock. `srtgw_offline` is the same program without
 //! sockets. docs/OPERATING.md has the commands, docs/PROTOCOL.md each line of output and each status.
 #![tactic(auto)]
@@ -28,7 +28,7 @@ use running::run_gateway;
 use serving::{print_report, serve};
 use srt_command_line::{CommandLine, Manner, Task, WordsFault, read_words, words_given};
 use srt_config::Config;
-use srt_offline::{OfflineFault, check_file, config_at, explained_at, replay_file};
+use srt_offline::{OfflineFault, check_file, config_at, explain_file, explained_at, replay_file};
 use std::net::Net;
 use std::process::ExitCode;
 use std::rt::{Clock, Env, Files};
@@ -85,6 +85,7 @@ where
     match task {
         Task::Check { config, explains } => offline(check_file(rt, config, explains)),
         Task::Replay { config, tape } => offline(replay_file(rt, config, tape)),
+        Task::Explain { tape, output } => offline(explain_file(rt, tape, output)),
         Task::Serve { config, rounds } => serve_file(rt, config, rounds),
         Task::Run { config, manner } => run_file(rt, machine, config, manner),
     }

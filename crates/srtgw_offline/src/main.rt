@@ -1,7 +1,7 @@
-//! `srtgw_offline`: the gateway's program without sockets. It has the command line of `srtgw`, does `check` and `replay`,
-//! and says of the other commands that `srtgw` does them.
+//! `srtgw_offline`: the gateway's program without sockets. It has the command line of `srtgw`, does `check`, `replay`
+//! and `explain`, and reports of the other commands that `srtgw` does them.
 //!
-//! It stands on few crates, so that it is proved and built in a third of the time of the whole program.
+//! It uses few crates, so that it is proved and built in a third of the time of the whole program.
 //!
 //! Calls: `main` takes the words, and `obey_task` does their task by `srt_offline`. docs/OPERATING.md has the commands,
 //! docs/PROTOCOL.md each line of output and each status.
@@ -11,7 +11,7 @@ ghost use Rattle.std.specs.Prelude.{◌≡◌};
 ghost use Rattle.std.specs.Process.{exit_status};
 
 use srt_command_line::{CommandLine, Task, WordsFault, read_words, words_given};
-use srt_offline::{OfflineFault, check_file, replay_file, status_of};
+use srt_offline::{OfflineFault, check_file, explain_file, replay_file, status_of};
 use std::process::ExitCode;
 use std::rt::{Env, Files};
 
@@ -33,6 +33,7 @@ where
     match task {
         Task::Check { config, explains } => status_of(rt, check_file(rt, config, explains)),
         Task::Replay { config, tape } => status_of(rt, replay_file(rt, config, tape)),
+        Task::Explain { tape, output } => status_of(rt, explain_file(rt, tape, output)),
         Task::Serve { .. } => leave(rt, "serve"),
         Task::Run { .. } => leave(rt, "run"),
     }

@@ -15,6 +15,7 @@ lasts_of (Some text) = option_map (λ lasts. Some lasts) (duration_in text)
 abbrev pub name_of : Task → List ℕ
 name_of (tasks.Check config explains) = codes "check"
 name_of (tasks.Replay config tape) = codes "replay"
+name_of (tasks.Explain tape output) = codes "explain"
 name_of (tasks.Serve config rounds) = codes "serve"
 name_of (tasks.Run config manner) = codes "run"
 

@@ -5,14 +5,14 @@ use Rattle.srt_hub.specs.inside.Queued.{item_in, reply_in}
 use Rattle.srt_hub.specs.inside.Stands.{IsLane}
 use Rattle.srt_hub.specs.Hubs.{AreLanes, IsHub}
 use Rattle.srt_hub.specs.Calls.{wants_memory}
-use Rattle.srt_replay.specs.inside.Said.{terms_said}
+use Rattle.srt_replay.specs.EventRead.{terms_read}
 use Rattle.srt_replay.proofs.EventTexts.{opened_line, opened_stands, fault_line, after_want}
 use Rattle.srt_replay.proofs.replaying.answer_opening.Goals as goal
 
 pub returns-clause-answered : goal.returns-clause-answered
 returns-clause-answered g c secret entries past h =
     let known = sym c.is_refused.ensures ∙ c.if-is_refused.false in (
-      opened_line (g.L.Lobby.class secret) g.R.RouteStep.reply entries past (terms_of c.in-Ok.entry) (terms_said c.args.opening)
+      opened_line (g.L.Lobby.class secret) g.R.RouteStep.reply entries past (terms_of c.in-Ok.entry) (terms_read c.args.opening)
           (wants_memory c.open_route-opened.result) c.open_route-opened.result _ c.in-Ok.ensures known c.write_opened-2.ensures.text
           (c.open_route-opened.ensures.answer secret entries past h),
       opened_stands
@@ -23,13 +23,13 @@ returns-clause-answered g c secret entries past h =
           (λ lane e r m. IsLane e (λ items. g.R.RouteStep.stands lane.route e r items) (g.R.RouteStep.waiting lane.route)
           (map item_in lane.inbox.items) (map reply_in lane.outbox.items) lane.inbox_room lane.outbox_room m)
           (world_after (g.L.Lobby.class secret) g.R.RouteStep.reply entries events) c.open_route-opened.new.self.lanes.items))
-          past (terms_of c.in-Ok.entry) (terms_said c.args.opening) (wants_memory c.open_route-opened.result) c.in-Ok.ensures known
+          past (terms_of c.in-Ok.entry) (terms_read c.args.opening) (wants_memory c.open_route-opened.result) c.in-Ok.ensures known
           (c.open_route-opened.ensures.stands secret entries past h),
     )
 
 pub returns-in-Some-clause-answered : goal.returns-in-Some-clause-answered
 returns-in-Some-clause-answered g c secret entries past h = (
-  fault_line (g.L.Lobby.class secret) g.R.RouteStep.reply entries past (terms_said c.args.opening) c.in-Some.fault c.opening_fault.result _
+  fault_line (g.L.Lobby.class secret) g.R.RouteStep.reply entries past (terms_read c.args.opening) c.in-Some.fault c.opening_fault.result _
       c.write_opened.ensures.text (c.opening_fault.ensures.fault secret entries past h) c.in-Some.is,
   c.in-Some.ensures.stands secret entries past h,
 )

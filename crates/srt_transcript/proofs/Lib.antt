@@ -1,0 +1,4 @@
+pub mod Numbers
+pub mod Snoc
+pub mod Progress
+pub mod Fewer
