@@ -103,8 +103,8 @@ fn put_quoted(words: &mut Words, byte: u8, quote: u8) {
     }
 }
 
-/// Puts a line that isn't an event: its first 80 bytes in quotes, its LF among them.
-pub(crate) fn put_no_event(words: &mut Words, line: &[u8]) {
+/// Puts a line that isn't an event: its first 80 bytes in quotes, its LF among them if it has one.
+pub(crate) fn put_no_event(words: &mut Words, line: &[u8], has_lf: bool) {
     let shown = front(line, MAX_SHOWN);
     let quote = quote_of(shown);
     words.put(b"no event: ");
@@ -112,7 +112,7 @@ pub(crate) fn put_no_event(words: &mut Words, line: &[u8]) {
     for byte in shown {
         put_quoted(words, *byte, quote);
     }
-    if line.len() < MAX_SHOWN {
+    if has_lf & (line.len() < MAX_SHOWN) {
         words.put(b"\\n");
     }
     words.put(&[quote]);

@@ -64,6 +64,13 @@ fn the_first_line_that_is_no_event_is_the_last(rt: HostRuntime) {
     );
     assert_transcript(
         &rt,
+        "U 511",
+        "",
+        Err(TranscriptFault::NoEvent(1)),
+        "      1  no event: 'U 511'\n",
+    );
+    assert_transcript(
+        &rt,
         "it's\t\\\r\u{e9}\n",
         "tape fault 1\nleft out\n",
         Err(TranscriptFault::NoEvent(1)),

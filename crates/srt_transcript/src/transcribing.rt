@@ -15,7 +15,9 @@ use crate::answers::put_output;
 use crate::events::{put_event, put_long_line, put_no_event};
 use crate::lines::{MAX_ENTRY, first_line, write_answer, write_line};
 use crate::text::Words;
-use srt_replay::{CountedReader, CountedWriter, MAX_LINE, MAX_LINES, Taken, next_line, read_event};
+use srt_replay::{
+    Brought, CountedReader, CountedWriter, MAX_LINE, MAX_LINES, Taken, next_line, read_event,
+};
 use srt_seq::limits::MAX_ROUTES;
 use std::io::{BufRead, Write};
 use thiserror::Error;
@@ -82,14 +84,20 @@ fn kind_of(is_event: bool) -> Explained
     }
 }
 
-/// Makes the words of the tape's line `number`. Returns whether it is an event.
-fn describe(line: &[u8], number: u32, words: &mut Words, datagram: &mut [u8; 2048]) -> bool
+/// Makes the words of the tape's line `number`, which ends with LF if it `has_lf`. Returns whether it is an event.
+fn describe(
+    line: &[u8],
+    number: u32,
+    has_lf: bool,
+    words: &mut Words,
+    datagram: &mut [u8; 2048],
+) -> bool
     ensures kind { result ≡ is_event number line.now }
     ensures short { result ≡ true → number ≤ 1000000 }
 {
     words.clear();
     if number > MAX_LINES {
-        put_no_event(words, line);
+        put_no_event(words, line, has_lf);
         return false;
     }
     match read_event(line, MAX_ROUTES, datagram) {
@@ -98,7 +106,7 @@ fn describe(line: &[u8], number: u32, words: &mut Words, datagram: &mut [u8; 204
             true
         }
         None => {
-            put_no_event(words, line);
+            put_no_event(words, line, has_lf);
             false
         }
     }
@@ -139,9 +147,10 @@ fn write_reply<W: Write>(
     }
 }
 
-/// Explains a line of the tape.
+/// Explains a line of the tape, which ends with LF if it `has_lf`.
 fn explain_line<W: Write>(
     line: &[u8],
+    has_lf: bool,
     writer: &mut CountedWriter<W>,
     desk: &mut Desk,
     number: u32,
@@ -150,7 +159,7 @@ fn explain_line<W: Write>(
     ensures short { IfOk result (λ explained. explained ≡ Explained.Event → number ≤ 1000000) }
     ensures cause { HasWriteCause writer.new result }
 {
-    let is_event = describe(line, number, &mut desk.words, &mut desk.datagram);
+    let is_event = describe(line, number, has_lf, &mut desk.words, &mut desk.datagram);
     match write_words(writer, &mut desk.entry, number, desk.words.bytes()) {
         Ok(()) => Ok(kind_of(is_event)),
         Err(fault) => Err(fault),
@@ -195,7 +204,9 @@ fn explain_next<B: BufRead, W: Write>(
         Ok(Taken::End) => return Ok(Explained::End),
         Err(_) => return Err(TranscriptFault::Read),
     };
-    explain_line(&work.line[..len], writer, &mut work.desk, number)
+    // The last line has no LF if the read that ended it showed the tape's end.
+    let has_lf = tape.brought() != Brought::End;
+    explain_line(&work.line[..len], has_lf, writer, &mut work.desk, number)
 }
 
 /// Explains a line of the output.
