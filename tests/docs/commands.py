@@ -254,16 +254,56 @@ class Checker:
 
 # ---- configurations ----
 
+KEY_TABLE = "crates/srt_config/src/config/table.rt"
+
 
 def keys_of(index: Index) -> Tuple[Set[str], Set[str]]:
     """The keys of a configuration's table and of a route's, as the code has them."""
-    folder = "crates/srt_config/src/config/"
-    texts = dict(re.findall(r'Key::(\w+) => "(\w+)"', index.text(f"{folder}faults.rt")))
+    table = index.text(KEY_TABLE)
+    texts = dict(re.findall(r'Key::(\w+) => "(\w+)"', table))
     both = []
-    for path, name in (("reading.rt", "TOP_KEYS"), ("routes.rt", "ROUTE_KEYS")):
-        found = re.search(rf"const {name}: \[Key; \d+\] = \[(.*?)\];", index.text(folder + path), re.DOTALL)
+    for name in ("TOP_KEYS", "ROUTE_KEYS"):
+        found = re.search(rf"const {name}: \[Key; \d+\] = \[(.*?)\];", table, re.DOTALL)
         both.append({texts[it] for it in re.findall(r"Key::(\w+)", found.group(1))} if found else set())
     return both[0], both[1]
+
+
+@dataclass
+class KeyRow:
+    """What the code's table of keys has of a key: the kind of its value, its limits if they are stated, and its two texts."""
+
+    kind: str = ""
+    limits: Optional[Tuple[int, int]] = None
+    choices: Tuple[str, ...] = ()
+
+    def is_stated(self, kind: str, limits: str) -> bool:
+        """Whether a row of docs/CONFIGURATION.md states the same."""
+        if self.choices:
+            return kind == self.kind and limits == " or ".join(f"`{it}`" for it in self.choices)
+        if not self.limits:
+            return kind == self.kind
+        least, most = self.limits
+        span = f"{most}" if least == most else f"{least} to {most}"
+        return kind == self.kind and bool(re.match(rf"{span}(?![\d_])", limits))
+
+
+def key_rows(index: Index) -> Dict[str, KeyRow]:
+    """The code's table of keys: `kind`, `limits` and `choices` of each."""
+    table, limits = index.text(KEY_TABLE), index.text("crates/srt_seq/src/limits.rt")
+    texts = dict(re.findall(r'Key::(\w+) => "(\w+)"', table))
+    numbers = {name: int(value.replace("_", "")) for name, value in re.findall(r"const (\w+): usize = ([\d_]+);", limits + table)}
+    words = dict(re.findall(r'const (\w+): &str = "(\w+)";', table))
+    rows = {name: KeyRow() for name in texts.values()}
+    for keys, kind in re.findall(r"((?:Key::\w+[\s|]*)+)=> ValueKind::(\w+)", table):
+        for key in re.findall(r"Key::(\w+)", keys):
+            rows[texts[key]].kind = {"Text": "text", "Number": "number", "Networks": "list", "Tables": "tables"}[kind]
+    for keys, least, most in re.findall(r"((?:Key::\w+[\s|]*)+)=> \((\w+), ([\w:]+)(?: as usize)?\)", table):
+        for key in re.findall(r"Key::(\w+)", keys):
+            if most != "u32::MAX":
+                rows[texts[key]].limits = tuple(numbers[it] if it in numbers else int(it) for it in (least, most))
+    for key, first, second in re.findall(r"Key::(\w+) => Some\(Choices \{\s*first: (\w+),\s*second: (\w+),", table):
+        rows[texts[key]].choices = (words[first], words[second])
+    return rows
 
 
 def wrong_keys(lines: List[str], first: int, keys: Tuple[Set[str], Set[str]]) -> List[str]:
@@ -300,4 +340,8 @@ def wrong_configurations(index: Index, documents: List[Document]) -> Tuple[int, 
     rows = [it for it in parsed("", index.text("docs/CONFIGURATION.md")).pieces if it.is_row() and it.head[:2] == ["key", "of"]]
     said = {(it.cells[1], key) for it in rows for key in ticked(it.cells[0])}
     missing = sorted({*(("file", it) for it in keys[0]), *(("route", it) for it in keys[1])} ^ said)
-    return count, wrong + [f"docs/CONFIGURATION.md: {key} of a {of} is in table or code alone" for of, key in missing]
+    wrong += [f"docs/CONFIGURATION.md: {key} of a {of} is in table or code alone" for of, key in missing]
+    of_code = key_rows(index)
+    stated = [(key, it) for it in rows for key in ticked(it.cells[0]) if key in of_code]
+    differing = [key for key, it in stated if not of_code[key].is_stated(it.cells[2], it.cells[3])]
+    return count, wrong + [f"docs/CONFIGURATION.md: {key} has another kind or other limits in the code" for key in differing]

@@ -166,7 +166,7 @@ def limit_facts(index: Index) -> List[Fact]:
     window = (limit(index, "MIN_WINDOW"), limit(index, "MAX_WINDOW"))
     latency = (limit(index, "MIN_LATENCY_MS"), limit(index, "MAX_LATENCY_MS"))
     queue = (limit(index, "MIN_QUEUE"), limit(index, "MAX_QUEUE"))
-    workers = value_in(index, "crates/srt_config/src/config.rt", r"const MAX_WORKERS: \w+ = (\d+);")
+    workers = value_in(index, "crates/srt_config/src/config/table.rt", r"const MAX_WORKERS: \w+ = (\d+);")
     idle = limit(index, "PEER_IDLE_TIMEOUT_US") / 1_000_000
     to = rf"{NUMBER} to {NUMBER}"
     return [

@@ -29,7 +29,7 @@ gone_step first after (x ∷ routes) e some =
     ap (λ (n : ℕ). gone_at first (place_of (terms_of x).name after) ++ gone_from n after (map terms_of routes))
     (let sums : suc first ≡ first + 1 = omega arith in sums)
 
--- the route at a place, in front of those behind it
+-- the route at a place, before those after it
 pub place_step : (routes : List Entry) (at : ℕ) (name : List ℕ) (e : Entry) → at < length routes →
     place_from at name (map terms_of (drop at routes))
     ≡ cond (bytes_eq name (terms_of (get_or routes at e)).name) (Some at) (place_from (suc at) name (map terms_of (drop (suc at) routes)))

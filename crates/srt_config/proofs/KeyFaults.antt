@@ -13,15 +13,15 @@ use Rattle.srt_seq.specs.declared.shared.Mode.TheVariants as mode
 use Rattle.srt_seq.specs.declared.shared.Callers.{Callers as TheCallers}
 use Rattle.srt_seq.specs.declared.shared.Callers.TheVariants as callers
 use Rattle.srt_lobby.specs.Opening.{is_taken}
-use Rattle.srt_config.specs.declared.config.faults.Key.{Key}
-use Rattle.srt_config.specs.declared.config.faults.Key.TheVariants.{Secret, Bind, Workers, Status, Route, Name, Mode, LatencyMs, Buffer}
-use Rattle.srt_config.specs.declared.config.faults.Key.TheVariants.{Sessions, Inbox, Outbox, OpenRound, CloseRound, Callers}
-use Rattle.srt_config.specs.declared.config.faults.Key.TheVariants.{PublishFrom, RequestFrom, PublishKey, RequestKey, Reserved}
-use Rattle.srt_config.specs.declared.config.faults.Key.TheVariants.{SessionsPerAddress, TakeoverMs, ResendPercent}
+use Rattle.srt_config.specs.declared.config.table.Key.{Key}
+use Rattle.srt_config.specs.declared.config.table.Key.TheVariants.{Secret, Bind, Workers, Status, Route, Name, Mode, LatencyMs, Buffer}
+use Rattle.srt_config.specs.declared.config.table.Key.TheVariants.{Sessions, Inbox, Outbox, OpenRound, CloseRound, Callers}
+use Rattle.srt_config.specs.declared.config.table.Key.TheVariants.{PublishFrom, RequestFrom, PublishKey, RequestKey, Reserved}
+use Rattle.srt_config.specs.declared.config.table.Key.TheVariants.{SessionsPerAddress, TakeoverMs, ResendPercent}
 use Rattle.srt_config.specs.Access.{network_in, are_texts, member_count, networked, networks_from, list_in, list_value, list_at}
 use Rattle.srt_config.specs.Access.{is_key_text, key_in, key_value, key_at, callers_of, access_at}
 use Rattle.srt_config.specs.Rules.{callers_in, callers_value, callers_at, draft_if_none, most_reserved, rules_with, rules_at}
-use Rattle.srt_config.specs.Faults.{key_name}
+use Rattle.srt_config.specs.KeyTable.{key_name}
 use Rattle.srt_config.specs.FirstFault.{Fault, UnknownKey, Missing, WrongKind, OutOfRange, BadName, RepeatedName, BadSecret, BadAddress, ◌>>=◌}
 use Rattle.srt_config.specs.Address.{Address, address_in}
 use Rattle.srt_config.specs.Keys.{least_unknown, none_unknown, known, present, of_kind, value_at, optional, text_value, text_at, within}
@@ -33,20 +33,20 @@ use Rattle.srt_config.specs.Config.{decoded, secret_in, secret_at, addressed, ad
 use Rattle.srt_config.specs.KeyFaults.{Faulty, HasNone, ◌⊳◌, Unknown, AtKey, AtOptional, NoSecret, NoAddress, Outside, NoName, NoMode}
 use Rattle.srt_config.specs.KeyFaults.{InNumbers, number_or_0, opening_in, InSchedule, is_network, are_networks, NoNetworks, NoKeyText}
 use Rattle.srt_config.specs.KeyFaults.{InAccess, NoCallers, sessions_in, InRules, InRoute, InRoutes, NoRoutes, NoRoutesOrIn, InTable}
-use Rattle.srt_config.specs.KeyFaults.{TellsFirstFault}
+use Rattle.srt_config.specs.KeyFaults.{IsFirstFault}
 use Rattle.srt_config.proofs.Sound.{passed}
 
--- a reading fails with just these faults
-abbrev Tells : {A : Type 0} → Result A Fault → Faulty → Type 0
+-- a reading fails with exactly these faults
+abbrev pub Tells : {A : Type 0} → Result A Fault → Faulty → Type 0
 Tells r faulty = (fault : Fault) → (r ≡ Err fault → faulty fault) × (faulty fault → r ≡ Err fault)
 
 never : {A : Type 0} (x : A) (fault : Fault) → Ok x ≡ Err fault → ⊥
 never x fault e = cc
 
-abbrev failed : {A : Type 0} → Fault → Result A Fault
+abbrev pub failed : {A : Type 0} → Fault → Result A Fault
 failed fault = Err fault
 
-the_fault : {A : Type 0} (g fault : Fault) → failed {A = A} g ≡ failed {A = A} fault → g ≡ fault
+pub the_fault : {A : Type 0} (g fault : Fault) → failed {A = A} g ≡ failed {A = A} fault → g ≡ fault
 the_fault g fault e = cc
 
 on : {A B : Type 0} (r : Result A Fault) (next : A → Result B Fault) (first later : Faulty)
@@ -465,7 +465,7 @@ rules_tells sessions callers table is =
     last (optional_number_at ResendPercent 5 1000 table) (rules_with callers reserved per_address takeover_ms) _
     (optional_number_tells ResendPercent 5 1000 table))))
 
-route_tells : (before : List Terms) (table : Members) → Tells (route_at before table) (InRoute before table)
+pub route_tells : (before : List Terms) (table : Members) → Tells (route_at before table) (InRoute before table)
 unfolding route_at
 route_tells before table =
     on (known route_keys table) _ _ _ (known_tells route_keys table) (λ u e.
@@ -577,5 +577,5 @@ table_tells table =
     record { secret = secret; bind = bind; workers = workers; status = status; routes = routes.terms; schedules = routes.schedules })
     _ (routes_at_tells table))))))
 
-pub first_fault : TellsFirstFault
+pub first_fault : IsFirstFault
 first_fault table fault = table_tells table fault

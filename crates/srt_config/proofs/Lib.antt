@@ -7,3 +7,5 @@ pub mod Sound
 pub mod Sameness
 pub mod SameFile
 pub mod Compared
+pub mod Changed
+pub mod Placed

@@ -1,4 +1,4 @@
--- A configuration that is the same as the one before asks nothing.
+-- A configuration that is the same as the one before requests nothing.
 use Rattle.std.proofs.Common.{◌≡◌, ℕ, zero, suc, ◌+◌, ◌==◌, ◌&&◌, Bool, true, false, not, cond, Option, None, Some, List, [], ◌∷◌, ◌++◌, length}
 use Rattle.std.proofs.Common.{slice_get, refl, sym, ap, ◌∙◌, arith}
 use Rattle.std.specs.Str.{bytes_eq}
@@ -16,7 +16,7 @@ use Rattle.srt_config.specs.Config.{Settings}
 use Rattle.srt_config.specs.SameKeys.{same_if}
 use Rattle.srt_config.specs.Changes.{place_from, place_of, has_terms, has_schedule, change_at, change_of, changes_of, gone_at, gone_from}
 use Rattle.srt_config.specs.Changes.{same_address, fixed_keys}
-use Rattle.srt_config.specs.ChangeLaws.{all_stay, none_fixed, SameAsksNothing}
+use Rattle.srt_config.specs.ChangeLaws.{all_stay, none_fixed, SameRequestsNothing}
 use Rattle.srt_config.proofs.Sameness.{terms_decide, schedules_decide}
 
 -- the tests of what is the same
@@ -54,7 +54,7 @@ not_its name (x ∷ routes) zero e free there =
 not_its name (x ∷ routes) (suc at) e free there =
     not_its name routes at e (or_parts (bytes_eq x.name name) (is_taken name routes) free).1 there
 
--- a route of distinct names is found at its own place
+-- a route among distinct names is found at its place
 own_place : (first : ℕ) (routes : List Terms) (at : ℕ) (e : Terms) → are_names routes ≡ true → slice_get routes at ≡ Some e →
     place_from first e.name routes ≡ Some (at + first)
 own_place first [] at e named there = cc
@@ -78,7 +78,7 @@ first_is : (place : ℕ) → place ≡ 0 + place
 first_is place = omega arith
 
 module _ (s : Settings) where
-  -- these routes and schedules stand in the configuration from this place on
+  -- these routes and schedules are in the configuration from this place on
   abbrev AreFrom : (place : ℕ) → List Terms → List Schedule → Type 0
   AreFrom place routes schedules =
       ((at : ℕ) (e : Terms) → slice_get routes at ≡ Some e → slice_get s.routes (at + place) ≡ Some e) ×
@@ -125,8 +125,8 @@ module _ (s : Settings) where
         ∙ none_goes (suc place) routes
         (λ at x p. ap (slice_get s.routes) (let sums : at + suc place ≡ suc at + place = omega arith in sums) ∙ from (suc at) x p)
 
-pub same_asks_nothing : SameAsksNothing
-same_asks_nothing s named many =
+pub same_requests_nothing : SameRequestsNothing
+same_requests_nothing s named many =
     let all : (at : ℕ) → at + 0 ≡ at = λ at. omega arith in
     let routes_are = λ (at : ℕ) (e : Terms) (p : slice_get s.routes at ≡ Some e). ap (slice_get s.routes) (all at) ∙ p in
     let schedules_are = λ (at : ℕ) (c : Schedule) (p : slice_get s.schedules at ≡ Some c). ap (slice_get s.schedules) (all at) ∙ p in

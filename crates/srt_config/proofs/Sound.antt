@@ -15,22 +15,23 @@ use Rattle.srt_seq.specs.declared.shared.Schedule.{Schedule}
 use Rattle.srt_seq.specs.Terms.{Terms, terms_of}
 use Rattle.srt_seq.specs.Entries.{is_between, is_between_if, is_name, are_rules, in_limits}
 use Rattle.srt_lobby.specs.Opening.{is_taken, is_fresh, are_names, fault_of}
-use Rattle.srt_config.specs.declared.config.faults.Key.{Key}
-use Rattle.srt_config.specs.declared.config.faults.Key.TheVariants.{Route, Name, LatencyMs, Buffer, Sessions, Inbox, Outbox, OpenRound, CloseRound}
-use Rattle.srt_config.specs.declared.config.faults.Key.TheVariants.{Reserved, SessionsPerAddress, TakeoverMs, ResendPercent}
-use Rattle.srt_config.specs.declared.config.faults.ConfigFault.{ConfigFault}
+use Rattle.srt_config.specs.declared.config.table.Key.{Key}
+use Rattle.srt_config.specs.declared.config.table.Key.TheVariants.{Route, Name, LatencyMs, Buffer, Sessions, Inbox, Outbox, OpenRound, CloseRound}
+use Rattle.srt_config.specs.declared.config.table.Key.TheVariants.{Reserved, SessionsPerAddress, TakeoverMs, ResendPercent}
+use Rattle.srt_config.specs.declared.config.placed.PlacedFault.{PlacedFault}
 use Rattle.srt_config.specs.declared.config.routes.ReadRoutes.{ReadRoutes}
 use Rattle.srt_config.specs.Access.{access_at}
 use Rattle.srt_config.specs.Rules.{callers_at, draft_if_none, most_reserved, rules_with, rules_at}
-use Rattle.srt_config.specs.Faults.{key_name}
-use Rattle.srt_config.specs.FirstFault.{Fault, WrongKind, OutOfRange, BadName, RepeatedName, Gives, ◌>>=◌}
+use Rattle.srt_config.specs.KeyTable.{key_name}
+use Rattle.srt_config.specs.FirstFault.{Fault, WrongKind, OutOfRange, BadName, RepeatedName, ◌>>=◌}
+use Rattle.srt_config.specs.FaultPlace.{GivesAt}
 use Rattle.srt_config.specs.Keys.{known, value_at, text_at, within, number_value, number_at, optional, optional_number_at, of_kind, given_or_0}
 use Rattle.srt_config.specs.Routes.{name_in, name_at, mode_at, Numbers, numbers_at, route_keys, terms_with, with_access, with_rules, schedule_of}
 use Rattle.srt_config.specs.Routes.{schedule_at, is_later, closes_later, Planned, planned, route_at, Routes, no_routes, with_route}
 use Rattle.srt_config.specs.Routes.{are_tables, count, routes_from, routes_in, routes_at}
 use Rattle.srt_config.specs.inside.RouteParts.{routes_seen}
 
--- steps that gave a value in the end gave one first
+-- steps that return a value in the end return one first
 pub passed : {A B : Type 0} (said : Result A Fault) (next : A → Result B Fault) (b : B) → said >>= next ≡ Ok b → (a : A) × (said ≡ Ok a) × (next a ≡ Ok b)
 passed (Ok a) next b h = (a, refl, h)
 passed (Err f) next b h = absurd cc
@@ -94,7 +95,7 @@ name_fits before table name h =
     let n = named (is_name t.0) (is_taken t.0 before) t.0 name t.2 in
     subst (λ (text : List ℕ). (is_name text ≡ true) × (is_taken text before ≡ false)) n.2 (n.0, n.1)
 
--- a route behind these
+-- a route after these
 record Fits (before : List Terms) (e : Terms) : Type 0 where
   named : is_name e.name ≡ true
   free : is_taken e.name before ≡ false
@@ -290,24 +291,24 @@ at_sound table all h =
     let i = passed (of_kind Route (as_array v.0)) _ all v.2 in
     in_sound i.0 all i.2
 
-pub sound_of : (table : Members) (r : Result ReadRoutes ConfigFault)
-    → Gives routes_seen r (routes_at table) → IfOk r (λ routes. ReadSoundly (routes_seen routes))
-sound_of table (Ok routes) (inl m) = absurd cc
-sound_of table (Ok routes) (inr h) = at_sound table (routes_seen routes) (sym h)
-sound_of table (Err f) g = tt
+pub sound_of : (table : Members) (place : Option ℕ) (r : Result ReadRoutes PlacedFault)
+    → GivesAt routes_seen r (routes_at table) place → IfOk r (λ routes. ReadSoundly (routes_seen routes))
+sound_of table place (Ok routes) (inl m) = absurd cc
+sound_of table place (Ok routes) (inr h) = at_sound table (routes_seen routes) (sym h.0)
+sound_of table place (Err f) g = tt
 
 -- one of these after the other
-pub fault_sound : (r : Result ReadRoutes ConfigFault)
+pub fault_sound : (r : Result ReadRoutes PlacedFault)
     → IfOk r (λ routes. ReadSoundly (routes_seen routes)) → IfOk r (λ routes. fault_of (map terms_of routes.entries.items) ≡ None)
 fault_sound (Ok routes) h = h.0
 fault_sound (Err f) h = tt
 
-pub scheduled_sound : (r : Result ReadRoutes ConfigFault)
+pub scheduled_sound : (r : Result ReadRoutes PlacedFault)
     → IfOk r (λ routes. ReadSoundly (routes_seen routes)) → IfOk r (λ routes. length routes.schedules.items ≡ length routes.entries.items)
 scheduled_sound (Ok routes) h = h.1 ∙ length-map routes.entries.items terms_of
 scheduled_sound (Err f) h = tt
 
-pub later_sound : (r : Result ReadRoutes ConfigFault)
+pub later_sound : (r : Result ReadRoutes PlacedFault)
     → IfOk r (λ routes. ReadSoundly (routes_seen routes)) → IfOk r (λ routes. list_all closes_later routes.schedules.items ≡ true)
 later_sound (Ok routes) h = h.2
 later_sound (Err f) h = tt

@@ -10,7 +10,7 @@ use Rattle.std.specs.String.{string_cmp}
 use Rattle.std.proofs.lemmas.Cmp.{nat_list_cmp_total}
 use Rattle.toml.specs.View.{members_view}
 use Rattle.toml.specs.declared.value.Value.{Value}
-use Rattle.srt_config.specs.declared.config.faults.Key.{Key}
+use Rattle.srt_config.specs.declared.config.table.Key.{Key}
 use Rattle.srt_config.specs.Keys.{is_key, lesser, least_unknown}
 
 -- the first of these texts that is none of these keys
@@ -23,7 +23,7 @@ chosen : (x : List ℕ) (known : Bool) (rest : Option (List ℕ)) (text : List �
 chosen x true rest text h g = h
 chosen x false rest text h g = rw g refl
 
--- what comes before all of them is the least
+-- a key before all of them is the least
 before_all : (keys : List Key) (k : String Global) (ks : List (String Global))
     → AllByRecursion (λ y. string_cmp k y ≡ Less) ks → lesser (string_bytes k) (unknown_of keys ks) ≡ string_bytes k
 before_all keys k [] h = refl

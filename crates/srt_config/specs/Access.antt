@@ -1,4 +1,4 @@
--- Who may call a route: the lists and keys in its table (our choice).
+-- The clients allowed on a route: the lists and keys in its table (our choice).
 use Rattle.std.specs.Prelude.{ℕ, suc, ◌==◌, Bool, true, not, ◌&&◌, ◌||◌, List, [], ◌∷◌, ◌++◌, length, Option, None, Some, is_some, option_and_then, Result}
 use Rattle.std.specs.Prelude.{Ok, Err, if◌then◌else◌}
 use Rattle.std.specs.Int.{w32, from_be_bytes}
@@ -7,15 +7,15 @@ use Rattle.toml.specs.Data.{Data, Items, no_items, item, Members, get_member, as
 use Rattle.srt_seq.specs.declared.shared.Network.{Network}
 use Rattle.srt_seq.specs.Access.{AccessTerms, network_of}
 use Rattle.srt_seq.specs.Entries.{is_between}
-use Rattle.srt_config.specs.declared.config.faults.Key.{Key}
-use Rattle.srt_config.specs.declared.config.faults.Key.TheVariants.{PublishFrom, RequestFrom, PublishKey, RequestKey}
+use Rattle.srt_config.specs.declared.config.table.Key.{Key}
+use Rattle.srt_config.specs.declared.config.table.Key.TheVariants.{PublishFrom, RequestFrom, PublishKey, RequestKey}
 use Rattle.srt_config.specs.Address.{parted, octet_to}
-use Rattle.srt_config.specs.Faults.{key_name}
+use Rattle.srt_config.specs.KeyTable.{key_name}
 use Rattle.srt_config.specs.FirstFault.{Fault, WrongKind, OutOfRange, BadAddress, ◌>>=◌}
 use Rattle.srt_config.specs.Keys.{of_kind, optional, text_value}
 use Rattle.srt_config.specs.Numbers.{number_in}
 
--- the fourth octet, and the number of first bits behind a slash: 32 without one
+-- the fourth octet, and the number of first bits after a slash: 32 without one
 abbrev pub ending_of : List ℕ → Option (List ℕ × List ℕ) → Option (ℕ × ℕ)
 ending_of text (Some parts) = option_and_then (λ octet. option_and_then (λ prefix. Some (octet, prefix)) (number_in 33 parts.1)) (number_in 256 parts.0)
 ending_of text None = option_and_then (λ octet. Some (octet, 32)) (number_in 256 text)
@@ -23,7 +23,7 @@ ending_of text None = option_and_then (λ octet. Some (octet, 32)) (number_in 25
 unfoldable pub ending_in : List ℕ → Option (ℕ × ℕ)
 ending_in text = ending_of text (parted 47 text)
 
--- `a.b.c.d` or `a.b.c.d/n`, with no bit set behind the first n
+-- `a.b.c.d` or `a.b.c.d/n`, with no bit set after the first n
 unfoldable pub network_in : List ℕ → Option Network
 network_in text =
     option_and_then (λ a. option_and_then (λ b. option_and_then (λ c. option_and_then
@@ -87,7 +87,7 @@ abbrev pub callers_of : (publish_from request_from : Option (List Network)) → 
 callers_of publish_from request_from publish_key request_key =
     record { publish = record { from = publish_from; key = publish_key }; request = record { from = request_from; key = request_key } }
 
--- who may call the route of a table
+-- the clients allowed on the route of a table
 unfoldable pub access_at : Members → Result AccessTerms Fault
 access_at table =
     list_at PublishFrom table >>= λ publish_from.

@@ -1,4 +1,4 @@
--- What a changed configuration asks of a gateway that runs (our choice).
+-- The changes that a configuration requests of a running gateway (our choice).
 use Rattle.std.specs.Prelude.{ℕ, suc, ◌==◌, Bool, false, not, ◌&&◌, ◌||◌, List, [], ◌∷◌, ◌++◌, Option, None, Some, slice_get, if◌then◌else◌}
 use Rattle.std.specs.Str.{bytes_eq}
 use Rattle.srt_seq.specs.declared.shared.Schedule.{Schedule}
@@ -35,13 +35,13 @@ abbrev pub has_keys_at : (before : Settings) → (place : ℕ) → Terms → Sch
 has_keys_at before place terms schedule =
     has_terms terms (slice_get before.routes place) && has_schedule schedule (slice_get before.schedules place)
 
--- what becomes of a route, by the place that a route of its name had before
+-- the change of a route, by the place that a route of its name had before
 abbrev pub change_at : (before : Settings) → Terms → Schedule → Option ℕ → RouteChange
 change_at before terms schedule None = Opens
 change_at before terms schedule (Some place) = if has_keys_at before place terms schedule then Stays place else Reopens place
 
--- what becomes of a route of the changed configuration: it opens if no route of its name was there before, stays if that had the same
--- keys, and else that one closes and it opens
+-- the change of a route of the changed configuration: it opens if no route had its name, stays if that route had the same keys, and
+-- otherwise that one closes and it opens
 unfoldable pub change_of : (before : Settings) → Terms → Schedule → RouteChange
 change_of before terms schedule = change_at before terms schedule (place_of terms.name before.routes)
 
@@ -78,17 +78,17 @@ fixed_keys before after =
 abbrev pub any_fixed : FixedKeys → Bool
 any_fixed keys = keys.secret || keys.bind || keys.workers || keys.status
 
--- what a changed configuration asks, as plain values
-pub record Asked : Type 0 where
+-- the changes that a configuration requests, as plain values
+pub record Requested : Type 0 where
   pub fixed : FixedKeys
   pub routes : List RouteChange
   pub gone : List ℕ
 
-abbrev pub asked_by : Changes → Asked
-asked_by changes = record { fixed = changes.fixed; routes = changes.routes.items; gone = changes.gone.items }
+abbrev pub requested_by : Changes → Requested
+requested_by changes = record { fixed = changes.fixed; routes = changes.routes.items; gone = changes.gone.items }
 
-abbrev pub asked : (before after : Settings) → Asked
-asked before after =
+abbrev pub requested : (before after : Settings) → Requested
+requested before after =
     record {
       fixed = fixed_keys before after;
       routes = changes_of before after.routes after.schedules;

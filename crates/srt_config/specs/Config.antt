@@ -7,11 +7,11 @@ use Rattle.srt_cookie.specs.Cookie.{secret_bytes}
 use Rattle.srt_seq.specs.Terms.{Terms, terms_of}
 use Rattle.srt_seq.specs.declared.shared.Schedule.{Schedule}
 use Rattle.srt_config.specs.declared.config.Config.{Config}
-use Rattle.srt_config.specs.declared.config.faults.Key.{Key}
-use Rattle.srt_config.specs.declared.config.faults.Key.TheVariants.{Secret, Bind, Workers, Status, Route}
+use Rattle.srt_config.specs.declared.config.table.Key.{Key}
+use Rattle.srt_config.specs.declared.config.table.Key.TheVariants.{Secret, Bind, Workers, Status, Route}
 use Rattle.srt_config.specs.Address.{Address, address_in}
 use Rattle.srt_config.specs.AddressParts.{address_of}
-use Rattle.srt_config.specs.Faults.{key_name}
+use Rattle.srt_config.specs.KeyTable.{key_name}
 use Rattle.srt_config.specs.FirstFault.{Fault, Toml, BadSecret, BadAddress, ◌>>=◌}
 use Rattle.srt_config.specs.Keys.{known, value_at, text_value, text_at, number_at, optional}
 use Rattle.srt_config.specs.Routes.{routes_at}

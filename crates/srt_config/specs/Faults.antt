@@ -1,38 +1,9 @@
 -- How a configuration's faults are printed (our choice).
 use Rattle.std.specs.Prelude.{ℕ, List, codes, string_bytes}
-use Rattle.srt_config.specs.declared.config.faults.Key.{Key}
-use Rattle.srt_config.specs.declared.config.faults.Key.TheVariants.{Secret, Bind, Workers, Status, Route, Name, Mode, LatencyMs, Buffer}
-use Rattle.srt_config.specs.declared.config.faults.Key.TheVariants.{Sessions, Inbox, Outbox, OpenRound, CloseRound, Callers, PublishFrom, RequestFrom}
-use Rattle.srt_config.specs.declared.config.faults.Key.TheVariants.{PublishKey, RequestKey, Reserved, SessionsPerAddress, TakeoverMs}
-use Rattle.srt_config.specs.declared.config.faults.Key.TheVariants.{ResendPercent}
 use Rattle.srt_config.specs.declared.config.faults.ConfigFault.{ConfigFault}
 use Rattle.srt_config.specs.declared.config.faults.ConfigFault.TheVariants.{Toml, UnknownKey, Missing, WrongKind, OutOfRange, BadName}
 use Rattle.srt_config.specs.declared.config.faults.ConfigFault.TheVariants.{RepeatedName, BadSecret, BadAddress, OutOfMemory}
-
-abbrev pub key_name : Key → List ℕ
-key_name Secret = codes "secret"
-key_name Bind = codes "bind"
-key_name Workers = codes "workers"
-key_name Status = codes "status"
-key_name Route = codes "route"
-key_name Name = codes "name"
-key_name Mode = codes "mode"
-key_name LatencyMs = codes "latency_ms"
-key_name Buffer = codes "buffer"
-key_name Sessions = codes "sessions"
-key_name Inbox = codes "inbox"
-key_name Outbox = codes "outbox"
-key_name OpenRound = codes "open_round"
-key_name CloseRound = codes "close_round"
-key_name Callers = codes "callers"
-key_name PublishFrom = codes "publish_from"
-key_name RequestFrom = codes "request_from"
-key_name PublishKey = codes "publish_key"
-key_name RequestKey = codes "request_key"
-key_name Reserved = codes "reserved"
-key_name SessionsPerAddress = codes "sessions_per_address"
-key_name TakeoverMs = codes "takeover_ms"
-key_name ResendPercent = codes "resend_percent"
+use Rattle.srt_config.specs.KeyTable.{key_name}
 
 abbrev pub number_of : ConfigFault → ℕ
 number_of Toml = 1

@@ -7,14 +7,14 @@ use Rattle.hex.specs.Hex.{decode_sized}
 use Rattle.srt_seq.specs.Entries.{is_between, is_name}
 use Rattle.srt_seq.specs.Terms.{Terms}
 use Rattle.srt_lobby.specs.Opening.{is_taken}
-use Rattle.srt_config.specs.declared.config.faults.Key.{Key}
-use Rattle.srt_config.specs.declared.config.faults.Key.TheVariants.{Secret, Bind, Workers, Status, Route, Name, Mode, LatencyMs, Buffer}
-use Rattle.srt_config.specs.declared.config.faults.Key.TheVariants.{Sessions, Inbox, Outbox, OpenRound, CloseRound, Callers}
-use Rattle.srt_config.specs.declared.config.faults.Key.TheVariants.{PublishFrom, RequestFrom, PublishKey, RequestKey, Reserved}
-use Rattle.srt_config.specs.declared.config.faults.Key.TheVariants.{SessionsPerAddress, TakeoverMs, ResendPercent}
+use Rattle.srt_config.specs.declared.config.table.Key.{Key}
+use Rattle.srt_config.specs.declared.config.table.Key.TheVariants.{Secret, Bind, Workers, Status, Route, Name, Mode, LatencyMs, Buffer}
+use Rattle.srt_config.specs.declared.config.table.Key.TheVariants.{Sessions, Inbox, Outbox, OpenRound, CloseRound, Callers}
+use Rattle.srt_config.specs.declared.config.table.Key.TheVariants.{PublishFrom, RequestFrom, PublishKey, RequestKey, Reserved}
+use Rattle.srt_config.specs.declared.config.table.Key.TheVariants.{SessionsPerAddress, TakeoverMs, ResendPercent}
 use Rattle.srt_config.specs.Access.{network_in, are_texts, member_count, is_key_text}
 use Rattle.srt_config.specs.Rules.{most_reserved}
-use Rattle.srt_config.specs.Faults.{key_name}
+use Rattle.srt_config.specs.KeyTable.{key_name}
 use Rattle.srt_config.specs.FirstFault.{Fault, UnknownKey, Missing, WrongKind, OutOfRange, BadName, RepeatedName, BadSecret, BadAddress}
 use Rattle.srt_config.specs.Address.{address_in}
 use Rattle.srt_config.specs.Keys.{least_unknown}
@@ -37,7 +37,7 @@ abbrev pub ◌⊳◌ : Faulty → Faulty → Faulty
 abbrev pub Unknown : List Key → Members → Faulty
 Unknown keys table fault = (text : List ℕ) × (least_unknown keys table ≡ Some text) × (fault ≡ UnknownKey text)
 
--- the faults of one key: it is missing, its value has another type, or the value has a fault of its own
+-- the faults of one key: it is missing, its value has another type, or the value itself has a fault
 abbrev pub AtKey : {A : Type 0} → (key : Key) (kind : Data → Option A) (Own : A → Faulty) → Members → Faulty
 AtKey {A} key kind Own table fault =
     ((get_member (key_name key) table ≡ None) × (fault ≡ Missing key)) ⊎
@@ -115,7 +115,7 @@ NoNetworks key items fault =
 abbrev pub NoKeyText : Key → List ℕ → Faulty
 NoKeyText key text fault = (fault ≡ OutOfRange key) × (is_key_text text ≡ false)
 
--- the keys with who may call a route
+-- the keys with the clients allowed on a route
 abbrev pub InAccess : Members → Faulty
 InAccess table =
     AtOptional PublishFrom as_array (NoNetworks PublishFrom) table ⊳
@@ -178,5 +178,5 @@ InTable table =
     AtKey Route as_array NoRoutesOrIn table
 
 -- the fault that is returned is that of the first key that has one
-abbrev pub TellsFirstFault : Type 0
-TellsFirstFault = (table : Members) (fault : Fault) → (settings_at table ≡ Err fault) ↔ InTable table fault
+abbrev pub IsFirstFault : Type 0
+IsFirstFault = (table : Members) (fault : Fault) → (settings_at table ≡ Err fault) ↔ InTable table fault

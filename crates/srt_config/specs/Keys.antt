@@ -9,8 +9,8 @@ use Rattle.toml.specs.Data.{Data, Members, no_members, member, get_member, as_st
 use Rattle.toml.specs.View.{view}
 use Rattle.toml.specs.declared.value.Value.{Value}
 use Rattle.srt_seq.specs.Entries.{is_between}
-use Rattle.srt_config.specs.declared.config.faults.Key.{Key}
-use Rattle.srt_config.specs.Faults.{key_name}
+use Rattle.srt_config.specs.declared.config.table.Key.{Key}
+use Rattle.srt_config.specs.KeyTable.{key_name}
 use Rattle.srt_config.specs.FirstFault.{Fault, UnknownKey, Missing, WrongKind, OutOfRange, ◌>>=◌}
 
 -- one of these keys has this spelling

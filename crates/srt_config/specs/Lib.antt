@@ -1,5 +1,6 @@
 pub mod inside
 pub mod Numbers
+pub mod KeyTable
 pub mod Faults
 pub mod FirstFault
 pub mod Keys
@@ -14,3 +15,5 @@ pub mod SameKeys
 pub mod Changes
 pub mod ChangeLaws
 pub mod KeyFaults
+pub mod FaultPlace
+pub mod PlaceLaws

@@ -2,7 +2,7 @@
 use Rattle.std.specs.Prelude.{ℕ, suc, ◌+◌, nat_lt, Bool, true, not, ◌&&◌, codes, List, [], ◌∷◌, ◌++◌, Option, None, Some, is_some, Result}
 use Rattle.std.specs.Prelude.{Ok, Err, if◌then◌else◌}
 use Rattle.std.specs.Str.{bytes_eq}
-use Rattle.toml.specs.Data.{Items, no_items, item, Members, as_array, as_table}
+use Rattle.toml.specs.Data.{Data, Items, no_items, item, Members, as_array, as_table}
 use Rattle.srt_seq.specs.Access.{AccessTerms, anyone}
 use Rattle.srt_seq.specs.Terms.{Terms}
 use Rattle.srt_seq.specs.declared.shared.Mode.{Mode as TheMode}
@@ -11,10 +11,10 @@ use Rattle.srt_seq.specs.declared.shared.Schedule.{Schedule}
 use Rattle.srt_seq.specs.declared.shared.Mode.TheVariants as mode
 use Rattle.srt_seq.specs.Entries.{is_between, is_name, draft_rules}
 use Rattle.srt_lobby.specs.Opening.{is_taken}
-use Rattle.srt_config.specs.declared.config.faults.Key.{Key}
-use Rattle.srt_config.specs.declared.config.faults.Key.TheVariants.{Route, Name, Mode, LatencyMs, Buffer, Sessions, Inbox, Outbox}
-use Rattle.srt_config.specs.declared.config.faults.Key.TheVariants.{OpenRound, CloseRound, Callers, PublishFrom, RequestFrom, PublishKey}
-use Rattle.srt_config.specs.declared.config.faults.Key.TheVariants.{RequestKey, Reserved, SessionsPerAddress, TakeoverMs, ResendPercent}
+use Rattle.srt_config.specs.declared.config.table.Key.{Key}
+use Rattle.srt_config.specs.declared.config.table.Key.TheVariants.{Route, Name, Mode, LatencyMs, Buffer, Sessions, Inbox, Outbox}
+use Rattle.srt_config.specs.declared.config.table.Key.TheVariants.{OpenRound, CloseRound, Callers, PublishFrom, RequestFrom, PublishKey}
+use Rattle.srt_config.specs.declared.config.table.Key.TheVariants.{RequestKey, Reserved, SessionsPerAddress, TakeoverMs, ResendPercent}
 use Rattle.srt_config.specs.Access.{access_at}
 use Rattle.srt_config.specs.Rules.{callers_at, draft_if_none, rules_at}
 use Rattle.srt_config.specs.FirstFault.{Fault, WrongKind, OutOfRange, BadName, RepeatedName, ◌>>=◌}
@@ -128,6 +128,10 @@ no_routes = record { terms = []; schedules = [] }
 
 abbrev pub with_route : Routes → Planned → Routes
 with_route before route = record { terms = before.terms ++ route.terms ∷ []; schedules = before.schedules ++ route.schedule ∷ [] }
+
+-- these routes, and the one in this value
+abbrev pub routes_and : (before : Routes) → Data → Result Routes Fault
+routes_and before value = of_kind Route (as_table value) >>= λ table. route_at before.terms table >>= λ route. Ok (with_route before route)
 
 -- every item is a table
 abbrev pub are_tables : Items → Bool

@@ -5,8 +5,8 @@ use Rattle.toml.specs.Data.{Data, Members, get_member}
 use Rattle.srt_seq.specs.declared.shared.Callers.{Callers as TheCallers}
 use Rattle.srt_seq.specs.declared.shared.Callers.TheVariants as callers
 use Rattle.srt_seq.specs.declared.shared.Rules.{Rules}
-use Rattle.srt_config.specs.declared.config.faults.Key.TheVariants.{Callers, Reserved, SessionsPerAddress, TakeoverMs, ResendPercent}
-use Rattle.srt_config.specs.Faults.{key_name}
+use Rattle.srt_config.specs.declared.config.table.Key.TheVariants.{Callers, Reserved, SessionsPerAddress, TakeoverMs, ResendPercent}
+use Rattle.srt_config.specs.KeyTable.{key_name}
 use Rattle.srt_config.specs.FirstFault.{Fault, OutOfRange, ◌>>=◌}
 use Rattle.srt_config.specs.Keys.{optional, text_value, optional_number_at, given_or_0}
 
@@ -24,7 +24,7 @@ callers_value value = text_value Callers value >>= λ text. callers_in text
 unfoldable pub callers_at : Members → Result (Option TheCallers) Fault
 callers_at table = optional callers_value (get_member (key_name Callers) table)
 
--- sessions follow the draft if no other rules are asked for
+-- sessions follow the draft if no other rules are configured
 abbrev pub draft_if_none : Option TheCallers → TheCallers
 draft_if_none None = callers.Draft
 draft_if_none (Some given) = given

@@ -1,4 +1,4 @@
-//! What a changed configuration asks of a gateway that runs (our choice).
+//! What a changed configuration requests of a running gateway (our choice).
 
 ghost use Rattle.std.specs.Prelude.{◌≡◌, ℕ, List, ◌++◌, IfOk, OnOk, map, option_map, length};
 ghost use Rattle.srt_seq.specs.Terms.{terms_of};
@@ -7,7 +7,7 @@ ghost use Rattle.srt_config.specs.AddressParts.{address_of};
 ghost use Rattle.srt_config.specs.SameKeys.{same_if};
 ghost use Rattle.srt_config.specs.Config.{settings_of};
 ghost use Rattle.srt_config.specs.Changes.{place_of, has_terms, has_schedule, has_keys_at, change_at, change_of, changes_of, gone_at};
-ghost use Rattle.srt_config.specs.Changes.{gone_from, same_address, fixed_keys, any_fixed, asked_by, asked};
+ghost use Rattle.srt_config.specs.Changes.{gone_from, same_address, fixed_keys, any_fixed, requested_by, requested};
 
 use crate::config::{BindAddress, Config};
 use crate::same_keys::{same_entry, same_schedule};
@@ -15,19 +15,19 @@ use indexmap::IndexMap;
 use srt_seq::{Entry, Schedule};
 use std::alloc::{AllocError, Global};
 
-/// What becomes of a route of a changed configuration. A place is that of a route in the configuration before, counted
+/// The change of a route of a changed configuration. A place is that of a route in the configuration before, counted
 /// from 0.
 #[derive(Clone, Copy, Debug, PartialEq, Eq)]
 pub enum RouteChange {
-    /// It stays as it is: the route at this place has its name, and all keys are the same.
+    /// It stays: the route at this place has its name, and the same value at each key.
     Stays(usize),
-    /// The route at this place has its name, but another value at some key: that one closes, and this one opens.
+    /// The route at this place has its name, and another value at some key: that one closes, and this one opens.
     Reopens(usize),
-    /// It opens: no route before has its name.
+    /// It opens: no route had its name.
     Opens,
 }
 
-/// The keys that can't change while a gateway runs: for each, whether it has another value.
+/// The keys that can't change while a gateway runs, and whether each has another value.
 #[derive(Clone, Copy, Debug, PartialEq, Eq)]
 pub struct FixedKeys {
     /// The secret of the handshake cookies.
@@ -49,14 +49,14 @@ impl FixedKeys {
     }
 }
 
-/// What a changed configuration asks.
+/// The changes that a configuration requests.
 #[derive(Drop)]
 pub struct Changes {
-    /// Which of the keys differ that can't change.
+    /// The keys that differ and can't change.
     pub fixed: FixedKeys,
-    /// What becomes of each of its routes, in its order.
+    /// The change of each of its routes, in its order.
     pub routes: Vec<RouteChange>,
-    /// The places, in the configuration before, of the routes whose names it doesn't have: they close. In rising order.
+    /// The routes that close since it doesn't have their names: their places in the configuration before, ascending.
     pub gone: Vec<usize>,
 }
 
@@ -69,8 +69,8 @@ struct Places<'a> {
     ghost found: { (name : List ℕ) → index_in (λ key. key.items) by_name.entries name ≡ place_of name (map terms_of entries.now) },
 }
 
-// The places of these routes by their names, from the last one on, so that the first of two with the same name is found.
-// Allocates a copy of each name, and the table.
+// Returns the places of these routes by their names. Inserts the last route first, so that the first of two with the same
+// name is found. Allocates a copy of each name, and the table.
 fn by_name(alloc: Global, entries: &[Entry]) -> Result<IndexMap<Vec<u8>, usize>, AllocError>
     ensures { IfOk result (λ table. (name : List ℕ) → index_in (λ key. key.items) table.entries name ≡ place_of name (map terms_of entries.now)) }
 {
@@ -92,7 +92,7 @@ impl<'a> Places<'a> {
         Ok(Places { entries, by_name })
     }
 
-    // The place of the route of this name, if there is one. One look-up in the hash table.
+    // Returns the place of the route of this name, if there is one. One look-up in the hash table.
     fn of(&self, name: &[u8]) -> Option<usize>
         ensures { result ≡ place_of name.now (map terms_of self.now.entries.now) }
     {
@@ -145,7 +145,7 @@ fn change_at(
     }
 }
 
-// What becomes of a route, found by its name among those before.
+// Returns the change of a route, which is found by its name among those before.
 #[tactic(auto, unfolding(crate::specs::Changes::change_of))]
 fn change_of(before: &Config, places: &Places, entry: &Entry, schedule: Schedule) -> RouteChange
     requires { places.now.entries.now ≡ before.now.entries.items }
@@ -155,7 +155,8 @@ fn change_of(before: &Config, places: &Places, entry: &Entry, schedule: Schedule
     change_at(before, entry, schedule, place)
 }
 
-// What becomes of each of these routes, found by their names among those before. There are as many schedules.
+// Returns the change of each of these routes, which are found by their names among those before. There are as many
+// schedules.
 #[tactic(auto, using(crate::proofs::Compared::changes_step, crate::proofs::Compared::changes_end))]
 fn changes_by(
     alloc: Global,
@@ -179,7 +180,7 @@ fn changes_by(
     Ok(changes)
 }
 
-// What becomes of each of these routes. There are as many schedules.
+// Returns the change of each of these routes. There are as many schedules.
 fn changes_of(
     alloc: Global,
     before: &Config,
@@ -209,7 +210,7 @@ fn note_gone(
     Ok(())
 }
 
-// The places of the routes whose names no route after has, found by their names.
+// Returns the places of the routes whose names no route after has, by look-ups of their names.
 #[tactic(auto, using(crate::proofs::Compared::gone_step))]
 fn gone_by(alloc: Global, before: &[Entry], places: &Places) -> Result<Vec<usize>, AllocError>
     ensures { IfOk result (λ gone. gone.items ≡ gone_from 0 (map terms_of places.now.entries.now) (map terms_of before.now)) }
@@ -225,7 +226,7 @@ fn gone_by(alloc: Global, before: &[Entry], places: &Places) -> Result<Vec<usize
     Ok(gone)
 }
 
-// The places of the routes whose names no route after has.
+// Returns the places of the routes whose names no route after has.
 fn gone(alloc: Global, before: &[Entry], after: &[Entry]) -> Result<Vec<usize>, AllocError>
     ensures { IfOk result (λ gone. gone.items ≡ gone_from 0 (map terms_of after.now) (map terms_of before.now)) }
 {
@@ -262,16 +263,16 @@ fn fixed_keys(before: &Config, after: &Config) -> FixedKeys
     }
 }
 
-/// What a changed configuration asks of a gateway that runs with the one before: which routes stay, open, close, or close
-/// and open again since a key of theirs has another value, and which keys differ that can't change. Each route is found
-/// by one look-up in a hash table of the other configuration's names. Allocates that table with copies of the names, and
-/// the two lists; an error if memory is refused.
+/// Returns the changes that a configuration requests of a gateway that runs with the one before: which routes stay, open,
+/// close, or close and open again since one of their keys has another value, and which keys differ and can't change. Each
+/// route is found by one look-up in a hash table of the other configuration's names. Allocates that table with copies of
+/// the names, and the two lists; an error if an allocation fails.
 pub fn changes_between(
     alloc: Global,
     before: &Config,
     after: &Config,
 ) -> Result<Changes, AllocError>
-    ensures { IfOk result (λ changes. asked_by changes ≡ asked (settings_of before.now) (settings_of after.now)) }
+    ensures { IfOk result (λ changes. requested_by changes ≡ requested (settings_of before.now) (settings_of after.now)) }
 {
     let routes = changes_of(
         alloc,

@@ -11,23 +11,24 @@ mod access;
 mod address;
 mod faults;
 mod keys;
+mod placed;
 mod reading;
 mod routes;
 mod rules;
+mod table;
 mod values;
 
-pub use access::{MAX_KEY, MAX_NETWORKS, is_key_text, read_network};
+pub use access::{is_key_text, read_network};
 pub use address::BindAddress;
-pub use faults::{ConfigFault, Key};
-pub use reading::{TOP_KEYS, read_config, read_table};
-pub use routes::{MAX_ROUND, ROUTE_KEYS, RouteNumbers};
+pub use faults::ConfigFault;
+pub use placed::PlacedFault;
+pub use reading::{read_config, read_table};
+pub use routes::RouteNumbers;
 use srt_cookie::Secret;
 use srt_seq::{Entry, Schedule};
+pub use table::{Choices, Key, Limits, ROUTE_KEYS, TOP_KEYS, ValueKind};
 
-/// The most threads that serve routes.
-pub const MAX_WORKERS: usize = 16;
-
-/// A configuration: everything that the gateway is started with.
+/// A configuration of a gateway.
 #[derive(Drop)]
 pub struct Config {
     /// The secret of the handshake cookies: 32 bytes.
@@ -36,7 +37,7 @@ pub struct Config {
     pub bind: BindAddress,
     /// The number of threads that serve the routes in `serve`: 1 to 16.
     pub workers: u32,
-    /// The address and TCP port at which `run` shows its status page; `None` if it shows none.
+    /// The address and TCP port of the status page of `run`; `None` if it has none.
     pub status: Option<BindAddress>,
     /// The routes, in the order of their indexes: 1 to 511, with distinct names.
     pub entries: Vec<Entry>,

@@ -1,17 +1,27 @@
 //! Laws of the definitions.
 
-ghost use Rattle.srt_config.specs.KeyFaults.{TellsFirstFault};
-ghost use Rattle.srt_config.specs.ChangeLaws.{SameKeysDecide, SameAsksNothing};
+ghost use Rattle.srt_config.specs.KeyFaults.{IsFirstFault};
+ghost use Rattle.srt_config.specs.PlaceLaws.{PlacesTheFault};
+ghost use Rattle.srt_config.specs.ChangeLaws.{SameKeysDecide, SameRequestsNothing, ChangesAreMeant, RunsTheFile};
 
 /// The fault of a configuration is that of the first key that has one, in this order: the least unknown key of the
 /// table, `secret`, `bind`, `workers` and `route`; then for each route its least unknown key and its keys.
 pub fn configurations()
-    ensures { TellsFirstFault }
+    ensures { IsFirstFault }
+{}
+
+/// A fault with a route's number is one of the route of this number, and all routes before it are without a fault.
+pub fn places()
+    ensures { PlacesTheFault }
 {}
 
 /// Two routes of configurations are compared exactly: the test says that their keys are the same if, and only if, all of
-/// them have the same values. A configuration that is the same as the one before asks nothing of a gateway that runs.
+/// them have the same values. A configuration that is the same as the one before requests nothing of a running gateway. A
+/// route stays only if all of its keys have the values from before, lists, keys of roles and rules included. Once all
+/// changes are made, the routes that run are those of the file.
 pub fn changes()
     ensures keys { SameKeysDecide }
-    ensures same { SameAsksNothing }
+    ensures same { SameRequestsNothing }
+    ensures meant { ChangesAreMeant }
+    ensures runs { RunsTheFile }
 {}

@@ -1,18 +1,18 @@
-//! The gateway's configuration, and what a changed one asks of a gateway that runs.
+//! The gateway's configuration, and what a changed one requests of a running gateway.
 //!
-//! It opens no file: texts are arguments. The program is `srtgw`; what a person is told of a configuration is in
-//! `srt_explain`.
+//! It opens no file: texts are arguments. The program is `srtgw`; explanations for people are in `srt_explain`.
 //!
 //! Types: `Config`, the secret, the address and the routes' entries; `ConfigFault`, the first thing that is wrong, with
-//! its `Key`; `Changes`, what a changed configuration asks; `RouteNumbers`, the numbers of a route, wherever they were
-//! read; `Parts`, a text split at a byte.
+//! its `Key`, and `PlacedFault`, with its route; `ValueKind`, `Limits` and `Choices`, what a key allows; `Changes`, what a
+//! changed configuration requests; `RouteNumbers`, the numbers of a route; `Parts`, a text split at a byte.
 //!
 //! Calls: `read_config` on the text of a configuration, or `read_table` on its table; `changes_between` two of them;
 //! `read_number` and `parted` on other texts that have decimal digits, or one byte between their parts.
 //!
-//! Files: `config.rt` and `config/` have the keys and their limits (docs/PROTOCOL.md, "Configuration"); `changes.rt`
-//! compares two configurations, by the keys in `same_keys.rt`; `numbers.rt` reads numbers; `splitting.rt` splits a text.
-//! `laws.rt` states which fault is a configuration's, and what the comparison of two configurations means.
+//! Files: `config/table.rt` is the table of keys (docs/CONFIGURATION.md), and the others of `config/` read a configuration
+//! by it; `changes.rt` compares two configurations, by the keys in `same_keys.rt`; `numbers.rt` reads numbers;
+//! `splitting.rt` splits a text. `laws.rt` states which fault is a configuration's, which route has it, and what the
+//! comparison of two configurations means.
 #![tactic(auto)]
 
 mod changes;
@@ -24,8 +24,8 @@ mod splitting;
 
 pub use changes::{Changes, FixedKeys, RouteChange, changes_between};
 pub use config::{
-    BindAddress, Config, ConfigFault, Key, MAX_KEY, MAX_NETWORKS, MAX_ROUND, MAX_WORKERS,
-    ROUTE_KEYS, RouteNumbers, TOP_KEYS, is_key_text, read_config, read_network, read_table,
+    BindAddress, Choices, Config, ConfigFault, Key, Limits, PlacedFault, ROUTE_KEYS, RouteNumbers,
+    TOP_KEYS, ValueKind, is_key_text, read_config, read_network, read_table,
 };
 pub use numbers::read_number;
 pub use splitting::{Parts, parted};

@@ -15,7 +15,7 @@ pub struct Parts<'a> {
     pub behind: &'a [u8],
 }
 
-/// The text split at its first byte of this value; None if it has none. Linear in the length of the part before it.
+/// Splits the text at its first byte of this value; None if it has none. Linear in the length of the part before it.
 pub fn parted(at: u8, text: &[u8]) -> Option<Parts<'_>>
     ensures parts { option_map both result ≡ parted at text.now }
     ensures before_within { IfSome result (λ p. length p.before.now ≤ length text.now) }

@@ -1,4 +1,4 @@
-//! What is read of right configurations, and what changed ones ask. The faults of configurations are cases of
+//! What is read of valid configurations, and what changed ones request. The faults of configurations are cases of
 //! `tests/cli`. Cookies were computed by Python's hashlib.
 
 mod changes;
@@ -32,6 +32,26 @@ sessions = 3
 inbox = 16
 outbox = 16
 ";
+
+/// The keys of a further route after its name.
+const FURTHER: &str = "\
+mode = \"live\"
+latency_ms = 120
+buffer = 32
+sessions = 2
+inbox = 16
+outbox = 16
+";
+
+/// The valid configuration with further routes, so that it has this many.
+fn with_routes(rt: &(impl AllocGlobal + Abort), count: usize) -> Result<String, Fail> {
+    let mut text = String::from_str(rt.alloc(), RIGHT)?;
+    for number in 2..count {
+        let route = format!(in rt.alloc(); "[[route]]\nname = \"r{number}\"\n{FURTHER}")?;
+        text.push_str(route.as_str())?;
+    }
+    Ok(text)
+}
 
 /// The configuration of a text.
 fn config_of(rt: &(impl AllocGlobal + Abort), text: &str) -> Result<Config, Fail> {

@@ -1,17 +1,48 @@
 -- What an explanation of a configuration has to do with its reading (our choice).
-use Rattle.std.specs.Prelude.{◌≡◌, map, Option, Some, Result, Ok, Err}
+use Rattle.std.specs.Prelude.{◌≡◌, ℕ, ◌⊎◌, Bool, true, false, List, [], map, Option, None, Some, option_map, Result, Ok, Err, IfErr}
+use Rattle.std.specs.Fmt.InlineText.{inline_text}
 use Rattle.toml.specs.Data.{Members}
 use Rattle.srt_seq.specs.Terms.{terms_of}
 use Rattle.srt_config.specs.declared.config.Config.{Config}
 use Rattle.srt_config.specs.declared.config.faults.ConfigFault.{ConfigFault}
+use Rattle.srt_config.specs.declared.config.faults.ConfigFault.TheVariants.{Toml, UnknownKey, Missing, WrongKind, OutOfRange, BadName}
+use Rattle.srt_config.specs.declared.config.faults.ConfigFault.TheVariants.{RepeatedName, BadSecret, BadAddress, OutOfMemory}
+use Rattle.srt_config.specs.KeyTable.{is_private}
+use Rattle.srt_config.specs.FaultPlace.{document_place}
 use Rattle.srt_explain.specs.declared.explaining.Explained.{Explained}
 use Rattle.srt_explain.specs.declared.explanation.Explanation.{Explanation}
+use Rattle.srt_explain.specs.declared.explanation.RouteAt.{RouteAt}
 use Rattle.srt_explain.specs.Warnings.{warnings_of}
 
 -- what is explained, without the explanation
 abbrev pub plain : Result Explained Explanation → Result Config ConfigFault
 plain (Ok explained) = Ok explained.config
 plain (Err explanation) = Err explanation.fault
+
+abbrev pub number_of : RouteAt → ℕ
+number_of route = route.number
+
+-- the route that is named is the one that has the fault, unless an allocation failed
+abbrev pub HasPlace : Option Members → Result Explained Explanation → Type 0
+HasPlace document answer =
+    IfErr answer (λ explanation. (explanation.fault ≡ OutOfMemory) ⊎ (option_map number_of explanation.route ≡ document_place document))
+
+-- the value at the key with this fault is printed nowhere: it is private, or the key is unknown and may be a misspelled private one
+abbrev pub is_fault_private : ConfigFault → Bool
+is_fault_private Toml = false
+is_fault_private (UnknownKey key) = true
+is_fault_private (Missing key) = true
+is_fault_private (WrongKind key) = is_private key
+is_fault_private (OutOfRange key) = is_private key
+is_fault_private BadName = false
+is_fault_private RepeatedName = false
+is_fault_private BadSecret = true
+is_fault_private (BadAddress key) = is_private key
+is_fault_private OutOfMemory = true
+
+-- an explanation has no value that is to be printed nowhere
+abbrev pub IsPrivate : Explanation → Type 0
+IsPrivate explanation = is_fault_private explanation.fault ≡ true → inline_text explanation.value ≡ []
 
 -- the warnings are those of the table that the text is, and of the status page and the routes that were read from it
 abbrev pub HasWarnings : Option Members → Explained → Type 0

@@ -1,6 +1,6 @@
--- What is unwise in a right configuration (our choice).
-use Rattle.std.specs.Prelude.{◌≡◌, ℕ, suc, ◌+◌, ◌*◌, ◌/◌, ◌==◌, nat_lt, nat_le, Bool, true, false, not, codes, List, [], ◌∷◌, ◌++◌, slice_index, Option}
-use Rattle.std.specs.Prelude.{None, Some, is_some, ◌&&◌, if◌then◌else◌}
+-- The risks of a valid configuration (our choice).
+use Rattle.std.specs.Prelude.{◌≡◌, ℕ, suc, ◌+◌, ◌-◌, ◌*◌, ◌/◌, ◌==◌, nat_lt, nat_le, Bool, true, false, not, codes, List, [], ◌∷◌, ◌++◌}
+use Rattle.std.specs.Prelude.{slice_index, slice_get, Option, None, Some, is_some, ◌&&◌, if◌then◌else◌}
 use Rattle.std.specs.Str.{bytes_eq}
 use Rattle.toml.specs.Data.{Data, Members, get_member, as_str}
 use Rattle.srt_seq.specs.declared.shared.Role.TheVariants.{Publish, Request}
@@ -41,7 +41,7 @@ given false warning = []
 abbrev pub is_small_outbox : Terms → Bool
 is_small_outbox t = nat_lt t.outbox (replies_of t)
 
--- a route is warned of its outbox just if that can't hold the replies of one event: 66 for each session and 4 more
+-- a route is warned of its outbox exactly if that can't hold the replies of one event: 66 for each session and 4 more
 abbrev pub WarnsOfSmallOutboxes : Type 0
 WarnsOfSmallOutboxes = (t : Terms) → is_small_outbox t ≡ nat_lt t.outbox (4 + 66 * t.sessions)
 
@@ -60,7 +60,7 @@ number_warnings route t =
     (given (is_small_outbox t) (outbox_warning route t) ++ given (is_small_window t) (window_warning route t)) ++
     given (has_one_session t) (OneSession route)
 
--- a role has a key and no list: whoever reads the key on its way may use it from anywhere
+-- a role has a key and no list: anyone who reads the key in transit can use it from anywhere
 abbrev pub has_open_key : RoleTerms → Bool
 has_open_key role = is_some role.key && not (is_some role.from)
 
@@ -133,3 +133,28 @@ status_warnings None = []
 -- all warnings about a configuration that was read from this table, and has this status page and these routes
 abbrev pub warnings_of : Members → (status : Option BindAddress) → List Terms → List Warning
 warnings_of table status routes = given (has_example_secret table) ExampleSecret ++ status_warnings status ++ routes_warnings 1 routes
+
+-- the number of the route that a warning is about
+abbrev pub route_of : Warning → Option ℕ
+route_of ExampleSecret = None
+route_of (ExposedStatus address) = None
+route_of (SmallOutbox route outbox replies) = Some route
+route_of (SmallWindow route buffer packets millis) = Some route
+route_of (OneSession route) = Some route
+route_of (OpenKey route role) = Some route
+route_of (UnusedTakeover route) = Some route
+route_of (UnusedAddressLimit route limit sessions) = Some route
+route_of (OneUnreserved route reserved sessions) = Some route
+
+abbrev pub name_if : Option Terms → List ℕ
+name_if None = []
+name_if (Some terms) = terms.name
+
+-- the name of the route of this number; empty if there is none
+abbrev pub name_at : (number : ℕ) → List Terms → List ℕ
+name_at number routes = name_if (slice_get routes (number - 1))
+
+-- the name with which a warning is printed
+abbrev pub name_for : (route : Option ℕ) → List Terms → List ℕ
+name_for None routes = []
+name_for (Some number) routes = name_at number routes

@@ -1,52 +1,67 @@
-//! Reads a configuration, and explains the result.
+//! Reads a configuration and explains the result.
 
-ghost use Rattle.std.specs.Prelude.{◌≡◌, IfOk, IsUtf8, Err, Some};
+ghost use Rattle.std.specs.Prelude.{◌≡◌, IfOk, IfErr, IsUtf8, Err, Some, None, true, [], map, option_map};
+ghost use Rattle.std.specs.Fmt.InlineText.{inline_text};
 ghost use Rattle.toml.specs.Parse.{parse_document};
 ghost use Rattle.toml.specs.View.{table_view};
 ghost use Rattle.srt_config.specs.FirstFault.{Gives};
 ghost use Rattle.srt_config.specs.Config.{settings_at, settings_of, config_in};
-ghost use Rattle.srt_explain.specs.Explaining.{plain, HasWarnings};
+ghost use Rattle.srt_config.specs.KeyTable.{is_private};
+ghost use Rattle.srt_seq.specs.Terms.{terms_of};
+ghost use Rattle.srt_explain.specs.Warnings.{route_of, name_at, name_for};
+ghost use Rattle.srt_explain.specs.Explaining.{plain, number_of, HasPlace, is_fault_private, IsPrivate, HasWarnings};
 
 use crate::explanation::{Explanation, Hint, RouteAt, bare};
-use crate::finding::{first_with, has_unknown, route_at, same_names};
 use crate::hints::{
-    of_address, of_kind, of_name, of_networks, of_range, of_secret, of_text, of_unknown_above,
-    of_unknown_in_route,
+    of_bad_address, of_kind, of_name, of_range, of_same_name, of_secret, of_text, of_unknown,
 };
-use crate::values::{is_key_of_role, routes_of, text_at, value_at};
+use crate::values::{route_at, routes_before, text_or_empty, value_at};
 use crate::warnings::{Warning, WarningText, warnings_of};
-use srt_config::{Config, ConfigFault, Key, TOP_KEYS, read_table};
+use srt_config::{Config, ConfigFault, Key, PlacedFault, read_table};
+use srt_seq::{Entry, is_name};
 use std::alloc::Global;
 use std::fmt::InlineText;
 use std::str;
-use toml::Table;
+use toml::{Table, Value};
 
-/// A right configuration, and what is unwise in it.
+/// A valid configuration and its warnings.
 #[derive(Drop)]
 pub struct Explained {
     /// The configuration, as `srt_config::read_config` reads it.
     pub config: Config,
-    /// What is unwise: first what stands above the routes, then route after route.
+    /// Its warnings: first those of the keys above the routes, then route by route.
     pub warnings: Vec<Warning>,
 }
 
+/// Returns the name of the route of this number, counted from 1; empty if there is none.
+fn name_at(entries: &[Entry], number: usize) -> &str
+    ensures { result.now ≡ name_at number (map terms_of entries.now) }
+{
+    match entries.get(number.saturating_sub(1)) {
+        Some(entry) => entry.name.as_str(),
+        None => "",
+    }
+}
+
 impl Explained {
-    /// A warning with what it is printed with.
+    /// Returns a warning with what it is printed with: the name of its route.
     pub fn text_of(&self, warning: Warning) -> WarningText<'_>
-        ensures { result.warning ≡ warning }
+        ensures warning { result.warning ≡ warning }
+        ensures name { result.name.now ≡ name_for (route_of warning) (map terms_of self.now.config.entries.items) }
     {
-        let route = warning.route().unwrap_or(0);
-        let name = match self.config.entries.get(route.saturating_sub(1)) {
-            Some(entry) => entry.name.as_str(),
+        let name = match warning.route() {
+            Some(number) => name_at(self.config.entries.as_slice(), number),
             None => "",
         };
         WarningText { warning, name }
     }
 }
 
-/// The value at a key, as TOML writes it; empty for the key of a role.
-fn shown(table: &Table, key: Key) -> InlineText<96> {
-    if is_key_of_role(key) {
+/// Returns the value at a key, as TOML writes it; empty if it is to be printed nowhere.
+fn shown(table: &Table, key: Key) -> InlineText<96>
+    ensures { is_private key ≡ true → inline_text result ≡ [] }
+{
+    if key.is_private() {
         return InlineText::new();
     }
     match value_at(table, key) {
@@ -55,123 +70,139 @@ fn shown(table: &Table, key: Key) -> InlineText<96> {
     }
 }
 
-/// What is known of a fault: the route that has it, the value that is wrong, and a hint.
+/// The value that is wrong, and what may help.
 #[derive(Clone, Copy)]
 struct Known {
-    route: Option<RouteAt>,
     value: InlineText<96>,
     hint: Hint,
 }
 
-fn nothing() -> Known {
+fn only(hint: Hint) -> Known
+    ensures { inline_text result.value ≡ [] }
+{
     Known {
-        route: None,
         value: InlineText::new(),
-        hint: Hint::Nothing,
+        hint,
     }
 }
 
-/// What is known of a fault of the keys above the routes; None if it is a route's.
-fn known_above(table: &Table, fault: &ConfigFault) -> Option<Known> {
-    let mut known = nothing();
+fn at_key(table: &Table, key: Key, hint: Hint) -> Known
+    ensures { is_private key ≡ true → inline_text result.value ≡ [] }
+{
+    Known {
+        value: shown(table, key),
+        hint,
+    }
+}
+
+/// Returns what is known of a fault in a table: that of its route, or the whole one if it isn't one route's. `before` are
+/// the tables of the routes before.
+fn known_of(at: &Table, in_route: bool, before: &[Value], fault: &ConfigFault) -> Known
+    ensures { is_fault_private fault.now ≡ true → inline_text result.value ≡ [] }
+{
     match fault {
-        ConfigFault::UnknownKey(key) if has_unknown(table, &TOP_KEYS, key.as_str()) => {
-            known.hint = of_unknown_above(key.as_str());
+        ConfigFault::UnknownKey(key) => only(of_unknown(in_route, key.as_str())),
+        ConfigFault::WrongKind(key) => at_key(at, *key, of_kind(at, *key)),
+        ConfigFault::OutOfRange(key) => at_key(at, *key, of_range(at, *key)),
+        ConfigFault::BadName => at_key(at, Key::Name, of_name(text_or_empty(at, Key::Name))),
+        ConfigFault::RepeatedName => at_key(
+            at,
+            Key::Name,
+            of_same_name(before, text_or_empty(at, Key::Name)),
+        ),
+        ConfigFault::BadSecret => only(of_secret(text_or_empty(at, Key::Secret))),
+        ConfigFault::BadAddress(key) => at_key(at, *key, of_bad_address(at, *key)),
+        ConfigFault::Toml | ConfigFault::Missing(_) | ConfigFault::OutOfMemory => {
+            only(Hint::Nothing)
         }
-        ConfigFault::Missing(Key::Secret | Key::Bind | Key::Workers | Key::Route) => {}
-        ConfigFault::WrongKind(Key::Secret) => {}
-        ConfigFault::WrongKind(key) if is_above(*key) => {
-            known.value = shown(table, *key);
-            known.hint = of_kind(table, *key);
-        }
-        ConfigFault::OutOfRange(key) if is_above(*key) => {
-            known.value = shown(table, *key);
-            known.hint = of_range(table, *key);
-        }
-        ConfigFault::BadSecret => {
-            known.hint = of_secret(text_at(table, Key::Secret).unwrap_or(""));
-        }
-        ConfigFault::BadAddress(key) if is_above(*key) => {
-            known.value = shown(table, *key);
-            known.hint = of_address(text_at(table, *key).unwrap_or(""));
-        }
-        _ => return None,
     }
-    Some(known)
 }
 
-/// Whether a key stands above the routes.
-fn is_above(key: Key) -> bool {
-    TOP_KEYS.iter().any(|it| *it == key)
+/// Describes the route of this number, with its name if that has the right form and is no other route's.
+fn route_of(number: usize, route: &Table, fault: &ConfigFault) -> RouteAt
+    ensures { result.number ≡ number }
+{
+    let name = match fault {
+        ConfigFault::RepeatedName => "",
+        _ => text_or_empty(route, Key::Name),
+    };
+    RouteAt {
+        number,
+        name: match is_name(name.as_bytes()) {
+            true => InlineText::of(name),
+            false => InlineText::new(),
+        },
+    }
 }
 
-/// What is known of a fault of a route.
-fn known_in_route(table: &Table, fault: &ConfigFault) -> Known {
-    let routes = routes_of(table);
-    let mut known = nothing();
-    if let ConfigFault::RepeatedName = fault {
-        if let Some((at, before)) = same_names(routes) {
-            known.route = Some(route_at(at, None));
-            known.hint = Hint::SameName(before.saturating_add(1));
-            if let Some(route) = routes.get(at) {
-                if let Some(route) = route.as_table() {
-                    known.value = shown(route, Key::Name);
-                }
+/// Explains a fault of the route of this number.
+fn explained_in_route(table: &Table, fault: ConfigFault, number: usize) -> Explanation
+    ensures fault { result.fault ≡ fault }
+    ensures route { option_map number_of result.route ≡ Some number }
+    ensures private { is_fault_private fault ≡ true → inline_text result.value ≡ [] }
+{
+    let before = routes_before(table, number);
+    match route_at(table, number) {
+        Some(route) => {
+            let known = known_of(route, true, before, &fault);
+            let at = route_of(number, route, &fault);
+            Explanation {
+                fault,
+                route: Some(at),
+                value: known.value,
+                hint: known.hint,
             }
         }
-        return known;
+        None => Explanation {
+            fault,
+            route: Some(RouteAt {
+                number,
+                name: InlineText::new(),
+            }),
+            value: InlineText::new(),
+            hint: Hint::Nothing,
+        },
     }
-    let Some((at, route)) = first_with(routes, fault) else {
-        return known;
-    };
-    known.route = Some(route_at(at, Some(route)));
-    match fault {
-        ConfigFault::UnknownKey(key) => known.hint = of_unknown_in_route(key.as_str()),
-        ConfigFault::WrongKind(key) => {
-            known.value = shown(route, *key);
-            known.hint = of_kind(route, *key);
-        }
-        ConfigFault::OutOfRange(key) => {
-            known.value = shown(route, *key);
-            known.hint = of_range(route, *key);
-        }
-        ConfigFault::BadAddress(key) => {
-            known.value = shown(route, *key);
-            known.hint = of_networks(route, *key);
-        }
-        ConfigFault::BadName => {
-            known.value = shown(route, Key::Name);
-            known.hint = of_name(text_at(route, Key::Name).unwrap_or(""));
-        }
-        _ => {}
-    }
-    known
 }
 
-/// The explanation of a fault that was found in this table.
-fn explained_fault(table: &Table, fault: ConfigFault) -> Explanation
-    ensures { result.fault ≡ fault }
+/// Explains a fault that isn't one route's.
+fn explained_above(table: &Table, fault: ConfigFault) -> Explanation
+    ensures fault { result.fault ≡ fault }
+    ensures route { result.route ≡ None }
+    ensures private { is_fault_private fault ≡ true → inline_text result.value ≡ [] }
 {
-    let known = match known_above(table, &fault) {
-        Some(known) => known,
-        None => known_in_route(table, &fault),
-    };
+    let known = known_of(table, false, &[], &fault);
     Explanation {
         fault,
-        route: known.route,
+        route: None,
         value: known.value,
         hint: known.hint,
     }
 }
 
-/// The configuration in a table with its warnings, or the explanation of its first fault.
+/// Explains the fault of this table.
+fn explained_fault(table: &Table, placed: PlacedFault) -> Explanation
+    ensures fault { result.fault ≡ placed.fault }
+    ensures route { option_map number_of result.route ≡ placed.route }
+    ensures private { IsPrivate result }
+{
+    let PlacedFault { fault, route } = placed;
+    match route {
+        Some(number) => explained_in_route(table, fault, number),
+        None => explained_above(table, fault),
+    }
+}
+
+/// Reads the configuration in a table with its warnings, or explains its first fault.
 fn explain_table(alloc: Global, table: &Table) -> Result<Explained, Explanation>
     ensures gives { Gives settings_of (plain result) (settings_at (table_view table.now)) }
+    ensures place { HasPlace (Some (table_view table.now)) result }
+    ensures private { IfErr result IsPrivate }
     ensures warnings { IfOk result (HasWarnings (Some (table_view table.now))) }
 {
     let config = match read_table(alloc, table) {
         Ok(config) => config,
-        Err(fault) => return Err(explained_fault(table, fault)),
+        Err(placed) => return Err(explained_fault(table, placed)),
     };
     match warnings_of(alloc, table, &config) {
         Ok(warnings) => Ok(Explained { config, warnings }),
@@ -179,21 +210,24 @@ fn explain_table(alloc: Global, table: &Table) -> Result<Explained, Explanation>
     }
 }
 
-/// The explanation of a text that isn't TOML from this place on, with what is said of it.
-fn explained_text(text: &[u8], at: usize, said: &str) -> Explanation
-    ensures { result.fault ≡ ConfigFault.Toml }
+/// Explains a text that isn't TOML from this place on, with the message of its reader.
+fn explained_text(text: &[u8], at: usize, message: &str) -> Explanation
+    ensures fault { result.fault ≡ ConfigFault.Toml }
+    ensures route { result.route ≡ None }
 {
     Explanation {
         fault: ConfigFault::Toml,
         route: None,
-        value: InlineText::of(said),
+        value: InlineText::of(message),
         hint: of_text(text, at),
     }
 }
 
-/// The configuration in a text with its warnings, or the explanation of its first fault.
+/// Reads the configuration in a text with its warnings, or explains its first fault.
 fn explain_text(alloc: Global, text: &str) -> Result<Explained, Explanation>
     ensures gives { Gives settings_of (plain result) (config_in (parse_document text.now)) }
+    ensures place { HasPlace (parse_document text.now) result }
+    ensures private { IfErr result IsPrivate }
     ensures warnings { IfOk result (HasWarnings (parse_document text.now)) }
 {
     match toml::table_from_str(alloc, text) {
@@ -209,13 +243,15 @@ fn explain_text(alloc: Global, text: &str) -> Result<Explained, Explanation>
     }
 }
 
-/// Reads a configuration from the bytes of its file, and explains the result: what is unwise, if it is right, or
-/// else its first fault. Without the explanation that is what `srt_config::read_config` gives for the text, and its
-/// fault `Toml` for bytes that aren't UTF-8. Allocates as that call does, and the list of warnings; if memory is
-/// refused, the result can be the fault `OutOfMemory` instead of any other.
+/// Reads a configuration from the bytes of its file, and explains the result: the risks of a valid one, or else its first
+/// fault. Without the explanation that is the result of `srt_config::read_config` for the text, and its fault `Toml` for
+/// bytes that aren't UTF-8. Allocates as that call does, and the list of warnings; if an allocation fails, the result can
+/// be the fault `OutOfMemory` instead of any other.
 pub fn explain(alloc: Global, bytes: &[u8]) -> Result<Explained, Explanation>
     ensures gives { IsUtf8 bytes.now → Gives settings_of (plain result) (config_in (parse_document bytes.now)) }
     ensures no_text { ¬ (IsUtf8 bytes.now) → plain result ≡ Err ConfigFault.Toml }
+    ensures place { IsUtf8 bytes.now → HasPlace (parse_document bytes.now) result }
+    ensures private { IfErr result IsPrivate }
     ensures warnings { IfOk result (HasWarnings (parse_document bytes.now)) }
 {
     match str::from_utf8(bytes) {

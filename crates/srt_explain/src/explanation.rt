@@ -1,6 +1,7 @@
 //! What an explanation consists of.
 
-ghost use Rattle.std.specs.Prelude.{◌≡◌};
+ghost use Rattle.std.specs.Prelude.{◌≡◌, []};
+ghost use Rattle.std.specs.Fmt.InlineText.{inline_text};
 
 use crate::places::TextPlace;
 use srt_config::{ConfigFault, Key};
@@ -15,24 +16,24 @@ pub struct RouteAt {
     pub name: InlineText<64>,
 }
 
-/// What may help to mend a fault.
+/// What may help to fix a fault.
 #[derive(Clone, Copy)]
 pub enum Hint {
-    /// Nothing more than what is allowed.
+    /// No hint.
     Nothing,
     /// The text can't be read from this place on.
     Place(TextPlace),
-    /// The same, and a text without quotes stands there.
+    /// The same, and a text without quotes is there.
     Unquoted(TextPlace),
     /// The same, in the second line `[route]`.
     OneBracket(TextPlace),
     /// A key of the same table resembles the one that is unknown.
     Resembles(Key),
-    /// The unknown key is one of the table, which stand above the routes.
+    /// The unknown key is one of the table, which come before the routes.
     OfTable(Key),
     /// The unknown key is one of a route.
     OfRoute(Key),
-    /// A number or a truth value stands in quotes.
+    /// A number or a truth value is in quotes.
     Quoted,
     /// The routes are written as one table.
     OneTable,
@@ -83,22 +84,22 @@ pub enum Hint {
     },
 }
 
-/// A fault of a configuration, with what a person needs to mend it. Its text, without a line's end, is one line.
+/// A fault of a configuration, with what a person needs to fix it. Its text, without a line's end, is one line.
 #[derive(Drop)]
 pub struct Explanation {
-    /// The fault: the first one, as `srt_config::read_config` gives it.
+    /// The fault: the first one, as `srt_config::read_config` returns it.
     pub fault: ConfigFault,
     /// The route that has it; None if it isn't a route's.
     pub route: Option<RouteAt>,
-    /// The value that is wrong, as TOML writes it, or its beginning, and at the fault `Toml` what the reader of TOML
-    /// says. Empty if there is none, and for the secret and the keys of roles, which are to be printed nowhere.
+    /// The value that is wrong, as TOML writes it, or its beginning; at the fault `Toml` the message of the TOML reader.
+    /// Empty if there is none, and for an unknown key, the secret and the keys of roles, which are printed nowhere.
     pub value: InlineText<96>,
     /// What may help.
     pub hint: Hint,
 }
 
 impl Explanation {
-    /// The fault alone.
+    /// Returns the fault alone.
     pub fn into_fault(self) -> ConfigFault
         ensures { result ≡ self.fault }
     {
@@ -112,9 +113,10 @@ impl Explanation {
     }
 }
 
-/// A fault of which nothing more is known.
+/// Returns a fault of which nothing more is known.
 pub(crate) fn bare(fault: ConfigFault) -> Explanation
-    ensures { result.fault ≡ fault }
+    ensures fault { result.fault ≡ fault }
+    ensures value { inline_text result.value ≡ [] }
 {
     Explanation {
         fault,

@@ -1,17 +1,16 @@
-//! What may help to mend a fault.
+//! Hints: what may help to fix a fault.
 
 use crate::explanation::Hint;
 use crate::places::{line_at, place_after};
 use crate::resemblance::resembled;
 use crate::values::{
-    ValueKind, choice_of, first_no_network, first_no_text, kind_of, members_at, opening_of,
-    routes_of, sessions_of, text_at, value_at,
+    first_named, first_no_network, first_no_text, members_at, opening_of, routes_of, sessions_of,
+    text_or_empty, value_at,
 };
-use srt_config::{Key, ROUTE_KEYS, TOP_KEYS, read_network};
-use srt_seq::limits::{MAX_NAME, MAX_RESERVED};
+use srt_config::{Key, ROUTE_KEYS, TOP_KEYS, ValueKind, read_network};
 use toml::{Table, Value};
 
-/// Of a text that isn't TOML, from this place on.
+/// Returns the hint for a text that isn't TOML from this place on.
 pub(crate) fn of_text(text: &[u8], at: usize) -> Hint {
     let at = at.min(text.len());
     let place = place_after(&text[..at]);
@@ -29,7 +28,7 @@ pub(crate) fn of_text(text: &[u8], at: usize) -> Hint {
     Hint::Place(place)
 }
 
-/// The key of this spelling among these.
+/// Returns the key of this spelling among these.
 fn key_named(keys: &[Key], text: &str) -> Option<Key> {
     for key in keys {
         if key.name() == text {
@@ -39,8 +38,16 @@ fn key_named(keys: &[Key], text: &str) -> Option<Key> {
     None
 }
 
-/// Of a key that isn't known in the table.
-pub(crate) fn of_unknown_above(text: &str) -> Hint {
+/// Returns the hint for a key that isn't known in a route's table, or in the whole one.
+pub(crate) fn of_unknown(in_route: bool, text: &str) -> Hint {
+    match in_route {
+        true => of_unknown_in_route(text),
+        false => of_unknown_above(text),
+    }
+}
+
+/// Returns the hint for a key that isn't known in the whole table.
+fn of_unknown_above(text: &str) -> Hint {
     match key_named(&ROUTE_KEYS, text) {
         Some(key) => Hint::OfRoute(key),
         None => match resembled(&TOP_KEYS, text.as_bytes()) {
@@ -50,8 +57,8 @@ pub(crate) fn of_unknown_above(text: &str) -> Hint {
     }
 }
 
-/// Of a key that isn't known in a route.
-pub(crate) fn of_unknown_in_route(text: &str) -> Hint {
+/// Returns the hint for a key that isn't known in a route's table.
+fn of_unknown_in_route(text: &str) -> Hint {
     match key_named(&TOP_KEYS, text) {
         Some(key) => Hint::OfTable(key),
         None => match resembled(&ROUTE_KEYS, text.as_bytes()) {
@@ -61,7 +68,7 @@ pub(crate) fn of_unknown_in_route(text: &str) -> Hint {
     }
 }
 
-/// Whether a text reads as a whole number, but for its quotes.
+/// Whether a text in quotes would be a whole number without them.
 fn is_number(text: &str) -> bool {
     let digits = text.as_bytes();
     !digits.is_empty()
@@ -70,7 +77,7 @@ fn is_number(text: &str) -> bool {
             .all(|byte| byte.is_ascii_digit() || *byte == b'_')
 }
 
-/// The place among these values of the first that isn't a table.
+/// Returns the place among these values of the first that isn't a table.
 fn first_other(values: &[Value]) -> Option<usize> {
     for at in 0..values.len() {
         if values[at].as_table().is_none() {
@@ -80,14 +87,14 @@ fn first_other(values: &[Value]) -> Option<usize> {
     None
 }
 
-/// Of a value of the wrong kind.
+/// Returns the hint for a value of the wrong kind.
 pub(crate) fn of_kind(table: &Table, key: Key) -> Hint {
     let Some(value) = value_at(table, key) else {
         return Hint::Nothing;
     };
-    match kind_of(key) {
+    match key.kind() {
         ValueKind::Text => Hint::Nothing,
-        ValueKind::Number(_, _) => match value.as_str() {
+        ValueKind::Number => match value.as_str() {
             Some(text) if is_number(text) => Hint::Quoted,
             _ => Hint::Nothing,
         },
@@ -107,7 +114,7 @@ pub(crate) fn of_kind(table: &Table, key: Key) -> Hint {
     }
 }
 
-/// The number of first bits that a network's text has after its slash: 0 to 32, without leading zeros.
+/// Reads the number of first bits that a network's text has after its slash: 0 to 32, without leading zeros.
 fn prefix_in(text: &str) -> Option<u32> {
     let prefix = match text.as_bytes() {
         [one @ b'0'..=b'9'] => u32::from(*one - b'0'),
@@ -119,7 +126,7 @@ fn prefix_in(text: &str) -> Option<u32> {
     if prefix <= 32 { Some(prefix) } else { None }
 }
 
-/// The only address of a network of one address.
+/// Reads a network of one address, and returns that address.
 fn only_address(text: &str) -> Option<u32> {
     match read_network(text.as_bytes()) {
         Some(network) if !text.contains("/") => Some(network.first),
@@ -127,7 +134,7 @@ fn only_address(text: &str) -> Option<u32> {
     }
 }
 
-/// Of the text of this number, counted from 1, in a list, which isn't a network.
+/// Returns the hint for the text of this number, counted from 1, in a list, which isn't a network.
 fn of_network(number: usize, text: &str) -> Hint {
     let Some((address, prefix)) = text.split_once("/") else {
         return Hint::NoNetwork(number);
@@ -146,8 +153,8 @@ fn of_network(number: usize, text: &str) -> Hint {
     }
 }
 
-/// Of a list with a text that isn't a network.
-pub(crate) fn of_networks(table: &Table, key: Key) -> Hint {
+/// Returns the hint for a list with a text that isn't a network.
+fn of_networks(table: &Table, key: Key) -> Hint {
     let members = members_at(table, key);
     let Some(at) = first_no_network(members) else {
         return Hint::Nothing;
@@ -159,29 +166,34 @@ pub(crate) fn of_networks(table: &Table, key: Key) -> Hint {
     }
 }
 
-/// Of a text that is none of the two that its key allows.
+/// Returns the hint for a text that is none of the two that its key allows.
 fn of_choice(key: Key, text: &str) -> Hint {
-    match choice_of(key) {
-        Some((one, _)) if text.trim_ascii().eq_ignore_ascii_case(one) => Hint::Choice(one),
-        Some((_, other)) if text.trim_ascii().eq_ignore_ascii_case(other) => Hint::Choice(other),
-        Some((_, other)) if key == Key::Mode && text == "file" => Hint::Choice(other),
-        _ => Hint::Nothing,
+    let Some(choices) = key.choices() else {
+        return Hint::Nothing;
+    };
+    if text.trim_ascii().eq_ignore_ascii_case(choices.first) {
+        return Hint::Choice(choices.first);
     }
+    let is_file = key == Key::Mode && text == "file";
+    if is_file || text.trim_ascii().eq_ignore_ascii_case(choices.second) {
+        return Hint::Choice(choices.second);
+    }
+    Hint::Nothing
 }
 
-/// Of a number of slots for publishers that is too great.
+/// Returns the hint for a number of slots for publishers that is too great.
 fn of_reserved(route: &Table) -> Hint {
     match usize::try_from(sessions_of(route)) {
-        Ok(sessions) if sessions <= MAX_RESERVED => Hint::Sessions(sessions),
+        Ok(sessions) if sessions <= Key::Reserved.limits().most => Hint::Sessions(sessions),
         _ => Hint::Nothing,
     }
 }
 
-/// Of a value outside its limits.
+/// Returns the hint for a value outside its limits.
 pub(crate) fn of_range(table: &Table, key: Key) -> Hint {
     match key {
         Key::Route => Hint::Routes(routes_of(table).len()),
-        Key::Mode | Key::Callers => of_choice(key, text_at(table, key).unwrap_or("")),
+        Key::Mode | Key::Callers => of_choice(key, text_or_empty(table, key)),
         Key::CloseRound => Hint::Opens(opening_of(table)),
         Key::Reserved => of_reserved(table),
         Key::PublishFrom | Key::RequestFrom => Hint::Members(members_at(table, key).len()),
@@ -194,7 +206,7 @@ fn may_be_in_name(it: char) -> bool {
     it.is_ascii_alphanumeric() || it == '-' || it == '_' || it == '.' || it == '/'
 }
 
-/// Of a name of the wrong form.
+/// Returns the hint for a name of the wrong form.
 pub(crate) fn of_name(name: &str) -> Hint {
     for it in name.chars() {
         if !may_be_in_name(it) {
@@ -204,13 +216,13 @@ pub(crate) fn of_name(name: &str) -> Hint {
     if name.is_empty() {
         return Hint::EmptyName;
     }
-    if name.len() > MAX_NAME {
+    if name.len() > Key::Name.limits().most {
         return Hint::LongName(name.len());
     }
     Hint::Nothing
 }
 
-/// Of a secret that isn't 64 hexadecimal digits.
+/// Returns the hint for a secret that isn't 64 hexadecimal digits.
 pub(crate) fn of_secret(text: &str) -> Hint {
     let mut count = 0usize;
     for it in text.chars() {
@@ -222,8 +234,8 @@ pub(crate) fn of_secret(text: &str) -> Hint {
     Hint::Characters(count)
 }
 
-/// Of an address of the wrong form.
-pub(crate) fn of_address(text: &str) -> Hint {
+/// Returns the hint for an address of the wrong form.
+fn of_address(text: &str) -> Hint {
     let colons = text.as_bytes().iter().filter(|byte| **byte == b':').count();
     if text.starts_with("[") || colons > 1 {
         return Hint::Ipv6;
@@ -235,4 +247,22 @@ pub(crate) fn of_address(text: &str) -> Hint {
         return Hint::PortAlone;
     }
     Hint::Nothing
+}
+
+/// Returns the hint for an address of the wrong form, or a list with a text that isn't a network.
+pub(crate) fn of_bad_address(table: &Table, key: Key) -> Hint {
+    match key.kind() {
+        ValueKind::Networks => of_networks(table, key),
+        ValueKind::Text | ValueKind::Number | ValueKind::Tables => {
+            of_address(text_or_empty(table, key))
+        }
+    }
+}
+
+/// Returns the hint for a name that one of these routes has.
+pub(crate) fn of_same_name(before: &[Value], name: &str) -> Hint {
+    match first_named(before, name) {
+        Some(at) => Hint::SameName(at.saturating_add(1)),
+        None => Hint::Nothing,
+    }
 }

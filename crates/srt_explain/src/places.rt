@@ -9,7 +9,7 @@ pub struct TextPlace {
     pub column: usize,
 }
 
-/// The place after these bytes of UTF-8.
+/// Returns the place after these bytes of UTF-8.
 pub(crate) fn place_after(before: &[u8]) -> TextPlace {
     let mut place = TextPlace { line: 1, column: 1 };
     for byte in before {
@@ -23,7 +23,7 @@ pub(crate) fn place_after(before: &[u8]) -> TextPlace {
     place
 }
 
-/// The bytes of the line that begins before or at this place of the text, from its beginning to its end.
+/// Returns the bytes of the line at this place of the text, from its beginning to its end.
 pub(crate) fn line_at(text: &[u8], at: usize) -> &[u8] {
     let at = at.min(text.len());
     let begin = match text[..at].iter().rposition(|byte| *byte == b'\n') {

@@ -1,8 +1,8 @@
-//! Which key may have been meant.
+//! Keys that resemble a text.
 
 use srt_config::Key;
 
-/// The number of first bytes in which two texts agree, whether letters are large or small.
+/// Returns the number of first bytes in which two texts agree, whatever the case of letters.
 fn agreeing_front(one: &[u8], other: &[u8]) -> usize {
     let mut count = 0usize;
     for (a, b) in one.iter().zip(other.iter()) {
@@ -14,7 +14,7 @@ fn agreeing_front(one: &[u8], other: &[u8]) -> usize {
     count
 }
 
-/// The number of last bytes in which two texts agree, whether letters are large or small.
+/// Returns the number of last bytes in which two texts agree, whatever the case of letters.
 fn agreeing_end(one: &[u8], other: &[u8]) -> usize {
     let mut count = 0usize;
     for (a, b) in one.iter().rev().zip(other.iter().rev()) {
@@ -31,7 +31,7 @@ fn are_exchanged(one: &[u8], other: &[u8]) -> bool {
     one.len() == 2 && other.len() == 2 && one[0] == other[1] && one[1] == other[0]
 }
 
-/// How many bytes lie between what two texts have in common at their front and at their end; 1 if these are two that are
+/// Returns how many bytes two texts differ in between their common front and their common end; 1 if these are two that are
 /// exchanged.
 fn difference(one: &[u8], other: &[u8]) -> usize {
     let front = agreeing_front(one, other).min(one.len()).min(other.len());
@@ -46,7 +46,7 @@ fn difference(one: &[u8], other: &[u8]) -> usize {
     one.len().max(other.len())
 }
 
-/// How unlike a key a text is: None if it doesn't resemble it at all. It does if it differs in a third of the key's bytes
+/// Returns how unlike a key a text is: None if it doesn't resemble it at all. It does if it differs in a third of the key's bytes
 /// at most and in two at most, or if it is the key's beginning, with three bytes or more, or if four of their first bytes
 /// agree.
 fn unlikeness(key: Key, text: &[u8]) -> Option<usize> {
@@ -65,7 +65,7 @@ fn unlikeness(key: Key, text: &[u8]) -> Option<usize> {
     None
 }
 
-/// The one of these keys that a text resembles most, the first one of several.
+/// Returns the one of these keys that a text resembles most, the first one of several.
 pub(crate) fn resembled(keys: &[Key], text: &[u8]) -> Option<Key> {
     let mut found = None;
     let mut least = usize::MAX;

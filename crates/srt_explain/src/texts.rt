@@ -1,13 +1,9 @@
 //! The words of explanations and warnings.
 
 use crate::explanation::{Explanation, Hint, RouteAt};
-use crate::values::{ValueKind, choice_of, kind_of};
 use crate::warnings::{Warning, WarningText};
-use srt_config::{
-    BindAddress, ConfigFault, Key, MAX_KEY, MAX_NETWORKS, MAX_ROUND, ROUTE_KEYS, TOP_KEYS,
-};
+use srt_config::{BindAddress, ConfigFault, Key, Limits, ROUTE_KEYS, TOP_KEYS, ValueKind};
 use srt_seq::Role;
-use srt_seq::limits::MAX_ROUTES;
 use std::fmt;
 
 /// A key as it is written, in quotes if it isn't one of letters, digits, `-` and `_` alone.
@@ -35,38 +31,47 @@ struct Allowed(Key);
 
 impl fmt::Display for Allowed {
     fn fmt<W: fmt::Write>(&self, f: &mut fmt::Formatter<W>) -> fmt::Result {
+        let Limits { least, most } = self.0.limits();
         match self.0 {
-            Key::Secret => f.write_str("64 hexadecimal digits in quotes"),
+            Key::Secret => write!(f, "{most} hexadecimal digits in quotes"),
             Key::Bind => {
                 f.write_str("an IPv4 address and a UDP port in quotes, as \"0.0.0.0:9000\"")
             }
             Key::Status => {
                 f.write_str("an IPv4 address and a TCP port in quotes, as \"127.0.0.1:9001\"")
             }
-            Key::Name => f.write_str("1 to 64 letters, digits, -, _, . and / in quotes"),
-            Key::Mode | Key::Callers => match choice_of(self.0) {
-                Some((one, other)) => write!(f, "{one:?} and {other:?}"),
+            Key::Name => {
+                write!(
+                    f,
+                    "{least} to {most} letters, digits, -, _, . and / in quotes"
+                )
+            }
+            Key::Mode | Key::Callers => match self.0.choices() {
+                Some(choices) => {
+                    let (first, second) = (choices.first, choices.second);
+                    write!(f, "{first:?} and {second:?}")
+                }
                 None => Ok(()),
             },
             Key::Route => {
                 write!(
                     f,
-                    "1 to {MAX_ROUTES} routes, each begun by a line [[route]]"
+                    "{least} to {most} routes, each begun by a line [[route]]"
                 )
             }
             Key::PublishFrom | Key::RequestFrom => {
                 write!(
                     f,
-                    "1 to {MAX_NETWORKS} IPv4 addresses or networks in quotes, as [\"192.0.2.7\", \"198.51.100.0/24\"]"
+                    "{least} to {most} IPv4 addresses or networks in quotes, as [\"192.0.2.7\", \"198.51.100.0/24\"]"
                 )
             }
             Key::PublishKey | Key::RequestKey => {
-                write!(f, "1 to {MAX_KEY} letters, digits, -, _, . and ~ in quotes")
+                write!(
+                    f,
+                    "{least} to {most} letters, digits, -, _, . and ~ in quotes"
+                )
             }
-            key => match kind_of(key) {
-                ValueKind::Number(low, high) => write!(f, "{low} to {high}"),
-                ValueKind::Text | ValueKind::Tables | ValueKind::Networks => Ok(()),
-            },
+            _ => write!(f, "{least} to {most}"),
         }
     }
 }
@@ -97,20 +102,20 @@ impl fmt::Display for RouteAt {
     }
 }
 
-/// A text that can't be read.
+/// Writes that a text can't be read.
 fn write_text_fault<W: fmt::Write>(
     f: &mut fmt::Formatter<W>,
-    said: &str,
+    message: &str,
     hint: Hint,
 ) -> fmt::Result {
     let (place, more) = match hint {
         Hint::Place(place) => (place, ""),
         Hint::Unquoted(place) => (place, "; a text stands in quotes"),
         Hint::OneBracket(place) => (place, "; each route begins with a line [[route]]"),
-        _ => return f.write_str(said),
+        _ => return f.write_str(message),
     };
     let (line, column) = (place.line, place.column);
-    write!(f, "line {line}, column {column}: {said}{more}")
+    write!(f, "line {line}, column {column}: {message}{more}")
 }
 
 fn write_unknown<W: fmt::Write>(
@@ -181,7 +186,7 @@ fn write_wrong_kind<W: fmt::Write>(
     hint: Hint,
 ) -> fmt::Result {
     let (name, allowed) = (key.name(), Allowed(key));
-    match kind_of(key) {
+    match key.kind() {
         ValueKind::Tables => write_routes_of_another_kind(f, value, hint),
         ValueKind::Networks => match hint {
             Hint::NoText(number) => write!(
@@ -194,7 +199,7 @@ fn write_wrong_kind<W: fmt::Write>(
             write!(f, "{name}: not a text; allowed are {allowed}")
         }
         ValueKind::Text => write!(f, "{name} = {value}: not a text; allowed are {allowed}"),
-        ValueKind::Number(_, _) => {
+        ValueKind::Number => {
             let more = match hint {
                 Hint::Quoted => "; take the quotes away",
                 _ => "",
@@ -209,11 +214,12 @@ fn write_wrong_kind<W: fmt::Write>(
 
 fn write_closing<W: fmt::Write>(f: &mut fmt::Formatter<W>, value: &str, opens: i64) -> fmt::Result {
     let first = opens.saturating_add(1);
+    let last = Key::CloseRound.limits().most;
     match usize::try_from(first) {
-        Ok(first) if first <= MAX_ROUND => {
+        Ok(first) if first <= last => {
             write!(
                 f,
-                "close_round = {value}: allowed are {first} to {MAX_ROUND}, after open_round"
+                "close_round = {value}: allowed are {first} to {last}, after open_round"
             )
         }
         _ => write!(
@@ -223,7 +229,7 @@ fn write_closing<W: fmt::Write>(f: &mut fmt::Formatter<W>, value: &str, opens: i
     }
 }
 
-/// Of slots that are kept for publishers in a route of few sessions.
+/// Writes that too many slots are kept for publishers in a route of few sessions.
 fn write_reserved<W: fmt::Write>(
     f: &mut fmt::Formatter<W>,
     value: &str,
@@ -297,7 +303,7 @@ fn write_bad_secret<W: fmt::Write>(f: &mut fmt::Formatter<W>, hint: Hint) -> fmt
     f.write_str("; openssl rand -hex 32 makes one")
 }
 
-/// What may be put before a port that stands alone.
+/// Returns an address to put before a port without one.
 fn address_before_port(key: Key) -> &'static str {
     match key {
         Key::Status => "127.0.0.1 for this machine alone",
@@ -355,7 +361,7 @@ fn write_bad_address<W: fmt::Write>(
     hint: Hint,
 ) -> fmt::Result {
     let (name, allowed) = (key.name(), Allowed(key));
-    if let ValueKind::Networks = kind_of(key) {
+    if let ValueKind::Networks = key.kind() {
         return write_bad_network(f, key, value, hint);
     }
     write!(f, "{name} = {value}: allowed is {allowed}")?;
@@ -409,7 +415,7 @@ fn write_exposed_status<W: fmt::Write>(
     )
 }
 
-/// What a key without a list is worth.
+/// Writes the risk of a key without a list.
 fn write_open_key<W: fmt::Write>(f: &mut fmt::Formatter<W>, role: Role) -> fmt::Result {
     let (key, list) = match role {
         Role::Publish => (Key::PublishKey.name(), Key::PublishFrom.name()),
@@ -490,7 +496,7 @@ fn write_one_unreserved<W: fmt::Write>(
     f.write_str("raise sessions, if more than one is to receive")
 }
 
-/// A warning without the route that it speaks of.
+/// Writes a warning without its route.
 fn write_warning<W: fmt::Write>(f: &mut fmt::Formatter<W>, warning: Warning) -> fmt::Result {
     match warning {
         Warning::ExampleSecret => {

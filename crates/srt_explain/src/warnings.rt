@@ -1,4 +1,4 @@
-//! What is right in a configuration, and unwise.
+//! The risks of a valid configuration.
 
 ghost use Rattle.std.specs.Prelude.{◌≡◌, ◌++◌, ◌^◌, ◌<◌, map, IfOk, OnOk};
 ghost use Rattle.toml.specs.View.{table_view};
@@ -8,7 +8,7 @@ ghost use Rattle.srt_explain.specs.Warnings.{replies_of, packets_of, millis_of, 
 ghost use Rattle.srt_explain.specs.Warnings.{outbox_warning, window_warning, given, has_example_secret, is_loopback, status_warnings};
 ghost use Rattle.srt_explain.specs.Warnings.{number_warnings, has_open_key, key_warnings, has_unused_takeover, has_unused_limit};
 ghost use Rattle.srt_explain.specs.Warnings.{limit_warning, has_one_unreserved, unreserved_warning, rule_warnings, route_warnings, routes_warnings};
-ghost use Rattle.srt_explain.specs.Warnings.{warnings_of};
+ghost use Rattle.srt_explain.specs.Warnings.{warnings_of, route_of};
 
 use crate::values::text_at;
 use srt_config::{BindAddress, Config, Key};
@@ -16,7 +16,7 @@ use srt_seq::{Access, Entry, Mode, Role, RoleAccess};
 use std::alloc::{AllocError, Global};
 use toml::Table;
 
-/// What is unwise in a right configuration. Routes are numbered from 1.
+/// A risk of a valid configuration, or a key without effect. Routes are numbered from 1.
 #[derive(Clone, Copy)]
 pub enum Warning {
     /// The secret is the one of examples/gateway.toml.
@@ -26,7 +26,7 @@ pub enum Warning {
         /// The address.
         address: BindAddress,
     },
-    /// A route's outbox holds fewer replies than one event can give.
+    /// A route's outbox holds fewer replies than one event can produce.
     SmallOutbox {
         /// The route.
         route: usize,
@@ -35,14 +35,14 @@ pub enum Warning {
         /// The most replies of one event.
         replies: u64,
     },
-    /// A live route's window holds fewer packets than a stream of 1 Mbit/s brings in its latency and one second more, or
+    /// A live route's window holds fewer packets than a stream of 1 Mbit/s has in its latency and one second more, or
     /// in two seconds.
     SmallWindow {
         /// The route.
         route: usize,
         /// Its window, in packets.
         buffer: u32,
-        /// What the stream brings, in packets.
+        /// The packets of the stream in that time.
         packets: u64,
         /// The time, in milliseconds.
         millis: u64,
@@ -52,14 +52,14 @@ pub enum Warning {
         /// The route.
         route: usize,
     },
-    /// A role of a route has a key and no list of networks: who reads the key on its way may use it from anywhere.
+    /// A role of a route has a key and no list of networks: anyone who reads the key in transit can use it from anywhere.
     OpenKey {
         /// The route.
         route: usize,
         /// The role.
         role: Role,
     },
-    /// A route in buffer mode has a time after which the publisher that stands by takes over: it has no effect there.
+    /// A route in buffer mode has a time after which the standby publisher takes over: it has no effect there.
     UnusedTakeover {
         /// The route.
         route: usize,
@@ -85,8 +85,10 @@ pub enum Warning {
 }
 
 impl Warning {
-    /// The number of the route that it speaks of.
-    pub(crate) fn route(self) -> Option<usize> {
+    /// Returns the number of the route that it is about.
+    pub(crate) fn route(self) -> Option<usize>
+        ensures { result ≡ route_of self }
+    {
         match self {
             Warning::ExampleSecret | Warning::ExposedStatus { .. } => None,
             Warning::SmallOutbox { route, .. }
@@ -100,12 +102,12 @@ impl Warning {
     }
 }
 
-/// A warning, and the name of the route that it speaks of. Its text, without a line's end, is one line.
+/// A warning, and the name of its route. Its text, without a line's end, is one line.
 #[derive(Clone, Copy)]
 pub struct WarningText<'a> {
     /// The warning.
     pub warning: Warning,
-    /// The route's name; not used for a warning that speaks of no route.
+    /// The route's name; empty for a warning about no route.
     pub name: &'a str,
 }
 
@@ -121,14 +123,14 @@ fn is_example_secret(table: &Table) -> bool
     }
 }
 
-/// The most replies of one event of a route.
+/// Returns the most replies of one event of a route.
 fn replies_of(entry: &Entry) -> u64
     ensures { result ≡ replies_of (terms_of entry.now) }
 {
     4 + 66 * u64::from(entry.sessions)
 }
 
-/// The time whose packets a live route's window should hold, in milliseconds.
+/// Returns the time whose packets a live route's window should hold, in milliseconds.
 fn millis_of(entry: &Entry) -> u64
     ensures value { result ≡ millis_of (terms_of entry.now) }
     ensures within { result < 2 ^ 33 }
@@ -137,14 +139,14 @@ fn millis_of(entry: &Entry) -> u64
     if millis < 2000 { 2000 } else { millis }
 }
 
-/// The packets that a stream of 1 Mbit/s brings in that time: 95 a second, each of 1316 bytes.
+/// Returns the packets of a stream of 1 Mbit/s in that time: 95 a second, each of 1316 bytes.
 fn packets_of(entry: &Entry) -> u64
     ensures { result ≡ packets_of (terms_of entry.now) }
 {
     (95 * millis_of(entry) + 999) / 1000
 }
 
-/// Whether a route's outbox holds fewer replies than one event can give.
+/// Whether a route's outbox holds fewer replies than one event can produce.
 fn is_small_outbox(entry: &Entry) -> bool
     ensures { result ≡ is_small_outbox (terms_of entry.now) }
 {
@@ -197,7 +199,7 @@ fn push_if(list: &mut Vec<Warning>, some: bool, warning: Warning) -> Result<(), 
     Ok(())
 }
 
-/// Adds what is unwise in the numbers of the route of this number.
+/// Adds the warnings about the numbers of the route of this number.
 fn push_numbers(list: &mut Vec<Warning>, route: usize, entry: &Entry) -> Result<(), AllocError>
     ensures { OnOk result (list.new.items ≡ list.old.items ++ number_warnings route (terms_of entry.now)) }
 {
@@ -214,7 +216,7 @@ fn has_open_key(access: &RoleAccess) -> bool
     access.key.is_some() && access.from.is_none()
 }
 
-/// Adds what is unwise in the keys of the roles of the route of this number.
+/// Adds the warnings about the keys of the roles of the route of this number.
 fn push_keys(list: &mut Vec<Warning>, route: usize, access: &Access) -> Result<(), AllocError>
     ensures { OnOk result (list.new.items ≡ list.old.items ++ key_warnings route (access_of access.now)) }
 {
@@ -278,7 +280,7 @@ fn unreserved_warning(route: usize, entry: &Entry) -> Warning
     }
 }
 
-/// Adds what is unwise in the rules of the route of this number.
+/// Adds the warnings about the rules of the route of this number.
 fn push_rules(list: &mut Vec<Warning>, route: usize, entry: &Entry) -> Result<(), AllocError>
     ensures { OnOk result (list.new.items ≡ list.old.items ++ rule_warnings route (terms_of entry.now)) }
 {
@@ -293,7 +295,7 @@ fn push_rules(list: &mut Vec<Warning>, route: usize, entry: &Entry) -> Result<()
     Ok(())
 }
 
-/// Adds what is unwise in the route of this number.
+/// Adds the warnings about the route of this number.
 fn push_route(list: &mut Vec<Warning>, route: usize, entry: &Entry) -> Result<(), AllocError>
     ensures { OnOk result (list.new.items ≡ list.old.items ++ route_warnings route (terms_of entry.now)) }
 {
@@ -303,7 +305,7 @@ fn push_route(list: &mut Vec<Warning>, route: usize, entry: &Entry) -> Result<()
     Ok(())
 }
 
-/// Adds what is unwise in these routes, which are numbered from 1.
+/// Adds the warnings about these routes, which are numbered from 1.
 fn push_routes(list: &mut Vec<Warning>, entries: &[Entry]) -> Result<(), AllocError>
     ensures { OnOk result (list.new.items ≡ list.old.items ++ routes_warnings 1 (map terms_of entries.now)) }
 {
@@ -324,7 +326,7 @@ fn is_loopback(address: BindAddress) -> bool
     address.ip[0] == 127
 }
 
-/// Adds what is unwise in the address of the status page.
+/// Adds the warning about the address of the status page.
 fn push_status(list: &mut Vec<Warning>, status: Option<BindAddress>) -> Result<(), AllocError>
     ensures { OnOk result (list.new.items ≡ list.old.items ++ status_warnings status) }
 {
@@ -338,8 +340,8 @@ fn push_status(list: &mut Vec<Warning>, status: Option<BindAddress>) -> Result<(
     }
 }
 
-/// What is unwise in a configuration that was read from this table: first what stands above the routes, then route after
-/// route. Allocates the list.
+/// Returns the warnings about a configuration that was read from this table: first those of the keys above the routes,
+/// then route by route. Allocates the list.
 pub(crate) fn warnings_of(
     alloc: Global,
     table: &Table,

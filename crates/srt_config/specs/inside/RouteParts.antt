@@ -1,18 +1,16 @@
 -- The parts of a route, as plain values, and a route and routes read in two steps.
 use Rattle.std.specs.Prelude.{ℕ, List, map, Result, Ok}
-use Rattle.toml.specs.Data.{Data, Members, as_table}
+use Rattle.toml.specs.Data.{Members}
 use Rattle.srt_seq.specs.declared.shared.Callers.{Callers as TheCallers}
 use Rattle.srt_seq.specs.declared.shared.Mode.{Mode as TheMode}
 use Rattle.srt_seq.specs.declared.shared.Schedule.{Schedule}
 use Rattle.srt_seq.specs.Terms.{terms_of}
-use Rattle.srt_config.specs.declared.config.faults.Key.TheVariants.{Route}
 use Rattle.srt_config.specs.declared.config.routes.ReadRoute.{ReadRoute}
 use Rattle.srt_config.specs.declared.config.routes.ReadRoutes.{ReadRoutes}
 use Rattle.srt_config.specs.Access.{access_at}
 use Rattle.srt_config.specs.FirstFault.{Fault, ◌>>=◌}
-use Rattle.srt_config.specs.Keys.{of_kind}
 use Rattle.srt_config.specs.Rules.{rules_at}
-use Rattle.srt_config.specs.Routes.{Numbers, terms_with, with_access, with_rules, Planned, planned, route_at, Routes, with_route}
+use Rattle.srt_config.specs.Routes.{Numbers, terms_with, with_access, with_rules, Planned, planned, Routes}
 
 abbrev pub route_seen : ReadRoute → Planned
 route_seen route = planned (terms_of route.entry) route.schedule
@@ -26,7 +24,3 @@ route_behind name mode numbers schedule callers table =
     access_at table >>= λ access.
     rules_at numbers.sessions callers table >>= λ rules.
     Ok (planned (with_rules rules (with_access access (terms_with name mode numbers))) schedule)
-
--- these routes, and the one that this value says
-abbrev pub routes_and : (before : Routes) → Data → Result Routes Fault
-routes_and before value = of_kind Route (as_table value) >>= λ table. route_at before.terms table >>= λ route. Ok (with_route before route)

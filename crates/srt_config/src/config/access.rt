@@ -1,4 +1,4 @@
-//! Who may call a route: the lists and keys in its table.
+//! The clients allowed on a route: the lists and keys in its table.
 
 ghost use Rattle.std.specs.Prelude.{◌≡◌, ◌≤◌, [], length, option_map, string_bytes, IfSome};
 ghost use Rattle.std.specs.List.{list_all};
@@ -11,19 +11,14 @@ ghost use Rattle.srt_config.specs.Access.{ending_in, network_in, are_texts, memb
 ghost use Rattle.srt_config.specs.Access.{is_key_byte, is_key_text, key_in, key_value, key_at, access_at};
 
 use super::address::octet_to;
-use super::faults::{ConfigFault, Key};
+use super::faults::ConfigFault;
 use super::keys::{found_at, text_value};
+use super::table::Key;
 use crate::numbers::read_number;
 use crate::splitting::parted;
 use srt_seq::{Access, Network, RoleAccess, is_between};
 use std::alloc::Global;
 use toml::{Table, Value};
-
-/// The most networks of a list.
-pub const MAX_NETWORKS: usize = 16;
-
-/// The most bytes of a role's key.
-pub const MAX_KEY: usize = 64;
 
 /// The fourth octet of a network's address, and the number of first bits that its addresses have in common: 0 to 32.
 #[derive(Clone, Copy)]
@@ -60,7 +55,7 @@ fn read_ending(text: &[u8]) -> Option<Ending>
 }
 
 /// Reads a network, `a.b.c.d` or `a.b.c.d/n`, in decimal digits without leading zeros. An address alone is a network of one
-/// address. None if the text has another form, or if the address has a bit set behind its first n.
+/// address. None if the text has another form, or if the address has a bit set after its first n.
 #[tactic(auto, unfolding(crate::specs::Access::network_in))]
 pub fn read_network(text: &[u8]) -> Option<Network>
     ensures { result ≡ network_in text.now }
@@ -73,7 +68,7 @@ pub fn read_network(text: &[u8]) -> Option<Network>
     Network::of_prefix(address, d.prefix)
 }
 
-/// The network in a text, or `BadAddress`.
+/// Returns the network in a text, or `BadAddress`.
 fn network_at(key: Key, text: &str) -> Result<Network, ConfigFault>
     ensures { seen (λ n. n) result ≡ networked key (network_in text.now) }
 {
@@ -100,7 +95,8 @@ fn are_texts(values: &[Value]) -> bool
 fn is_count(values: &[Value]) -> bool
     ensures { result ≡ is_between 1 16 (member_count (items_view values.now)) }
 {
-    is_between(1, MAX_NETWORKS, values.len())
+    let limits = Key::PublishFrom.limits();
+    is_between(limits.least, limits.most, values.len())
 }
 
 /// Reads these values as networks.
@@ -146,7 +142,7 @@ fn list_value(alloc: Global, key: Key, value: &Value) -> Result<Vec<Network>, Co
     }
 }
 
-/// The networks at a key that may be missing.
+/// Returns the networks at a key that may be missing.
 #[tactic(auto, unfolding(crate::specs::Access::list_at))]
 fn list_at(alloc: Global, table: &Table, key: Key) -> Result<Option<Vec<Network>>, ConfigFault>
     ensures { Gives (option_map (λ networks. networks.items)) result (list_at key (table_view table.now)) }
@@ -179,10 +175,11 @@ fn are_key_bytes(text: &[u8]) -> bool
 pub fn is_key_text(text: &[u8]) -> bool
     ensures { result ≡ is_key_text text.now }
 {
-    is_between(1, MAX_KEY, text.len()) && are_key_bytes(text)
+    let limits = Key::PublishKey.limits();
+    is_between(limits.least, limits.most, text.len()) && are_key_bytes(text)
 }
 
-/// A copy of the key of a role, or `OutOfRange`.
+/// Copies the key of a role, or returns `OutOfRange`.
 #[tactic(auto, unfolding(crate::specs::Access::key_in))]
 fn read_key(alloc: Global, key: Key, text: &str) -> Result<String, ConfigFault>
     ensures { Gives string_bytes result (key_in key text.now) }
@@ -203,7 +200,7 @@ fn key_value(alloc: Global, key: Key, value: &Value) -> Result<String, ConfigFau
     read_key(alloc, key, text_value(key, value)?)
 }
 
-/// The key of a role, at a key that may be missing.
+/// Returns the key of a role, at a key that may be missing.
 #[tactic(auto, unfolding(crate::specs::Access::key_at))]
 fn key_at(alloc: Global, table: &Table, key: Key) -> Result<Option<String>, ConfigFault>
     ensures { Gives (option_map string_bytes) result (key_at key (table_view table.now)) }
@@ -214,7 +211,7 @@ fn key_at(alloc: Global, table: &Table, key: Key) -> Result<Option<String>, Conf
     }
 }
 
-/// Who may call the route of a table. Allocates the lists and keys.
+/// Returns the clients allowed on the route of a table. Allocates the lists and keys.
 #[tactic(auto, unfolding(crate::specs::Access::access_at))]
 pub(crate) fn access_at(alloc: Global, table: &Table) -> Result<Access, ConfigFault>
     ensures { Gives access_of result (access_at (table_view table.now)) }

@@ -25,8 +25,8 @@ pub(crate) struct Octet<'a> {
     pub(crate) behind: &'a [u8],
 }
 
-/// The octet before the first byte of this value, in decimal digits without leading zeros, and the text behind that byte;
-/// None if the text has another form.
+/// Reads the octet before the first byte of this value, in decimal digits without leading zeros, and the text after that
+/// byte; None if the text has another form.
 #[tactic(auto, unfolding(crate::specs::Address::octet_to))]
 pub(crate) fn octet_to(end: u8, text: &[u8]) -> Option<Octet<'_>>
     ensures { option_map octet_seen result ≡ octet_to end text.now }

@@ -4,12 +4,13 @@ ghost use Rattle.std.specs.Prelude.{◌≡◌, ◌<◌, ◌^◌, option_map, tru
 ghost use Rattle.toml.specs.Data.{get_member};
 ghost use Rattle.toml.specs.View.{view, table_view};
 ghost use Rattle.srt_seq.specs.Entries.{is_between};
-ghost use Rattle.srt_config.specs.Faults.{key_name};
+ghost use Rattle.srt_config.specs.KeyTable.{key_name, limits_of};
 ghost use Rattle.srt_config.specs.FirstFault.{seen, Gives};
 ghost use Rattle.srt_config.specs.Keys.{is_key, least_unknown, known, value_at, value_seen, text_value, text_at, within, number_value};
 ghost use Rattle.srt_config.specs.Keys.{number_at, optional_number_at};
 
-use super::faults::{ConfigFault, Key};
+use super::faults::ConfigFault;
+use super::table::{Key, Limits};
 use srt_seq::is_between;
 use std::alloc::Global;
 use toml::{Table, Value};
@@ -47,14 +48,14 @@ pub(crate) fn only_known(alloc: Global, keys: &[Key], table: &Table) -> Result<(
     }
 }
 
-/// The value at a key, if there is one.
+/// Returns the value at a key, if there is one.
 pub(crate) fn found_at(table: &Table, key: Key) -> Option<&Value>
     ensures { option_map value_seen result ≡ get_member (key_name key) (table_view table.now) }
 {
     table.get(key.name())
 }
 
-/// The value at a key, or `Missing`.
+/// Returns the value at a key, or `Missing`.
 #[tactic(auto, unfolding(crate::specs::Keys::value_at))]
 pub(crate) fn value_at(table: &Table, key: Key) -> Result<&Value, ConfigFault>
     ensures { seen value_seen result ≡ value_at key (table_view table.now) }
@@ -65,7 +66,7 @@ pub(crate) fn value_at(table: &Table, key: Key) -> Result<&Value, ConfigFault>
     }
 }
 
-/// The text that the value of a key is, or `WrongKind`.
+/// Returns the text that the value of a key is, or `WrongKind`.
 #[tactic(auto, unfolding(crate::specs::Keys::text_value))]
 pub(crate) fn text_value(key: Key, value: &Value) -> Result<&str, ConfigFault>
     ensures { seen (λ t. t.now) result ≡ text_value key (view value.now) }
@@ -76,7 +77,7 @@ pub(crate) fn text_value(key: Key, value: &Value) -> Result<&str, ConfigFault>
     }
 }
 
-/// The text at a key, or `Missing` or `WrongKind`.
+/// Returns the text at a key, or `Missing` or `WrongKind`.
 #[tactic(auto, unfolding(crate::specs::Keys::text_at))]
 pub(crate) fn text_at(table: &Table, key: Key) -> Result<&str, ConfigFault>
     ensures { seen (λ t. t.now) result ≡ text_at key (table_view table.now) }
@@ -84,59 +85,60 @@ pub(crate) fn text_at(table: &Table, key: Key) -> Result<&str, ConfigFault>
     text_value(key, value_at(table, key)?)
 }
 
-fn within(key: Key, low: usize, high: usize, number: i64) -> Result<u32, ConfigFault>
-    requires { high < 2 ^ 32 }
-    ensures value { seen (λ n. n) result ≡ within key low high number }
-    ensures inside { IfOk result (λ n. is_between low high n ≡ true) }
+fn within(key: Key, limits: Limits, number: i64) -> Result<u32, ConfigFault>
+    requires { limits.most < 2 ^ 32 }
+    ensures value { seen (λ n. n) result ≡ within key limits.least limits.most number }
+    ensures inside { IfOk result (λ n. is_between limits.least limits.most n ≡ true) }
 {
     match u32::try_from(number) {
-        Ok(number) if is_between(low, high, number as usize) => Ok(number),
+        Ok(number) if is_between(limits.least, limits.most, number as usize) => Ok(number),
         _ => Err(ConfigFault::OutOfRange(key)),
     }
 }
 
-/// The number that the value of a key is, from `low` to `high`, or `WrongKind` or `OutOfRange`.
+/// Returns the number that the value of a key is, within these limits, or `WrongKind` or `OutOfRange`.
 #[tactic(auto, unfolding(crate::specs::Keys::number_value))]
-fn number_value(key: Key, low: usize, high: usize, value: &Value) -> Result<u32, ConfigFault>
-    requires { high < 2 ^ 32 }
-    ensures value { seen (λ n. n) result ≡ number_value key low high (view value.now) }
-    ensures inside { IfOk result (λ n. is_between low high n ≡ true) }
+fn number_value(key: Key, limits: Limits, value: &Value) -> Result<u32, ConfigFault>
+    requires { limits.most < 2 ^ 32 }
+    ensures value { seen (λ n. n) result ≡ number_value key limits.least limits.most (view value.now) }
+    ensures inside { IfOk result (λ n. is_between limits.least limits.most n ≡ true) }
 {
     match value.as_integer() {
-        Some(number) => within(key, low, high, number),
+        Some(number) => within(key, limits, number),
         None => Err(ConfigFault::WrongKind(key)),
     }
 }
 
-/// The number at a key, from `low` to `high`, or `Missing`, `WrongKind` or `OutOfRange`.
+/// Returns the number at a key, within the key's limits, or `Missing`, `WrongKind` or `OutOfRange`.
 #[tactic(auto, unfolding(crate::specs::Keys::number_at))]
-pub(crate) fn number_at(
-    table: &Table,
-    key: Key,
-    low: usize,
-    high: usize,
-) -> Result<u32, ConfigFault>
-    requires { high < 2 ^ 32 }
-    ensures value { seen (λ n. n) result ≡ number_at key low high (table_view table.now) }
-    ensures inside { IfOk result (λ n. is_between low high n ≡ true) }
+pub(crate) fn number_at(table: &Table, key: Key) -> Result<u32, ConfigFault>
+    ensures value { seen (λ n. n) result ≡ number_at key (limits_of key).least (limits_of key).most (table_view table.now) }
+    ensures inside { IfOk result (λ n. is_between (limits_of key).least (limits_of key).most n ≡ true) }
 {
-    number_value(key, low, high, value_at(table, key)?)
+    number_value(key, key.limits(), value_at(table, key)?)
 }
 
-/// The number at a key that may be missing, from `low` to `high`, or `WrongKind` or `OutOfRange`.
+/// Returns the number at a key that may be missing, within these limits, or `WrongKind` or `OutOfRange`.
 #[tactic(auto, unfolding(crate::specs::Keys::optional_number_at))]
-pub(crate) fn optional_number_at(
+pub(crate) fn optional_number_within(
     table: &Table,
     key: Key,
-    low: usize,
-    high: usize,
+    limits: Limits,
 ) -> Result<Option<u32>, ConfigFault>
-    requires { high < 2 ^ 32 }
-    ensures value { seen (λ n. n) result ≡ optional_number_at key low high (table_view table.now) }
-    ensures inside { IfOk result (λ found. IfSome found (λ n. is_between low high n ≡ true)) }
+    requires { limits.most < 2 ^ 32 }
+    ensures value { seen (λ n. n) result ≡ optional_number_at key limits.least limits.most (table_view table.now) }
+    ensures inside { IfOk result (λ found. IfSome found (λ n. is_between limits.least limits.most n ≡ true)) }
 {
     match found_at(table, key) {
-        Some(value) => Ok(Some(number_value(key, low, high, value)?)),
+        Some(value) => Ok(Some(number_value(key, limits, value)?)),
         None => Ok(None),
     }
+}
+
+/// Returns the number at a key that may be missing, within the key's limits, or `WrongKind` or `OutOfRange`.
+pub(crate) fn optional_number_at(table: &Table, key: Key) -> Result<Option<u32>, ConfigFault>
+    ensures value { seen (λ n. n) result ≡ optional_number_at key (limits_of key).least (limits_of key).most (table_view table.now) }
+    ensures inside { IfOk result (λ found. IfSome found (λ n. is_between (limits_of key).least (limits_of key).most n ≡ true)) }
+{
+    optional_number_within(table, key, key.limits())
 }

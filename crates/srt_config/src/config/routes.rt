@@ -8,48 +8,24 @@ ghost use Rattle.srt_seq.specs.Terms.{terms_of};
 ghost use Rattle.srt_seq.specs.Entries.{is_between};
 ghost use Rattle.srt_lobby.specs.Opening.{fault_of};
 ghost use Rattle.srt_config.specs.FirstFault.{seen, Gives};
+ghost use Rattle.srt_config.specs.FaultPlace.{faulty_from, place_in, routes_place, GivesAt};
 ghost use Rattle.srt_config.specs.Routes.{name_in, name_at, mode_in, mode_at, numbers_at, schedule_at, closes_later, terms_with, with_access};
-ghost use Rattle.srt_config.specs.Routes.{with_rules, route_at, no_routes, are_tables, count, routes_from, routes_in, routes_at};
+ghost use Rattle.srt_config.specs.Routes.{with_rules, route_at, no_routes, routes_and, are_tables, count, routes_from, routes_in, routes_at};
 ghost use Rattle.srt_config.specs.RouteNumbers.{numbers_of};
-ghost use Rattle.srt_config.specs.inside.RouteParts.{route_seen, routes_seen, route_behind, routes_and};
+ghost use Rattle.srt_config.specs.inside.RouteParts.{route_seen, routes_seen, route_behind};
 
 use super::access::access_at;
-use super::faults::{ConfigFault, Key};
-use super::keys::{number_at, only_known, optional_number_at, text_at, value_at};
-use super::rules::{callers_at, rules_at};
-use srt_lobby::is_taken;
-use srt_seq::limits::{
-    MAX_LATENCY_MS, MAX_QUEUE, MAX_ROUTES, MAX_SESSIONS, MAX_WINDOW, MIN_LATENCY_MS, MIN_QUEUE,
-    MIN_WINDOW,
+use super::faults::ConfigFault;
+use super::keys::{
+    number_at, only_known, optional_number_at, optional_number_within, text_at, value_at,
 };
+use super::placed::PlacedFault;
+use super::rules::{callers_at, rules_at};
+use super::table::{BUFFER, Key, LIVE, Limits, ROUTE_KEYS};
+use srt_lobby::is_taken;
 use srt_seq::{Access, Callers, Entry, Mode, Rules, Schedule, is_between, is_name};
 use std::alloc::Global;
 use toml::{Table, Value};
-
-/// The keys of a route.
-pub const ROUTE_KEYS: [Key; 18] = [
-    Key::Name,
-    Key::Mode,
-    Key::LatencyMs,
-    Key::Buffer,
-    Key::Sessions,
-    Key::Inbox,
-    Key::Outbox,
-    Key::OpenRound,
-    Key::CloseRound,
-    Key::Callers,
-    Key::PublishFrom,
-    Key::RequestFrom,
-    Key::PublishKey,
-    Key::RequestKey,
-    Key::Reserved,
-    Key::SessionsPerAddress,
-    Key::TakeoverMs,
-    Key::ResendPercent,
-];
-
-/// The last round in which a route may open or close.
-pub const MAX_ROUND: usize = 1_000_000_000;
 
 /// Checks a name: `BadName` if it has a wrong form, else `RepeatedName` if an earlier route has it.
 #[tactic(auto, unfolding(crate::specs::Routes::name_in))]
@@ -76,10 +52,10 @@ fn name_at<'a>(before: &[Entry], table: &'a Table) -> Result<&'a str, ConfigFaul
 fn read_mode(text: &str) -> Result<Mode, ConfigFault>
     ensures { seen (λ m. m) result ≡ mode_in text.now }
 {
-    if text == "live" {
+    if text == LIVE {
         return Ok(Mode::Live);
     }
-    if text == "buffer" {
+    if text == BUFFER {
         return Ok(Mode::Buffer);
     }
     Err(ConfigFault::OutOfRange(Key::Mode))
@@ -92,7 +68,7 @@ fn mode_at(table: &Table) -> Result<Mode, ConfigFault>
     read_mode(text_at(table, Key::Mode)?)
 }
 
-/// The numbers of a route, which may be any: whether a route can be opened with them says its entry.
+/// The numbers of a route. They may be any: whether a route can be opened with them depends on its entry.
 #[derive(Clone, Copy)]
 pub struct RouteNumbers {
     /// The least delay of a live session, in milliseconds.
@@ -101,14 +77,14 @@ pub struct RouteNumbers {
     pub buffer: u32,
     /// The greatest number of sessions at a time.
     pub sessions: u32,
-    /// The capacity of the inbox, in items.
+    /// The capacity of the inbox, in events.
     pub inbox: u32,
     /// The capacity of the outbox, in replies.
     pub outbox: u32,
 }
 
 impl RouteNumbers {
-    /// The entry with these numbers, and with this name, mode, callers and rules.
+    /// Makes the entry with these numbers, and with this name, mode, allowed clients and rules.
     pub fn entry(self, name: String, mode: Mode, access: Access, rules: Rules) -> Entry
         ensures { terms_of result ≡ with_rules rules (with_access (access_of access) (terms_with (string_bytes name) mode (numbers_of self))) }
     {
@@ -131,15 +107,15 @@ fn numbers_at(table: &Table) -> Result<RouteNumbers, ConfigFault>
     ensures { seen numbers_of result ≡ numbers_at (table_view table.now) }
 {
     Ok(RouteNumbers {
-        latency_ms: number_at(table, Key::LatencyMs, MIN_LATENCY_MS, MAX_LATENCY_MS)?,
-        buffer: number_at(table, Key::Buffer, MIN_WINDOW, MAX_WINDOW)?,
-        sessions: number_at(table, Key::Sessions, 1, MAX_SESSIONS)?,
-        inbox: number_at(table, Key::Inbox, MIN_QUEUE, MAX_QUEUE)?,
-        outbox: number_at(table, Key::Outbox, MIN_QUEUE, MAX_QUEUE)?,
+        latency_ms: number_at(table, Key::LatencyMs)?,
+        buffer: number_at(table, Key::Buffer)?,
+        sessions: number_at(table, Key::Sessions)?,
+        inbox: number_at(table, Key::Inbox)?,
+        outbox: number_at(table, Key::Outbox)?,
     })
 }
 
-/// The entry with this name, mode, numbers, callers and rules. Allocates a copy of the name.
+/// Makes the entry with this name, mode, numbers, allowed clients and rules. Allocates a copy of the name.
 fn entry_with(
     alloc: Global,
     name: &str,
@@ -160,9 +136,12 @@ fn entry_with(
 fn schedule_at(table: &Table) -> Result<Schedule, ConfigFault>
     ensures { seen (λ s. s) result ≡ schedule_at (table_view table.now) }
 {
-    let open_round = optional_number_at(table, Key::OpenRound, 0, MAX_ROUND)?.unwrap_or(0);
-    let first = open_round as usize + 1;
-    let close_round = optional_number_at(table, Key::CloseRound, first, MAX_ROUND)?;
+    let open_round = optional_number_at(table, Key::OpenRound)?.unwrap_or(0);
+    let later = Limits {
+        least: open_round as usize + 1,
+        most: Key::CloseRound.limits().most,
+    };
+    let close_round = optional_number_within(table, Key::CloseRound, later)?;
     Ok(Schedule {
         open_round,
         close_round,
@@ -178,7 +157,7 @@ pub(crate) struct ReadRoute {
     pub(crate) schedule: Schedule,
 }
 
-/// What a route's table says before its lists, keys and rules.
+/// The part of a route's table before its lists, keys and rules.
 #[derive(Clone, Copy)]
 struct RouteHead<'a> {
     name: &'a str,
@@ -188,7 +167,7 @@ struct RouteHead<'a> {
     callers: Callers,
 }
 
-/// Reads the lists, keys and rules of a route's table behind what was read before.
+/// Reads the lists, keys and rules of a route's table, after the part before them.
 fn route_behind(alloc: Global, head: RouteHead<'_>, table: &Table) -> Result<ReadRoute, ConfigFault>
     ensures { Gives route_seen result
         (route_behind head.entry.name.now head.entry.mode (numbers_of head.entry.numbers) head.entry.schedule head.entry.callers (table_view table.now)) }
@@ -240,7 +219,8 @@ fn are_tables(values: &[Value]) -> bool
 fn is_count(values: &[Value]) -> bool
     ensures { result ≡ is_between 1 511 (count (items_view values.now)) }
 {
-    is_between(1, MAX_ROUTES, values.len())
+    let limits = Key::Route.limits();
+    is_between(limits.least, limits.most, values.len())
 }
 
 /// The routes of a configuration, in the order of their indexes.
@@ -253,21 +233,27 @@ pub(crate) struct ReadRoutes {
 }
 
 /// Reads these values as routes; `WrongKind` if one isn't a table, else `OutOfRange` if there are none or more than
-/// `MAX_ROUTES`.
+/// 511.
 #[tactic(auto, unfolding(crate::specs::Routes::routes_in))]
-fn read_routes(alloc: Global, values: &[Value]) -> Result<ReadRoutes, ConfigFault>
-    ensures { Gives routes_seen result (routes_in (items_view values.now)) }
+fn read_routes(alloc: Global, values: &[Value]) -> Result<ReadRoutes, PlacedFault>
+    ensures { GivesAt routes_seen result (routes_in (items_view values.now)) (place_in (items_view values.now)) }
 {
     if !are_tables(values) {
-        return Err(ConfigFault::WrongKind(Key::Route));
+        return Err(PlacedFault {
+            fault: ConfigFault::WrongKind(Key::Route),
+            route: None,
+        });
     }
     if !is_count(values) {
-        return Err(ConfigFault::OutOfRange(Key::Route));
+        return Err(PlacedFault {
+            fault: ConfigFault::OutOfRange(Key::Route),
+            route: None,
+        });
     }
     routes_from(alloc, values)
 }
 
-/// Reads a value, which is a table, as the next route behind these. After an error the routes may be half appended.
+/// Reads a value, which is a table, as the next route after these. After an error the routes may be half appended.
 fn add_route(alloc: Global, routes: &mut ReadRoutes, value: &Value) -> Result<(), ConfigFault>
     ensures { Gives (λ u. routes_seen routes.new) result (routes_and (routes_seen routes.old) (view value.now)) }
 {
@@ -285,35 +271,45 @@ fn add_route(alloc: Global, routes: &mut ReadRoutes, value: &Value) -> Result<()
 }
 
 /// Reads these values, which are tables, as routes.
-#[tactic(auto, using(crate::proofs::RouteItems::routes_step))]
-fn routes_from(alloc: Global, values: &[Value]) -> Result<ReadRoutes, ConfigFault>
-    ensures { Gives routes_seen result (routes_from no_routes (items_view values.now)) }
+#[tactic(auto, using(crate::proofs::RouteItems::routes_step, crate::proofs::RouteItems::faulty_step))]
+fn routes_from(alloc: Global, values: &[Value]) -> Result<ReadRoutes, PlacedFault>
+    ensures { GivesAt routes_seen result (routes_from no_routes (items_view values.now)) (Some (faulty_from 1 no_routes (items_view values.now))) }
 {
     let mut routes = ReadRoutes {
         entries: Vec::new(alloc),
         schedules: Vec::new(alloc),
     };
     let mut rest = values;
+    let mut number = 1usize;
     while !rest.is_empty() {
-        add_route(alloc, &mut routes, &rest[0])?;
+        if let Err(fault) = add_route(alloc, &mut routes, &rest[0]) {
+            return Err(PlacedFault {
+                fault,
+                route: Some(number),
+            });
+        }
         rest = &rest[1..];
+        number += 1;
     }
     Ok(routes)
 }
 
-#[tactic(auto, unfolding(crate::specs::Routes::routes_at))]
-fn all_routes(alloc: Global, table: &Table) -> Result<ReadRoutes, ConfigFault>
-    ensures { Gives routes_seen result (routes_at (table_view table.now)) }
+#[tactic(auto, unfolding(crate::specs::Routes::routes_at, crate::specs::FaultPlace::routes_place))]
+fn all_routes(alloc: Global, table: &Table) -> Result<ReadRoutes, PlacedFault>
+    ensures { GivesAt routes_seen result (routes_at (table_view table.now)) (routes_place (table_view table.now)) }
 {
     match value_at(table, Key::Route)?.as_array() {
         Some(values) => read_routes(alloc, values.as_slice()),
-        None => Err(ConfigFault::WrongKind(Key::Route)),
+        None => Err(PlacedFault {
+            fault: ConfigFault::WrongKind(Key::Route),
+            route: None,
+        }),
     }
 }
 
-/// The routes of a configuration's table.
-pub(crate) fn routes_at(alloc: Global, table: &Table) -> Result<ReadRoutes, ConfigFault>
-    ensures gives { Gives routes_seen result (routes_at (table_view table.now)) }
+/// Returns the routes of a configuration's table.
+pub(crate) fn routes_at(alloc: Global, table: &Table) -> Result<ReadRoutes, PlacedFault>
+    ensures gives { GivesAt routes_seen result (routes_at (table_view table.now)) (routes_place (table_view table.now)) }
     ensures sound { IfOk result (λ routes. fault_of (map terms_of routes.entries.items) ≡ None) }
     ensures scheduled { IfOk result (λ routes. length routes.schedules.items ≡ length routes.entries.items) }
     ensures later { IfOk result (λ routes. list_all closes_later routes.schedules.items ≡ true) }

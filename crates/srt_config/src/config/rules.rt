@@ -1,16 +1,13 @@
-//! What a route does beyond the draft: the keys in its table.
+//! The rules of a route beyond the draft: the keys in its table.
 
 ghost use Rattle.std.specs.Prelude.{◌≡◌, ◌≤◌};
 ghost use Rattle.toml.specs.View.{view, table_view};
 ghost use Rattle.srt_config.specs.FirstFault.{seen};
 ghost use Rattle.srt_config.specs.Rules.{callers_in, callers_value, callers_at, most_reserved, rules_at};
 
-use super::faults::{ConfigFault, Key};
-use super::keys::{found_at, optional_number_at, text_value};
-use srt_seq::limits::{
-    MAX_RESEND_PERCENT, MAX_RESERVED, MAX_SESSIONS, MAX_TAKEOVER_MS, MIN_RESEND_PERCENT,
-    MIN_TAKEOVER_MS,
-};
+use super::faults::ConfigFault;
+use super::keys::{found_at, optional_number_at, optional_number_within, text_value};
+use super::table::{DRAFT, Key, LIBSRT, Limits};
 use srt_seq::{Callers, Rules};
 use toml::{Table, Value};
 
@@ -18,10 +15,10 @@ use toml::{Table, Value};
 fn read_callers(text: &str) -> Result<Callers, ConfigFault>
     ensures { seen (λ c. c) result ≡ callers_in text.now }
 {
-    if text == "draft" {
+    if text == DRAFT {
         return Ok(Callers::Draft);
     }
-    if text == "libsrt" {
+    if text == LIBSRT {
         return Ok(Callers::Libsrt);
     }
     Err(ConfigFault::OutOfRange(Key::Callers))
@@ -34,7 +31,7 @@ fn callers_value(value: &Value) -> Result<Callers, ConfigFault>
     read_callers(text_value(Key::Callers, value)?)
 }
 
-/// Which rules the sessions of the route of a table follow; None if its key is missing.
+/// Returns which rules the sessions of the route of a table follow; None if its key is missing.
 #[tactic(auto, unfolding(crate::specs::Rules::callers_at))]
 pub(crate) fn callers_at(table: &Table) -> Result<Option<Callers>, ConfigFault>
     ensures { seen (λ c. c) result ≡ callers_at (table_view table.now) }
@@ -45,28 +42,28 @@ pub(crate) fn callers_at(table: &Table) -> Result<Option<Callers>, ConfigFault>
     }
 }
 
-/// The greatest number of slots that may be kept for publishers in a route of this number of sessions.
+/// Returns the greatest number of slots that may be kept for publishers in a route of this number of sessions.
 fn most_reserved(sessions: u32) -> usize
     ensures value { result ≡ most_reserved sessions }
     ensures few { result ≤ 2 }
 {
-    MAX_RESERVED.min((sessions as usize).saturating_sub(1))
+    let limits = Key::Reserved.limits();
+    limits.most.min((sessions as usize).saturating_sub(1))
 }
 
-/// The rules of the route of a table, with this number of sessions, and for these callers.
+/// Returns the rules of the route of a table, with this number of sessions, and for these callers.
 #[tactic(auto, unfolding(crate::specs::Rules::rules_at))]
 pub(crate) fn rules_at(sessions: u32, callers: Callers, table: &Table) -> Result<Rules, ConfigFault>
     ensures { seen (λ r. r) result ≡ rules_at sessions callers (table_view table.now) }
 {
-    let reserved = optional_number_at(table, Key::Reserved, 0, most_reserved(sessions))?;
-    let sessions_per_address = optional_number_at(table, Key::SessionsPerAddress, 1, MAX_SESSIONS)?;
-    let takeover_ms = optional_number_at(table, Key::TakeoverMs, MIN_TAKEOVER_MS, MAX_TAKEOVER_MS)?;
-    let resend_percent = optional_number_at(
-        table,
-        Key::ResendPercent,
-        MIN_RESEND_PERCENT,
-        MAX_RESEND_PERCENT,
-    )?;
+    let kept = Limits {
+        least: Key::Reserved.limits().least,
+        most: most_reserved(sessions),
+    };
+    let reserved = optional_number_within(table, Key::Reserved, kept)?;
+    let sessions_per_address = optional_number_at(table, Key::SessionsPerAddress)?;
+    let takeover_ms = optional_number_at(table, Key::TakeoverMs)?;
+    let resend_percent = optional_number_at(table, Key::ResendPercent)?;
     Ok(Rules {
         callers,
         reserved: reserved.unwrap_or(0),

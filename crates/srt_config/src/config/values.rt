@@ -8,8 +8,9 @@ ghost use Rattle.srt_config.specs.AddressParts.{address_of};
 ghost use Rattle.srt_config.specs.Config.{secret_in, secret_at, address_value, address_at, optional_address_at};
 
 use super::address::{BindAddress, read_address};
-use super::faults::{ConfigFault, Key};
+use super::faults::ConfigFault;
 use super::keys::{found_at, text_at, text_value, value_at};
+use super::table::Key;
 use srt_cookie::Secret;
 use toml::{Table, Value};
 
@@ -25,7 +26,7 @@ fn read_secret(text: &str) -> Result<Secret, ConfigFault>
     }
 }
 
-/// The secret of a configuration's table.
+/// Returns the secret of a configuration's table.
 #[tactic(auto, unfolding(crate::specs::Config::secret_at))]
 pub(crate) fn secret_at(table: &Table) -> Result<Secret, ConfigFault>
     ensures { seen secret_bytes result ≡ secret_at (table_view table.now) }
@@ -33,7 +34,7 @@ pub(crate) fn secret_at(table: &Table) -> Result<Secret, ConfigFault>
     read_secret(text_at(table, Key::Secret)?)
 }
 
-/// The address that the value of a key is, or `WrongKind` or `BadAddress`.
+/// Returns the address that the value of a key is, or `WrongKind` or `BadAddress`.
 #[tactic(auto, unfolding(crate::specs::Config::address_value))]
 fn address_value(key: Key, value: &Value) -> Result<BindAddress, ConfigFault>
     ensures { seen address_of result ≡ address_value key (view value.now) }
@@ -44,7 +45,7 @@ fn address_value(key: Key, value: &Value) -> Result<BindAddress, ConfigFault>
     }
 }
 
-/// The address at a key, or `Missing`, `WrongKind` or `BadAddress`.
+/// Returns the address at a key, or `Missing`, `WrongKind` or `BadAddress`.
 #[tactic(auto, unfolding(crate::specs::Config::address_at))]
 pub(crate) fn address_at(table: &Table, key: Key) -> Result<BindAddress, ConfigFault>
     ensures { seen address_of result ≡ address_at key (table_view table.now) }
@@ -52,7 +53,7 @@ pub(crate) fn address_at(table: &Table, key: Key) -> Result<BindAddress, ConfigF
     address_value(key, value_at(table, key)?)
 }
 
-/// The address at a key that may be missing, or `WrongKind` or `BadAddress`.
+/// Returns the address at a key that may be missing, or `WrongKind` or `BadAddress`.
 #[tactic(auto, unfolding(crate::specs::Config::optional_address_at))]
 pub(crate) fn optional_address_at(
     table: &Table,

@@ -1,6 +1,6 @@
-//! What a changed configuration asks.
+//! What a changed configuration requests.
 
-use super::{RIGHT, changed, config_of};
+use super::{RIGHT, changed, config_of, with_routes};
 use crate::{Changes, FixedKeys, RouteChange, changes_between};
 use std::process::Abort;
 use std::test::Fail;
@@ -27,14 +27,14 @@ fn fixed(secret: bool, bind: bool, workers: bool, status: bool) -> FixedKeys {
     }
 }
 
-/// What the second text asks of a gateway that runs with the first one.
+/// Returns what the second text requests of a gateway that runs with the first one.
 fn changes_to(rt: &(impl AllocGlobal + Abort), before: &str, after: &str) -> Result<Changes, Fail> {
     let before = config_of(rt, before)?;
     let after = config_of(rt, after)?;
     Ok(changes_between(rt.alloc(), &before, &after)?)
 }
 
-/// Asserts that a change of the right configuration, with `from` replaced by `to`, asks just this.
+/// Asserts that a change of the valid configuration, with `from` replaced by `to`, requests exactly this.
 fn assert_changes(
     rt: &(impl AllocGlobal + Abort),
     from: &str,
@@ -153,4 +153,39 @@ fn keys_that_cannot_change_are_told(rt: HostRuntime) -> Result<(), Fail> {
         &stay,
         &[],
     )
+}
+
+#[test]
+fn lists_keys_and_rules_are_compared(rt: HostRuntime) -> Result<(), Fail> {
+    let none = fixed(false, false, false, false);
+    let second = [RouteChange::Stays(0), RouteChange::Reopens(1)];
+    for line in &[
+        "publish_from = [\"10.0.0.0/8\"]\n",
+        "request_from = [\"10.0.0.0/8\"]\n",
+        "publish_key = \"k\"\n",
+        "callers = \"libsrt\"\n",
+        "sessions_per_address = 1\n",
+        "takeover_ms = 100\n",
+        "resend_percent = 5\n",
+    ] {
+        let both = format!(in rt.alloc(); "buffer = 32\n{line}")?;
+        assert_changes(&rt, "buffer = 32\n", both.as_str(), none, &second, &[])?;
+    }
+    Ok(())
+}
+
+#[test]
+fn many_routes_are_removed(rt: HostRuntime) -> Result<(), Fail> {
+    let before = with_routes(&rt, 511)?;
+    let after = with_routes(&rt, 17)?;
+    let found = changes_to(&rt, before.as_str(), after.as_str())?;
+    assert_eq!(rt; found.gone.len(), 494);
+    assert_eq!(rt; found.gone.as_slice().first(), Some(&17));
+    assert_eq!(rt; found.gone.as_slice().last(), Some(&510));
+    assert_eq!(rt; found.routes.len(), 17);
+    assert_eq!(rt;
+        found.routes.as_slice().last(),
+        Some(&RouteChange::Stays(16))
+    );
+    Ok(())
 }

@@ -1,7 +1,7 @@
 //! Configurations.
 
-use super::{RIGHT, changed, config_of};
-use crate::{BindAddress, Config, ConfigFault};
+use super::{RIGHT, changed, config_of, with_routes};
+use crate::{BindAddress, Config, ConfigFault, Key, PlacedFault, read_table};
 use srt_cookie::{Secret, cookie};
 use srt_seq::{Callers, Entry, Mode, Peer, Rules, Schedule};
 use std::process::Abort;
@@ -36,7 +36,7 @@ fn assert_entry(
     }
 }
 
-/// Asserts the two entries of the right configuration, the first with this name.
+/// Asserts the two entries of the valid configuration, the first with this name.
 fn assert_entries(rt: &(impl AllocGlobal + Abort), config: &Config, name: &str) {
     let entries = config.entries.as_slice();
     assert_eq!(rt; entries.len(), 2);
@@ -78,7 +78,7 @@ fn a_right_configuration(rt: HostRuntime) -> Result<(), Fail> {
     Ok(())
 }
 
-/// A change of the right configuration, and the numbers after it: the address's port, the workers, and the first
+/// A change of the valid configuration, and the numbers after it: the address's port, the workers, and the first
 /// route's.
 type NumbersRow = (&'static str, &'static str, [u32; 7]);
 
@@ -134,7 +134,7 @@ fn all_numbers_of(config: &Config) -> [u32; 7] {
     }
 }
 
-/// Asserts that the right configuration with this change is read, with these numbers and two routes.
+/// Asserts that the valid configuration with this change is read, with these numbers and two routes.
 fn assert_numbers(rt: &(impl AllocGlobal + Abort), row: &NumbersRow) -> Result<(), Fail> {
     let text = changed(rt, RIGHT, row.0, row.1)?;
     let config = config_of(rt, text.as_str())?;
@@ -151,7 +151,7 @@ fn numbers_at_their_limits_are_read(rt: HostRuntime) -> Result<(), Fail> {
     Ok(())
 }
 
-/// Asserts that the right configuration is read with this name in the place of the first route's.
+/// Asserts that the valid configuration is read with this name in the place of the first route's.
 fn assert_name(rt: &(impl AllocGlobal + Abort), name: &str) -> Result<(), Fail> {
     let text = changed(rt, RIGHT, "studio", name)?;
     let config = config_of(rt, text.as_str())?;
@@ -191,7 +191,7 @@ fn a_status_page_may_have_an_address(rt: HostRuntime) -> Result<(), Fail> {
     Ok(())
 }
 
-/// What may stand after the first route's outbox, and the route's schedule.
+/// What may follow the first route's outbox, and the route's schedule.
 type ScheduleRow = (&'static str, u32, Option<u32>);
 
 const SCHEDULES: [ScheduleRow; 5] = [
@@ -206,7 +206,7 @@ const SCHEDULES: [ScheduleRow; 5] = [
     ),
 ];
 
-/// Asserts the schedules of the right configuration with this text after the first route's outbox.
+/// Asserts the schedules of the valid configuration with this text after the first route's outbox.
 fn assert_schedules(rt: &(impl AllocGlobal + Abort), row: &ScheduleRow) -> Result<(), Fail> {
     let both = format!(in rt.alloc(); "outbox = 16\n{}", row.0)?;
     let text = changed(rt, RIGHT, "outbox = 16\n", both.as_str())?;
@@ -233,7 +233,7 @@ fn routes_may_open_and_close_in_rounds(rt: HostRuntime) -> Result<(), Fail> {
     Ok(())
 }
 
-/// What may stand after the first route's outbox, and the route's rules.
+/// What may follow the first route's outbox, and the route's rules.
 type RulesRow = (&'static str, Rules);
 
 const RULES: [RulesRow; 3] = [
@@ -268,7 +268,7 @@ fn assert_has_rules(rt: &(impl AllocGlobal + Abort), entry: Option<&Entry>, rule
     }
 }
 
-/// Asserts the rules of the right configuration with this text after the first route's outbox.
+/// Asserts the rules of the valid configuration with this text after the first route's outbox.
 fn assert_rules(rt: &(impl AllocGlobal + Abort), row: &RulesRow) -> Result<(), Fail> {
     let both = format!(in rt.alloc(); "outbox = 16\n{}", row.0)?;
     let text = changed(rt, RIGHT, "outbox = 16\n", both.as_str())?;
@@ -292,4 +292,88 @@ fn refused_memory_is_fault_10_of_no_key(rt: HostRuntime) {
     let fault = ConfigFault::OutOfMemory;
     assert_eq!(rt; fault.number(), 10);
     assert_eq!(rt; fault.key(), "-");
+}
+
+#[test]
+fn many_routes_are_read(rt: HostRuntime) -> Result<(), Fail> {
+    for count in &[17usize, 511] {
+        let text = with_routes(&rt, *count)?;
+        let config = config_of(&rt, text.as_str())?;
+        assert_eq!(rt; config.entries.len(), *count);
+        assert_eq!(rt; config.schedules.len(), *count);
+    }
+    Ok(())
+}
+
+/// A list of 16 networks.
+const SIXTEEN: &str = "\
+outbox = 16
+publish_from = [
+  \"10.0.0.0/8\", \"10.0.0.1\", \"10.0.0.2\", \"10.0.0.3\", \"10.0.0.4\", \"10.0.0.5\", \"10.0.0.6\", \"10.0.0.7\",
+  \"10.0.0.8\", \"10.0.0.9\", \"10.0.1.0\", \"10.0.1.1\", \"10.0.1.2\", \"10.0.1.3\", \"10.0.1.4\", \"10.0.1.5\",
+]
+";
+
+#[test]
+fn a_list_may_have_16_networks(rt: HostRuntime) -> Result<(), Fail> {
+    let text = changed(&rt, RIGHT, "outbox = 16\n", SIXTEEN)?;
+    let config = config_of(&rt, text.as_str())?;
+    let networks = match config.entries.as_slice().first() {
+        Some(first) => match first.access.publish.from.as_ref() {
+            Some(networks) => networks.len(),
+            None => 0,
+        },
+        None => 0,
+    };
+    assert_eq!(rt; networks, 16);
+    Ok(())
+}
+
+/// The first fault of a table that is this text, with its place.
+fn fault_of(rt: &(impl AllocGlobal + Abort), text: &str) -> Result<PlacedFault, Fail> {
+    match toml::table_from_str(rt.alloc(), text) {
+        Ok(table) => match read_table(rt.alloc(), &table) {
+            Ok(_) => Err(Fail::from("no fault")),
+            Err(placed) => Ok(placed),
+        },
+        Err(_) => Err(Fail::from("no table")),
+    }
+}
+
+/// A change of the valid configuration, the key of its fault, and the number of the route that has it.
+type PlaceRow = (&'static str, &'static str, &'static str, Option<usize>);
+
+const PLACES: [PlaceRow; 6] = [
+    ("workers = 1", "workers = 0", "workers", None),
+    ("workers = 1", "worker = 1", "worker", None),
+    ("sessions = 5", "sessions = 18", "sessions", Some(1)),
+    ("sessions = 3", "sessions = 18", "sessions", Some(2)),
+    ("\"files\"", "\"studio\"", "name", Some(2)),
+    ("sessions = 3", "session = 3", "session", Some(2)),
+];
+
+#[test]
+fn a_fault_has_its_route(rt: HostRuntime) -> Result<(), Fail> {
+    for row in &PLACES {
+        let text = changed(&rt, RIGHT, row.0, row.1)?;
+        let placed = fault_of(&rt, text.as_str())?;
+        assert_eq!(rt; placed.fault.key(), row.2);
+        assert_eq!(rt; placed.route, row.3);
+    }
+    Ok(())
+}
+
+#[test]
+fn the_table_of_keys_has_limits_and_texts(rt: HostRuntime) {
+    let limits = Key::Sessions.limits();
+    assert_eq!(rt; limits.least, 1);
+    assert_eq!(rt; limits.most, 17);
+    assert!(rt; Key::Sessions.choices().is_none());
+    match Key::Mode.choices() {
+        Some(choices) => {
+            assert_eq!(rt; choices.first, "live");
+            assert_eq!(rt; choices.second, "buffer");
+        }
+        None => assert!(rt; false, "no choices"),
+    }
 }

@@ -4,4 +4,4 @@ use Rattle.srt_config.proofs.RouteItems.{members_counted}
 use Rattle.srt_config.proofs.config.access.is_count.Goals as goal
 
 pub returns : goal.returns
-returns c = c.is_between.ensures ∙ ap (is_between 1 16) (members_counted c.args.values.now)
+returns c = (rw c.limits-limits.ensures.value at c.is_between.ensures) ∙ ap (is_between 1 16) (members_counted c.args.values.now)

@@ -4,4 +4,4 @@ use Rattle.srt_config.proofs.RouteItems.{counted}
 use Rattle.srt_config.proofs.config.routes.is_count.Goals as goal
 
 pub returns : goal.returns
-returns c = c.is_between.ensures ∙ ap (is_between 1 511) (counted c.args.values.now)
+returns c = (rw c.limits-limits.ensures.value at c.is_between.ensures) ∙ ap (is_between 1 511) (counted c.args.values.now)

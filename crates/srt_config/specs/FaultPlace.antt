@@ -1,0 +1,66 @@
+-- Which route has a configuration's fault (our choice).
+use Rattle.std.specs.Prelude.{◌≡◌, ℕ, suc, not, ◌⊎◌, Option, None, Some, Result, Ok, Err, IfErr, if◌then◌else◌}
+use Rattle.toml.specs.Data.{Items, no_items, item, Members, as_array}
+use Rattle.srt_seq.specs.Entries.{is_between}
+use Rattle.srt_config.specs.declared.config.faults.ConfigFault.{ConfigFault}
+use Rattle.srt_config.specs.declared.config.faults.ConfigFault.TheVariants as code
+use Rattle.srt_config.specs.declared.config.placed.PlacedFault.{PlacedFault}
+use Rattle.srt_config.specs.declared.config.table.Key.TheVariants.{Bind, Workers, Status, Route}
+use Rattle.srt_config.specs.FirstFault.{Fault, seen}
+use Rattle.srt_config.specs.Keys.{known, value_at, number_at, of_kind}
+use Rattle.srt_config.specs.Routes.{Routes, no_routes, routes_and, are_tables, count}
+use Rattle.srt_config.specs.Config.{top_keys, secret_at, address_at, optional_address_at}
+
+-- a fault that isn't one route's
+abbrev pub above_routes : ConfigFault → PlacedFault
+above_routes fault = record { fault = fault; route = None }
+
+-- a result without the fault's place
+abbrev pub unplaced : {A : Type 0} → Result A PlacedFault → Result A ConfigFault
+unplaced (Ok x) = Ok x
+unplaced (Err placed) = Err placed.fault
+
+-- the number of the first table that isn't a route after those before it, the first table having this number
+abbrev pub or_later : (number : ℕ) → Result Routes Fault → (later : Routes → ℕ) → ℕ
+or_later number (Ok routes) later = later routes
+or_later number (Err fault) later = number
+
+abbrev pub faulty_from : (number : ℕ) → (before : Routes) → Items → ℕ
+faulty_from number before no_items = number
+faulty_from number before (item value rest) = or_later number (routes_and before value) (λ routes. faulty_from (suc number) routes rest)
+
+-- the route that has the fault: none, if not all are tables, or if there are too few or too many
+abbrev pub place_in : Items → Option ℕ
+place_in items =
+    if not (are_tables items) then None
+    else if not (is_between 1 511 (count items)) then None
+    else Some (faulty_from 1 no_routes items)
+
+infixl 10 ◌>>?◌
+-- a step, and then the place by its result; a step's fault isn't one route's
+abbrev pub ◌>>?◌ : {A : Type 0} → Result A Fault → (A → Option ℕ) → Option ℕ
+Ok x >>? next = next x
+Err fault >>? next = None
+
+unfoldable pub routes_place : Members → Option ℕ
+routes_place table = value_at Route table >>? λ value. of_kind Route (as_array value) >>? λ items. place_in items
+
+-- the number of the route that has the fault of a table, counted from 1; None if it is at a key above the routes, or one of all routes
+unfoldable pub fault_place : Members → Option ℕ
+fault_place table =
+    known top_keys table >>? λ _.
+    secret_at table >>? λ _.
+    address_at Bind table >>? λ _.
+    number_at Workers 1 16 table >>? λ _.
+    optional_address_at Status table >>? λ _.
+    routes_place table
+
+-- the same of a text: its table, or None if it isn't TOML
+abbrev pub document_place : Option Members → Option ℕ
+document_place (Some table) = fault_place table
+document_place None = None
+
+-- the result is this one, and its fault has this place, unless an allocation failed
+abbrev pub GivesAt : {A B : Type 0} → (view : A → B) → Result A PlacedFault → (said : Result B Fault) → (place : Option ℕ) → Type 0
+GivesAt view answer said place =
+    (unplaced answer ≡ Err code.OutOfMemory) ⊎ ((seen view (unplaced answer) ≡ said) × IfErr answer (λ placed. placed.route ≡ place))
