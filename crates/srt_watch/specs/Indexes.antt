@@ -62,8 +62,8 @@ abbrev pub numbers_of : (gone : List ℕ) → List RouteChange → RouteNumbers
 numbers_of gone changes = counted_all (record { staying = 0; opening = 0; closing = length gone; changing = 0 }) changes
 
 -- no route opens or closes
-abbrev pub asks_nothing : RouteNumbers → Bool
-asks_nothing n = (n.opening == 0) && (n.closing == 0) && (n.changing == 0)
+abbrev pub changes_nothing : RouteNumbers → Bool
+changes_nothing n = (n.opening == 0) && (n.closing == 0) && (n.changing == 0)
 
 abbrev pub differing : FixedKeys → DifferingKeys
 differing fixed = record { bind = fixed.bind; workers = fixed.workers; status = fixed.status; secret = fixed.secret }

@@ -56,7 +56,7 @@ impl FirstLines {
     fn tell_warnings<W: Write + Drop>(&mut self, log: &mut LogWriter<W>, when: When) {
         for warning in self.warnings.iter() {
             let warning = warning.as_str().as_bytes();
-            log.tell_always(when, LogEvent::Warned { warning });
+            log.append_always(when, LogEvent::Warned { warning });
         }
         self.warnings.clear();
     }
@@ -72,9 +72,9 @@ impl FirstLines {
     ) -> Option<u64> {
         let start = self.start.take()?;
         let memory = machine.memory().unwrap_or(0);
-        log.tell_always(when, started(start, routes, memory));
+        log.append_always(when, started(start, routes, memory));
         if !start.is_blocked {
-            log.tell_always(when, LogEvent::Unblocked);
+            log.append_always(when, LogEvent::Unblocked);
         }
         self.tell_warnings(log, when);
         start.lasts

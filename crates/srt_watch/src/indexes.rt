@@ -1,11 +1,11 @@
 //! The indexes that routes have in a run, and what a changed configuration does to them: each route that opens gets the
 //! next one, and none is used again.
 
-ghost use Rattle.std.specs.Prelude.{◌≡◌, ◌++◌, IfOk, OnOk, map, length};
+ghost use Rattle.std.specs.Prelude.{◌≡◌, ◌≤◌, [], ◌++◌, IfOk, OnOk, map, length, vec_len, vec_capacity};
 ghost use Rattle.std.specs.List.{flat_map};
 ghost use Rattle.srt_seq.specs.Terms.{terms_of};
 ghost use Rattle.srt_watch.specs.Indexes.{index_at, reopened_at, closing, index_of, next_after, indexes_from};
-ghost use Rattle.srt_watch.specs.Indexes.{opens, counted, counted_all, numbers_of, asks_nothing, mark_of, reaches_mark, megabytes_of, differing};
+ghost use Rattle.srt_watch.specs.Indexes.{opens, counted, counted_all, numbers_of, changes_nothing, mark_of, reaches_mark, megabytes_of, differing};
 
 use srt_config::{Changes, FixedKeys, RouteChange};
 use srt_log::{DifferingKeys, RouteNumbers};
@@ -91,8 +91,8 @@ fn index_of(before: &[usize], next: usize, change: RouteChange) -> usize
     }
 }
 
-// The index that is to be given next behind a route.
-fn next_after(next: usize, change: RouteChange) -> usize
+/// Returns the index of the next route that opens, after this one.
+pub(crate) fn next_after(next: usize, change: RouteChange) -> usize
     ensures { result ≡ next_after next change }
 {
     if opens(change) {
@@ -112,28 +112,31 @@ pub(crate) fn opens(change: RouteChange) -> bool
     }
 }
 
-/// The index of each route of a changed configuration: the one that it had, if it stays; those that open get the next
-/// ones in their order, from `first` on. `before` has those of the routes before. Allocates the list; an error if memory
-/// is refused.
+/// Puts the index of each route of a changed configuration into an empty list: a route that stays has the one that it had,
+/// and those that open have the next ones in their order, from `first` on. `before` has the indexes of the routes before.
 #[tactic(auto, using(crate::proofs::Appended::indexes_step, crate::proofs::Appended::indexes_end))]
-pub(crate) fn indexes_after(
-    alloc: Global,
+pub(crate) fn fill_indexes(
+    list: Vec<usize>,
     changes: &[RouteChange],
     before: &[usize],
     first: usize,
-) -> Result<Vec<usize>, AllocError>
-    ensures { IfOk result (λ indexes. indexes.items ≡ indexes_from before.now first changes.now) }
+) -> Vec<usize>
+    requires empty { (list.items ≡ []) × (vec_len list ≡ 0) }
+    requires fits { length changes.now ≤ vec_capacity list }
+    ensures { result.items ≡ indexes_from before.now first changes.now }
 {
-    let mut indexes = Vec::with_capacity(alloc, changes.len())?;
+    let mut indexes = list;
     let mut next = first;
     let mut rest = changes;
     while !rest.is_empty() {
         let index = index_of(before, next, rest[0]);
         next = next_after(next, rest[0]);
-        indexes.push(index)?;
+        let Ok(()) = indexes.push(index) else {
+            unreachable!()
+        };
         rest = &rest[1..];
     }
-    Ok(indexes)
+    indexes
 }
 
 // The numbers with one route more.
@@ -183,9 +186,9 @@ pub(crate) fn numbers_of(changes: &Changes) -> RouteNumbers
     counted_all(start, changes.routes.as_slice())
 }
 
-/// Whether no route opens or closes: the configuration says the same, perhaps in another order.
-pub(crate) fn asks_nothing(numbers: RouteNumbers) -> bool
-    ensures { result ≡ asks_nothing numbers }
+/// Whether no route opens or closes: the configuration has the same routes, perhaps in another order.
+pub(crate) fn changes_nothing(numbers: RouteNumbers) -> bool
+    ensures { result ≡ changes_nothing numbers }
 {
     numbers.opening == 0 && numbers.closing == 0 && numbers.changing == 0
 }

@@ -23,8 +23,8 @@
 #![tactic(auto)]
 
 mod census;
+mod change_log;
 mod config_file;
-mod config_lines;
 mod course;
 mod first_lines;
 mod following;
@@ -35,7 +35,7 @@ mod losses;
 mod machine;
 mod overview;
 mod page;
-mod requested_change;
+mod prepared_change;
 mod route_lines;
 mod showing;
 mod status_server;

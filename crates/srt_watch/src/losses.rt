@@ -49,13 +49,13 @@ impl Losses {
     ) {
         let count = self.faults.saturating_sub(self.faults_told);
         if count > 0 {
-            log.tell_always(when, LogEvent::SocketFaults { count });
+            log.append_always(when, LogEvent::SocketFaults { count });
             self.faults_told = self.faults;
         }
         let drops = drops.unwrap_or(self.drops_told);
         let count = drops.saturating_sub(self.drops_told);
         if count > 0 {
-            log.tell_always(when, LogEvent::KernelDrops { count });
+            log.append_always(when, LogEvent::KernelDrops { count });
             self.drops_told = drops;
         }
     }

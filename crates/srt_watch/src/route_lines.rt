@@ -15,7 +15,7 @@ fn tell_change<W: Write + Drop>(
     change: Change,
 ) {
     if let Some(event) = event_of(name, &looks.old, &looks.new, change) {
-        log.tell(when, event);
+        log.append(when, event);
     }
 }
 
@@ -47,7 +47,7 @@ pub(crate) fn tell_limits<W: Write + Drop>(
     let Some(grown) = grown else {
         return;
     };
-    log.tell(
+    log.append(
         when,
         LogEvent::Limited {
             route,

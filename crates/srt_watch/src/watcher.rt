@@ -1,5 +1,6 @@
 //! A watcher: its rests, its looks, what it asks of the run when the configuration changes, and how it stops the gateway.
 
+use crate::change_log::ChangeLog;
 use crate::config_file::ConfigFile;
 use crate::course::Course;
 use crate::first_lines::{FirstLines, Start};
@@ -18,7 +19,7 @@ use srt_operate::StopStep;
 use srt_route::Route;
 use srt_seq::Entry;
 use srt_status::PollerCounts;
-use srt_supervision::{ChangeFault, Order, Refusal, Report, RouteChanges, RunStatus, Watch};
+use srt_supervision::{ChangeRoutes, Order, Refusal, Report, RunStatus, Watch};
 use std::alloc::{AllocError, Global};
 use std::fmt::Display;
 use std::io::Write;
@@ -148,7 +149,7 @@ where
     // Notes that a stop is asked for, once.
     fn look_for_stop(&mut self, when: When) {
         if let Some(by) = self.course.stop(&self.machine, when.moment) {
-            self.log.tell_always(when, LogEvent::StopAsked { by });
+            self.log.append_always(when, LogEvent::StopAsked { by });
         }
     }
 
@@ -163,11 +164,11 @@ where
         let when = When::now(&mut self.machine);
         if !self.course.is_stopping() {
             let by = StopCause::Rounds;
-            self.log.tell_always(when, LogEvent::StopAsked { by });
+            self.log.append_always(when, LogEvent::StopAsked { by });
         }
         self.tell_losses(when);
         self.log.end(when);
-        self.log.tell_always(when, LogEvent::Stopped);
+        self.log.append_always(when, LogEvent::Stopped);
     }
 }
 
@@ -207,7 +208,7 @@ where
     fn show_route(&mut self, index: usize, route: &Route) {
         let when = When::now(&mut self.machine);
         let stops = self.course.is_stopping();
-        if let Some(looks) = self.routes.look(index, route, when.moment, stops) {
+        if let Some(looks) = self.routes.observe(index, route, when.moment, stops) {
             tell_changes(&mut self.log, when, &mut self.routes, index, &looks);
             let name = self.routes.name_of(index).as_bytes();
             tell_limits(&mut self.log, when, name, looks.grown);
@@ -219,7 +220,7 @@ where
         if refusal.route.is_none() {
             self.overview.count_refusal(refusal.code, refusal.cause);
         }
-        self.log.tell(
+        self.log.append(
             when,
             LogEvent::Refused {
                 code: refusal.code,
@@ -230,19 +231,17 @@ where
         );
     }
 
-    fn change(&mut self) -> Option<RouteChanges> {
+    fn change_routes<C: ChangeRoutes>(&mut self, run: &mut C) {
         let when = When::now(&mut self.machine);
-        let following = self.following.as_mut()?;
-        let counts = &mut self.overview.changes;
-        following.change(&mut self.log, when, counts, &mut self.routes)
-    }
-
-    fn changed(&mut self, outcome: Result<usize, ChangeFault>) {
-        let when = When::now(&mut self.machine);
-        if let Some(following) = self.following.as_mut() {
-            let counts = &mut self.overview.changes;
-            following.changed(&mut self.log, when, counts, &mut self.routes, outcome);
-        }
+        let Some(following) = self.following.as_mut() else {
+            return;
+        };
+        let mut log = ChangeLog {
+            log: &mut self.log,
+            when,
+            counts: &mut self.overview.changes,
+        };
+        following.follow(&mut log, &mut self.routes, run);
     }
 }
 

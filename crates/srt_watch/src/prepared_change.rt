@@ -1,10 +1,10 @@
-//! A change of the routes that the run is asked for, with all that it takes of memory.
+//! A change of the run's routes, with all memory that it needs here allocated.
 
-ghost use Rattle.std.specs.Prelude.{◌≡◌, IfOk};
+ghost use Rattle.std.specs.Prelude.{◌≡◌, ◌≤◌, [], IfOk, length, vec_len, vec_capacity};
 ghost use Rattle.srt_seq.specs.Terms.{terms_of};
 
 use crate::in_force::{InForce, Wanted};
-use crate::indexes::{asks_nothing, closing, indexes_after, numbers_of, opens};
+use crate::indexes::{changes_nothing, closing, fill_indexes, numbers_of, opens};
 use crate::watched_routes::{OpeningRoute, WatchedRoutes};
 use srt_config::{Changes, Config};
 use srt_log::RouteNumbers;
@@ -14,12 +14,12 @@ use srt_supervision::RouteChanges;
 use std::alloc::{AllocError, Global};
 use std::fmt::InlineText;
 
-/// Why the run isn't asked for a change: memory was refused.
+/// What the memory of a change was for, where its allocation failed.
 #[derive(Clone, Copy)]
 pub(crate) enum NoRoom {
-    /// For the route of this name.
+    /// The route of this name.
     Route(InlineText<64>),
-    /// For something else.
+    /// Something else.
     Lists,
 }
 
@@ -29,7 +29,7 @@ impl From<AllocError> for NoRoom {
     }
 }
 
-// A copy of an entry, for the run. Allocates; an error if memory is refused.
+// A copy of an entry, for the run. Allocates; the only error is out of memory.
 fn copied(alloc: Global, entry: &Entry) -> Result<Entry, AllocError>
     ensures { IfOk result (λ copy. terms_of copy ≡ terms_of entry.now) }
 {
@@ -62,7 +62,7 @@ impl Opens {
         Ok(())
     }
 
-    // Those of a configuration that asks for these changes. Allocates; the error names the route whose memory is refused.
+    // The routes of a configuration that open by these changes. Allocates; the error names the route for which that failed.
     fn of(alloc: Global, config: &Config, changes: &Changes) -> Result<Opens, NoRoom> {
         let mut opened = Opens {
             entries: Vec::new(alloc),
@@ -77,29 +77,29 @@ impl Opens {
     }
 }
 
-// The memory that a change takes here.
+// The memory that a change needs here.
 #[derive(Drop)]
 struct Room {
-    // the index of each route of the changed configuration
+    // empty, with room for the index of each route of the changed configuration
     indexes: Vec<usize>,
-    // those that open, in their order
+    // the routes that open, in their order
     opening: Vec<OpeningRoute>,
-    // room for what the page shows of each of its routes
+    // empty, with room for the status of each route of the changed configuration
     shown: Vec<RouteStatus>,
 }
 
 impl Room {
-    // For a change that opens these routes. Allocates; an error if memory is refused.
+    // For a configuration with this many routes, of which these open. Allocates; the only error is out of memory.
     fn new(
         alloc: Global,
-        in_force: &InForce<'_>,
         routes: &mut WatchedRoutes,
-        wanted: &Wanted,
+        configured: usize,
         opening: Vec<OpeningRoute>,
-    ) -> Result<Room, AllocError> {
-        let changes = wanted.changes.routes.as_slice();
-        let indexes = indexes_after(alloc, changes, in_force.indexes(), routes.used())?;
-        let shown = routes.make_room(alloc, opening.len(), wanted.config.entries.len())?;
+    ) -> Result<Room, AllocError>
+        ensures { IfOk result (λ room. (room.indexes.items ≡ []) × (vec_len room.indexes ≡ 0) × (vec_capacity room.indexes ≡ configured)) }
+    {
+        let indexes = Vec::with_capacity(alloc, configured)?;
+        let shown = routes.make_room(alloc, opening.len(), configured)?;
         Ok(Room {
             indexes,
             opening,
@@ -108,71 +108,65 @@ impl Room {
     }
 }
 
-// What the run is to be asked for, and the memory that the change takes here. Allocates; an error if memory is refused.
-fn lists_of(
-    alloc: Global,
-    in_force: &InForce<'_>,
-    routes: &mut WatchedRoutes,
-    wanted: &Wanted,
-) -> Result<(RouteChanges, Room), NoRoom> {
-    let Opens {
-        entries,
-        routes: opening,
-    } = Opens::of(alloc, &wanted.config, &wanted.changes)?;
-    let closes = closing(alloc, &wanted.changes, in_force.indexes())?;
-    let room = Room::new(alloc, in_force, routes, wanted, opening)?;
-    let changes = RouteChanges {
-        closes,
-        opens: entries,
-    };
-    Ok((changes, room))
-}
-
-/// A change that the run is asked for, with all that it takes of memory here.
+/// A change that the run can be requested to make. To put its configuration in force allocates nothing.
 #[derive(Drop)]
-pub(crate) struct RequestedChange {
+pub(crate) struct PreparedChange {
     numbers: RouteNumbers,
     room: Room,
     wanted: Wanted,
+    ghost empty: { (room.indexes.items ≡ []) × (vec_len room.indexes ≡ 0) },
+    ghost fits: { length wanted.changes.routes.items ≤ vec_capacity room.indexes },
 }
 
-impl RequestedChange {
-    /// That of a configuration that can be taken, and what the run is to be asked for. Allocates; after an error nothing
-    /// has changed.
+impl PreparedChange {
+    // With the routes that open. Allocates; the only error is out of memory.
+    fn new(
+        alloc: Global,
+        routes: &mut WatchedRoutes,
+        wanted: Wanted,
+        opening: Vec<OpeningRoute>,
+    ) -> Result<PreparedChange, AllocError> {
+        let room = Room::new(alloc, routes, wanted.changes.routes.len(), opening)?;
+        Ok(PreparedChange {
+            numbers: numbers_of(&wanted.changes),
+            room,
+            wanted,
+        })
+    }
+
+    /// The change to a valid configuration, and what the run is to be requested. Allocates; after an error nothing has
+    /// changed.
     pub(crate) fn of(
         alloc: Global,
         in_force: &InForce<'_>,
         routes: &mut WatchedRoutes,
         wanted: Wanted,
-    ) -> Result<(RequestedChange, RouteChanges), NoRoom> {
-        let (changes, room) = lists_of(alloc, in_force, routes, &wanted)?;
-        let numbers = numbers_of(&wanted.changes);
-        let asked = RequestedChange {
-            numbers,
-            room,
-            wanted,
+    ) -> Result<(PreparedChange, RouteChanges), NoRoom> {
+        let Opens {
+            entries,
+            routes: opening,
+        } = Opens::of(alloc, &wanted.config, &wanted.changes)?;
+        let changes = RouteChanges {
+            closes: closing(alloc, &wanted.changes, in_force.indexes())?,
+            opens: entries,
         };
-        Ok((asked, changes))
+        let prepared = PreparedChange::new(alloc, routes, wanted, opening)?;
+        Ok((prepared, changes))
     }
 
-    /// How many routes of each kind the configuration has.
+    /// The number of routes of each kind.
     pub(crate) fn numbers(&self) -> RouteNumbers {
         self.numbers
     }
 
     /// Whether no route opens or closes.
-    pub(crate) fn asks_nothing(&self) -> bool {
-        asks_nothing(self.numbers)
+    pub(crate) fn changes_nothing(&self) -> bool {
+        changes_nothing(self.numbers)
     }
 
     /// The configuration, and what it changes.
     pub(crate) fn wanted(&self) -> &Wanted {
         &self.wanted
-    }
-
-    /// The index that the route at this place of the configuration gets.
-    pub(crate) fn index_at(&self, place: usize) -> Option<usize> {
-        self.room.indexes.get(place).copied()
     }
 
     /// The number of routes that open.
@@ -188,14 +182,15 @@ impl RequestedChange {
         }
     }
 
-    /// Puts the configuration in force. Takes no memory.
+    /// Puts the configuration in force. The routes that open have the indexes from `first` on. Doesn't allocate.
     pub(crate) fn put_in_force(
         self,
         alloc: Global,
+        first: usize,
         in_force: &mut InForce<'_>,
         routes: &mut WatchedRoutes,
     ) {
-        let RequestedChange {
+        let PreparedChange {
             numbers: _,
             room,
             wanted,
@@ -207,6 +202,7 @@ impl RequestedChange {
         } = room;
         let Wanted { config, changes } = wanted;
         let changes = changes.routes.as_slice();
+        let indexes = fill_indexes(indexes, changes, in_force.indexes(), first);
         routes.change(alloc, changes, indexes.as_slice(), opening, shown);
         in_force.put(config, indexes);
     }
