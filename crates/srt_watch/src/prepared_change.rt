@@ -1,12 +1,14 @@
 //! A change of the run's routes, with all memory that it needs here allocated.
 
-ghost use Rattle.std.specs.Prelude.{◌≡◌, ◌≤◌, [], IfOk, length, vec_len, vec_capacity};
+ghost use Rattle.std.specs.Prelude.{◌≡◌, ◌≤◌, [], ◌∷◌, ◌++◌, IfOk, OnOk, length, map, vec_len, vec_capacity};
 ghost use Rattle.srt_seq.specs.Terms.{terms_of};
+ghost use Rattle.srt_watch.specs.Indexes.{closing, indexes_from};
+ghost use Rattle.srt_watch.specs.Requests.{opened_at, opened_by, config_of};
 
 use crate::in_force::{InForce, Wanted};
 use crate::indexes::{changes_nothing, closing, fill_indexes, numbers_of, opens};
 use crate::watched_routes::{OpeningRoute, WatchedRoutes};
-use srt_config::{Changes, Config};
+use srt_config::{Changes, Config, RouteChange};
 use srt_log::RouteNumbers;
 use srt_seq::Entry;
 use srt_status::RouteStatus;
@@ -56,22 +58,47 @@ struct Opens {
 }
 
 impl Opens {
-    fn add(&mut self, alloc: Global, entry: &Entry) -> Result<(), AllocError> {
+    #[tactic(auto, using(crate::proofs::Appended::entry_added))]
+    fn add(&mut self, alloc: Global, entry: &Entry) -> Result<(), AllocError>
+        ensures { OnOk result (map terms_of self.new.entries.items ≡ map terms_of self.old.entries.items ++ terms_of entry.now ∷ []) }
+    {
         self.entries.push(copied(alloc, entry)?)?;
         self.routes.push(OpeningRoute::new(alloc, entry)?)?;
         Ok(())
     }
 
+    // Adds a route if it opens.
+    fn add_if_opens(
+        &mut self,
+        alloc: Global,
+        change: RouteChange,
+        entry: &Entry,
+    ) -> Result<(), AllocError>
+        ensures { OnOk result (map terms_of self.new.entries.items ≡ map terms_of self.old.entries.items ++ opened_at change (terms_of entry.now)) }
+    {
+        if opens(change) {
+            return self.add(alloc, entry);
+        }
+        Ok(())
+    }
+
     // The routes of a configuration that open by these changes. Allocates; the error names the route for which that failed.
-    fn of(alloc: Global, config: &Config, changes: &Changes) -> Result<Opens, NoRoom> {
+    #[tactic(auto, using(crate::proofs::Appended::opened_step, crate::proofs::Appended::opened_end, crate::proofs::Appended::opened_last, crate::proofs::Appended::joined))]
+    fn of(alloc: Global, config: &Config, changes: &Changes) -> Result<Opens, NoRoom>
+        ensures { IfOk result (λ o. map terms_of o.entries.items ≡ opened_by changes.now.routes.items (map terms_of config.now.entries.items)) }
+    {
         let mut opened = Opens {
             entries: Vec::new(alloc),
             routes: Vec::new(alloc),
         };
-        for (change, entry) in changes.routes.iter().zip(config.entries.iter()) {
-            if opens(*change) && opened.add(alloc, entry).is_err() {
-                return Err(NoRoom::Route(InlineText::of(entry.name.as_str())));
-            }
+        let mut rest = changes.routes.as_slice();
+        let mut entries = config.entries.as_slice();
+        while !rest.is_empty() && !entries.is_empty() {
+            let Ok(()) = opened.add_if_opens(alloc, rest[0], &entries[0]) else {
+                return Err(NoRoom::Route(InlineText::of(entries[0].name.as_str())));
+            };
+            rest = &rest[1..];
+            entries = &entries[1..];
         }
         Ok(opened)
     }
@@ -125,7 +152,9 @@ impl PreparedChange {
         routes: &mut WatchedRoutes,
         wanted: Wanted,
         opening: Vec<OpeningRoute>,
-    ) -> Result<PreparedChange, AllocError> {
+    ) -> Result<PreparedChange, AllocError>
+        ensures { IfOk result (λ p. p.wanted ≡ wanted) }
+    {
         let room = Room::new(alloc, routes, wanted.changes.routes.len(), opening)?;
         Ok(PreparedChange {
             numbers: numbers_of(&wanted.changes),
@@ -141,7 +170,11 @@ impl PreparedChange {
         in_force: &InForce<'_>,
         routes: &mut WatchedRoutes,
         wanted: Wanted,
-    ) -> Result<(PreparedChange, RouteChanges), NoRoom> {
+    ) -> Result<(PreparedChange, RouteChanges), NoRoom>
+        ensures wanted { IfOk result (λ p. p.0.wanted ≡ wanted) }
+        ensures closes { IfOk result (λ p. p.1.closes.items ≡ closing in_force.now.indexes.items wanted.changes.gone.items wanted.changes.routes.items) }
+        ensures opens { IfOk result (λ p. map terms_of p.1.opens.items ≡ opened_by wanted.changes.routes.items (map terms_of wanted.config.entries.items)) }
+    {
         let Opens {
             entries,
             routes: opening,
@@ -189,7 +222,10 @@ impl PreparedChange {
         first: usize,
         in_force: &mut InForce<'_>,
         routes: &mut WatchedRoutes,
-    ) {
+    )
+        ensures config { config_of in_force.new ≡ self.wanted.config }
+        ensures indexes { in_force.new.indexes.items ≡ indexes_from in_force.old.indexes.items first self.wanted.changes.routes.items }
+    {
         let PreparedChange {
             numbers: _,
             room,
