@@ -65,8 +65,7 @@ nothing_unseen : (look : RouteSnapshot) → unseen look look ≡ None
 unfolding unseen
 nothing_unseen look =
     let none_opened : look.opened - look.opened - opened_below 17 look.slots look.slots ≡ 0 = omega arith in
-    let none_refused : look.refused - look.refused ≡ 0 = omega arith in
-    ap (λ (n : ℕ). unseen_of n (look.refused - look.refused)) none_opened ∙ ap (unseen_of 0) none_refused
+    ap unseen_of none_opened
 
 one_of : (d : Bool) (x y : Option Change) → x ≡ None → y ≡ None → cond d x y ≡ None
 one_of true x y h k = h

@@ -76,12 +76,12 @@ unfoldable pub opened_below : (count : ℕ) → (old new : List (Option SessionS
 opened_below zero old new = 0
 opened_below (suc count) old new = opened_below count old new + (if is_new (slot_at count old) (slot_at count new) then 1 else 0)
 
--- how many sessions opened and ended between the looks, and how many conclusions were refused, if there were any
-abbrev pub unseen_of : (opened refused : ℕ) → Option Change
-unseen_of opened refused = if (opened == 0) && (refused == 0) then None else Some (Unseen opened refused)
+-- how many sessions opened and ended between the looks, if there were any
+abbrev pub unseen_of : (opened : ℕ) → Option Change
+unseen_of opened = if opened == 0 then None else Some (Unseen opened)
 
 unfoldable pub unseen : (old new : RouteSnapshot) → Option Change
-unseen old new = unseen_of (new.opened - old.opened - opened_below 17 old.slots new.slots) (new.refused - old.refused)
+unseen old new = unseen_of (new.opened - old.opened - opened_below 17 old.slots new.slots)
 
 -- what changed between two looks, step by step
 abbrev pub change_at : (old new : RouteSnapshot) → (step : ℕ) → Option Change

@@ -100,9 +100,8 @@ abbrev pub limited_text : (route : List ℕ) → (full reserved per_address : �
 limited_text route full reserved per_address =
     escaped_all route ++ codes ": refused by its limits, 1003 RESOURCE: " ++ limits_text full reserved per_address
 
-abbrev pub unseen_text : (route : List ℕ) → (opened refused : ℕ) → List ℕ
-unseen_text route opened refused =
-    escaped_all route ++ codes ": " ++ decimal opened ++ codes " sessions opened and ended unseen, " ++ decimal refused ++ codes " conclusions refused"
+abbrev pub unseen_text : (route : List ℕ) → (opened : ℕ) → List ℕ
+unseen_text route opened = escaped_all route ++ codes ": " ++ decimal opened ++ codes " sessions opened and ended unseen"
 
 abbrev pub unblocked_text : List ℕ
 unblocked_text = codes "SIGINT or SIGTERM ends the gateway at once, without a report: bin/srtgw run blocks them"
@@ -140,7 +139,7 @@ event_text (events.TookOver caller) = took_over_text caller
 event_text (events.Troubled caller trouble) = troubled_text caller trouble
 event_text (events.Refused code peer asked by) = refused_text code peer asked.now by
 event_text (events.Limited route full reserved per_address) = limited_text route.now full reserved per_address
-event_text (events.Unseen route opened refused) = unseen_text route.now opened refused
+event_text (events.Unseen route opened) = unseen_text route.now opened
 event_text (events.Config event) = config_text event
 event_text events.Unblocked = unblocked_text
 event_text (events.Warned warning) = escaped_all warning.now

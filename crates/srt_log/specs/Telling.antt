@@ -63,4 +63,4 @@ event_of route old new (Ended slot) = of_session (λ session. ended_event route 
 event_of route old new (Opened slot) = of_session (λ session. Some (opened_event route session)) (session_at new slot)
 event_of route old new (TookOver slot) = of_session (λ session. Some (took_over_event route session)) (session_at new slot)
 event_of route old new (Troubled slot trouble) = of_session (λ session. Some (troubled_event route session trouble)) (session_at new slot)
-event_of route old new (Unseen opened refused) = Some (events.Unseen route opened refused)
+event_of route old new (Unseen opened) = Some (events.Unseen route opened)

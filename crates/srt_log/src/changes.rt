@@ -41,12 +41,10 @@ pub enum Change {
         /// What it is.
         trouble: Trouble,
     },
-    /// Sessions that opened and ended between the looks, and refused conclusions.
+    /// Sessions that opened and ended between the looks.
     Unseen {
-        /// Sessions that opened, and of which the later look has nothing.
+        /// Their number. The later look has nothing of them.
         opened: u64,
-        /// Conclusions that were refused.
-        refused: u64,
     },
 }
 
@@ -225,7 +223,7 @@ fn opened_in(old: &RouteSnapshot, new: &RouteSnapshot) -> u64
     opened
 }
 
-/// How many sessions opened and ended between the looks, and how many conclusions were refused, if there were any.
+/// How many sessions opened and ended between the looks, if there were any.
 #[tactic(auto, unfolding(crate::specs::Changes::unseen))]
 fn unseen(old: &RouteSnapshot, new: &RouteSnapshot) -> Option<Change>
     ensures { result ≡ unseen old.now new.now }
@@ -234,11 +232,10 @@ fn unseen(old: &RouteSnapshot, new: &RouteSnapshot) -> Option<Change>
         .opened
         .saturating_sub(old.opened)
         .saturating_sub(opened_in(old, new));
-    let refused = new.refused.saturating_sub(old.refused);
-    if opened == 0 && refused == 0 {
+    if opened == 0 {
         return None;
     }
-    Some(Change::Unseen { opened, refused })
+    Some(Change::Unseen { opened })
 }
 
 /// What changed at a route between two looks, in this one of the [`STEPS`] steps; None if nothing did, or if there is no

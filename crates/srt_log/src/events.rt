@@ -142,14 +142,12 @@ pub enum LogEvent<'a> {
         /// Those whose address had as many open sessions as `sessions_per_address` allows.
         per_address: u64,
     },
-    /// Sessions that opened and ended on a route between two looks, and refused conclusions: only their numbers are known.
+    /// Sessions opened and ended on a route between two looks: only their number is known.
     Unseen {
         /// The route's name.
         route: &'a [u8],
-        /// Sessions that opened and ended.
+        /// Their number.
         opened: u64,
-        /// Conclusions that were refused.
-        refused: u64,
     },
     /// Something that concerns a configuration that was changed while the gateway runs.
     Config {

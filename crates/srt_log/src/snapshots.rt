@@ -58,6 +58,4 @@ pub struct RouteSnapshot {
     pub slots: [Option<SessionSnapshot>; SLOTS],
     /// The sessions that were opened so far.
     pub opened: u64,
-    /// The conclusions that were refused so far.
-    pub refused: u64,
 }

@@ -122,10 +122,6 @@ pub fn event_of<'a>(
             let session = session_at(new, slot)?;
             Some(troubled_event(route, &session, trouble))
         }
-        Change::Unseen { opened, refused } => Some(LogEvent::Unseen {
-            route,
-            opened,
-            refused,
-        }),
+        Change::Unseen { opened } => Some(LogEvent::Unseen { route, opened }),
     }
 }

@@ -301,9 +301,8 @@ fn lines_of_what_came_and_went(rt: HostRuntime) -> Result<(), Fail> {
         LogEvent::Unseen {
             route: b"studio",
             opened: 3,
-            refused: 12,
         },
-        "studio: 3 sessions opened and ended unseen, 12 conclusions refused\n",
+        "studio: 3 sessions opened and ended unseen\n",
     )?;
     assert_line(
         &rt,
@@ -541,7 +540,6 @@ fn route(
     first: Option<SessionSnapshot>,
     last: Option<SessionSnapshot>,
     opened: u64,
-    refused: u64,
 ) -> RouteSnapshot {
     let mut slots = [None; SLOTS];
     slots[0] = first;
@@ -550,7 +548,6 @@ fn route(
         moment: 4_000_007,
         slots,
         opened,
-        refused,
     }
 }
 
@@ -568,10 +565,10 @@ fn assert_changes(rt: &impl Abort, old: &RouteSnapshot, new: &RouteSnapshot, wan
 
 #[test]
 fn openings_ends_and_a_take_over(rt: HostRuntime) {
-    let none = route(None, None, 0, 0);
-    let one = route(Some(session(1, true)), None, 1, 0);
-    let two = route(Some(session(1, true)), Some(session(2, false)), 2, 0);
-    let over = route(Some(ended(1)), Some(session(2, true)), 2, 0);
+    let none = route(None, None, 0);
+    let one = route(Some(session(1, true)), None, 1);
+    let two = route(Some(session(1, true)), Some(session(2, false)), 2);
+    let over = route(Some(ended(1)), Some(session(2, true)), 2);
     assert_changes(&rt, &none, &one, &[Change::Opened { slot: 0 }]);
     assert_changes(&rt, &one, &two, &[Change::Opened { slot: 16 }]);
     assert_changes(
@@ -596,9 +593,9 @@ fn troubled(misdirected: u64, full_window: u64, late: u64) -> SessionSnapshot {
 
 #[test]
 fn a_trouble_is_told_the_first_time(rt: HostRuntime) {
-    let none = route(Some(troubled(0, 0, 0)), None, 1, 0);
-    let some = route(Some(troubled(9, 0, 1)), None, 1, 0);
-    let more = route(Some(troubled(10, 2, 1)), None, 1, 0);
+    let none = route(Some(troubled(0, 0, 0)), None, 1);
+    let some = route(Some(troubled(9, 0, 1)), None, 1);
+    let more = route(Some(troubled(10, 2, 1)), None, 1);
     let misdirected = Change::Troubled {
         slot: 0,
         trouble: Trouble::Misdirected,
@@ -618,31 +615,31 @@ fn a_trouble_is_told_the_first_time(rt: HostRuntime) {
 
 #[test]
 fn lines_of_troubles(rt: HostRuntime) -> Result<(), Fail> {
-    let none = route(Some(troubled(0, 0, 0)), None, 1, 0);
+    let none = route(Some(troubled(0, 0, 0)), None, 1);
     assert_told(
         &rt,
         &none,
-        &route(Some(troubled(1, 0, 0)), None, 1, 0),
+        &route(Some(troubled(1, 0, 0)), None, 1),
         "studio: publisher 192.0.2.7:50123 sends data, but has not asked to publish (m=publish), socket 0x00000001\n",
     )?;
     assert_told(
         &rt,
         &none,
-        &route(Some(troubled(0, 1, 0)), None, 1, 0),
+        &route(Some(troubled(0, 1, 0)), None, 1),
         "studio: publisher 192.0.2.7:50123 fills its window and waits, buffer is too small, socket 0x00000001\n",
     )?;
     assert_told(
         &rt,
         &none,
-        &route(Some(troubled(0, 0, 1)), None, 1, 0),
+        &route(Some(troubled(0, 0, 1)), None, 1),
         "studio: publisher 192.0.2.7:50123 sends packets that come too late, socket 0x00000001\n",
     )
 }
 
 #[test]
 fn a_slot_that_was_taken_again(rt: HostRuntime) {
-    let old = route(Some(session(1, true)), None, 1, 0);
-    let new = route(Some(ended(257)), Some(session(2, true)), 3, 0);
+    let old = route(Some(session(1, true)), None, 1);
+    let new = route(Some(ended(257)), Some(session(2, true)), 3);
     assert_changes(
         &rt,
         &old,
@@ -658,19 +655,13 @@ fn a_slot_that_was_taken_again(rt: HostRuntime) {
 
 #[test]
 fn what_came_and_went_is_counted(rt: HostRuntime) {
-    let old = route(None, None, 4, 5);
-    let new = route(Some(session(1, true)), None, 8, 7);
+    let old = route(None, None, 4);
+    let new = route(Some(session(1, true)), None, 8);
     assert_changes(
         &rt,
         &old,
         &new,
-        &[
-            Change::Opened { slot: 0 },
-            Change::Unseen {
-                opened: 3,
-                refused: 2,
-            },
-        ],
+        &[Change::Opened { slot: 0 }, Change::Unseen { opened: 3 }],
     );
     assert!(rt; change_at(&old, &new, STEPS).is_none());
 }
@@ -696,10 +687,10 @@ fn assert_told<R: Abort + AllocGlobal>(
 
 #[test]
 fn lines_of_changes(rt: HostRuntime) -> Result<(), Fail> {
-    let none = route(None, None, 0, 0);
-    let two = route(Some(session(1, true)), Some(session(2, false)), 2, 0);
-    let over = route(Some(ended(1)), Some(session(2, true)), 2, 0);
-    let again = route(Some(session(257, false)), Some(session(2, true)), 3, 1);
+    let none = route(None, None, 0);
+    let two = route(Some(session(1, true)), Some(session(2, false)), 2);
+    let over = route(Some(ended(1)), Some(session(2, true)), 2);
+    let again = route(Some(session(257, false)), Some(session(2, true)), 4);
     assert_told(
         &rt,
         &none,
@@ -721,6 +712,6 @@ studio: publisher 192.0.2.7:50123 took over, socket 0x00000002\n",
         "studio: publisher 192.0.2.7:50123 ended, socket 0x00000001, its slot was taken again, after 4000 ms, 0 packets, 0 bytes, 0 lost, 0 resent\n\
 studio: publisher 192.0.2.7:50123 opened as standby, socket 0x00000101, latency 120 ms\n\
 studio: publisher 192.0.2.7:50123 took over, socket 0x00000002\n\
-studio: 0 sessions opened and ended unseen, 1 conclusions refused\n",
+studio: 1 sessions opened and ended unseen\n",
     )
 }

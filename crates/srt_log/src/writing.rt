@@ -280,15 +280,13 @@ fn put_limited(line: &mut Line, route: &[u8], full: u64, reserved: u64, per_addr
 }
 
 #[tactic(auto, using(crate::proofs::Puts::put_put))]
-fn put_unseen(line: &mut Line, route: &[u8], opened: u64, refused: u64)
-    ensures { line.new.text.items ≡ put line.old.text.items (unseen_text route.now opened refused) }
+fn put_unseen(line: &mut Line, route: &[u8], opened: u64)
+    ensures { line.new.text.items ≡ put line.old.text.items (unseen_text route.now opened) }
 {
     line.put_escaped(route);
     line.put(b": ");
     line.put_number(opened);
-    line.put(b" sessions opened and ended unseen, ");
-    line.put_number(refused);
-    line.put(b" conclusions refused");
+    line.put(b" sessions opened and ended unseen");
 }
 
 /// The text of a start without blocked signals.
@@ -342,11 +340,7 @@ fn put_event(line: &mut Line, event: LogEvent<'_>)
             reserved,
             per_address,
         } => put_limited(line, route, full, reserved, per_address),
-        LogEvent::Unseen {
-            route,
-            opened,
-            refused,
-        } => put_unseen(line, route, opened, refused),
+        LogEvent::Unseen { route, opened } => put_unseen(line, route, opened),
         LogEvent::Config { event } => put_config(line, event),
         LogEvent::Unblocked => line.put(UNBLOCKED),
         LogEvent::Warned { warning } => line.put_escaped(warning),

@@ -124,8 +124,8 @@ fn slot_of(
     }
 }
 
-/// A route at a moment, in microseconds. `stops`: the gateway is about to end, and that closed the route. Refusals are
-/// told one by one, and not by looks.
+/// Returns a snapshot of a route at this time, in microseconds. `stops`: the gateway is about to end, and that closed the
+/// route.
 pub(crate) fn look_at(route: &Route, moment: u64, stops: bool) -> RouteSnapshot {
     let mut slots = [None; SLOTS];
     for slot in 0..SLOTS {
@@ -135,7 +135,6 @@ pub(crate) fn look_at(route: &Route, moment: u64, stops: bool) -> RouteSnapshot 
         moment,
         slots,
         opened: route.opened(),
-        refused: 0,
     }
 }
 
@@ -145,6 +144,5 @@ pub(crate) fn look_at_none() -> RouteSnapshot {
         moment: 0,
         slots: [None; SLOTS],
         opened: 0,
-        refused: 0,
     }
 }

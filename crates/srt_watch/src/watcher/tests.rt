@@ -393,7 +393,7 @@ fn what_came_and_went_between_two_looks(rt: HostRuntime) -> Result<(), Fail> {
     assert_lines(
         &rt,
         &mut watcher,
-        "studio: publisher 127.0.0.1:5000 opened, socket 0x00100200, latency 120 ms\nstudio: publisher 127.0.0.1:5000 ended, socket 0x00100200, its peer sent a SHUTDOWN, after 1 ms, 0 packets, 0 bytes, 0 lost, 0 resent\nstudio: 2 sessions opened and ended unseen, 0 conclusions refused\n",
+        "studio: publisher 127.0.0.1:5000 opened, socket 0x00100200, latency 120 ms\nstudio: publisher 127.0.0.1:5000 ended, socket 0x00100200, its peer sent a SHUTDOWN, after 1 ms, 0 packets, 0 bytes, 0 lost, 0 resent\nstudio: 2 sessions opened and ended unseen\n",
     );
     Ok(())
 }
