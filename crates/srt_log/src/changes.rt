@@ -5,7 +5,8 @@ ghost use Rattle.srt_log.specs.Changes.{is_same, is_open, is_active, is_new, end
 ghost use Rattle.srt_log.specs.Changes.{has_trouble, trouble_at, troubled_at, opened_below, unseen, change_at};
 
 use crate::events::Trouble;
-use crate::snapshots::{RouteSnapshot, SLOTS, SessionSnapshot, Troubles};
+use crate::snapshots::{RouteSnapshot, SessionSnapshot, Troubles};
+use srt_seq::limits::MAX_SESSIONS;
 
 /// The number of steps in which two looks are compared.
 pub const STEPS: usize = 120;
@@ -215,7 +216,7 @@ fn opened_in(old: &RouteSnapshot, new: &RouteSnapshot) -> u64
     ensures { result ≡ opened_below 17 old.now.slots new.now.slots }
 {
     let mut opened = 0u64;
-    for slot in 0..SLOTS {
+    for slot in 0..MAX_SESSIONS {
         if is_new(&old.slots[slot], &new.slots[slot]) {
             opened = opened.saturating_add(1);
         }

@@ -1,10 +1,8 @@
 //! The sessions of a route at one moment.
 
 use crate::events::{EndReason, SessionCounts};
+use srt_seq::limits::MAX_SESSIONS;
 use srt_seq::{Peer, Role};
-
-/// The greatest number of sessions that a route has open at once.
-pub const SLOTS: usize = 17;
 
 /// How a session ended.
 #[derive(Clone, Copy)]
@@ -55,7 +53,7 @@ pub struct RouteSnapshot {
     /// The moment, in microseconds.
     pub moment: u64,
     /// In each slot the session that was opened there last; `None` if there was none.
-    pub slots: [Option<SessionSnapshot>; SLOTS],
+    pub slots: [Option<SessionSnapshot>; MAX_SESSIONS],
     /// The sessions that were opened so far.
     pub opened: u64,
 }

@@ -5,14 +5,15 @@ ghost use Rattle.srt_log.specs.Telling.{session_at, caller_of, stands_by, opened
 
 use crate::changes::Change;
 use crate::events::{Caller, EndReason, LogEvent, Trouble};
-use crate::snapshots::{RouteSnapshot, SLOTS, SessionSnapshot};
+use crate::snapshots::{RouteSnapshot, SessionSnapshot};
+use srt_seq::limits::MAX_SESSIONS;
 use srt_seq::Role;
 
 /// The session in a slot; None if there is none.
 fn session_at(look: &RouteSnapshot, slot: usize) -> Option<SessionSnapshot>
     ensures { result ≡ session_at look.now slot }
 {
-    if slot < SLOTS { look.slots[slot] } else { None }
+    if slot < MAX_SESSIONS { look.slots[slot] } else { None }
 }
 
 /// A session as a line names it.

@@ -1,10 +1,12 @@
 //! Lines as a person reads them, the limit over moments, and what comes between looks.
 
 use crate::{
-    Caller, Change, CloseCause, ConfigEvent, DifferingKeys, EndReason, LineLimit, LogEvent,
-    RouteNumbers, RouteSnapshot, SLOTS, STEPS, SessionCounts, SessionEnd, SessionSnapshot,
-    StopCause, Trouble, Troubles, change_at, event_of, write_line,
+    Caller, Change, ChangeSummary, CloseCause, ConfigEvent, EndReason, LineLimit, LogEvent,
+    RouteSnapshot, STEPS, SessionCounts, SessionEnd, SessionSnapshot, StopCause, Trouble, Troubles,
+    change_at, event_of, write_line,
 };
+use srt_config::FixedKeys;
+use srt_seq::limits::MAX_SESSIONS;
 use srt_seq::{NotAdmitted, Peer, Role};
 use std::process::Abort;
 use std::test::Fail;
@@ -331,7 +333,7 @@ fn assert_config_line<R: Abort + AllocGlobal>(
 
 #[test]
 fn lines_of_a_change_that_is_taken(rt: HostRuntime) -> Result<(), Fail> {
-    let routes = RouteNumbers {
+    let routes = ChangeSummary {
         staying: 14,
         opening: 2,
         closing: 1,
@@ -376,7 +378,7 @@ fn assert_differing<R: Abort + AllocGlobal>(
     line: &str,
 ) -> Result<(), Fail> {
     let [bind, workers, status, secret] = differing;
-    let keys = DifferingKeys {
+    let keys = FixedKeys {
         bind,
         workers,
         status,
@@ -541,7 +543,7 @@ fn route(
     last: Option<SessionSnapshot>,
     opened: u64,
 ) -> RouteSnapshot {
-    let mut slots = [None; SLOTS];
+    let mut slots = [None; MAX_SESSIONS];
     slots[0] = first;
     slots[16] = last;
     RouteSnapshot {
@@ -661,7 +663,10 @@ fn what_came_and_went_is_counted(rt: HostRuntime) {
         &rt,
         &old,
         &new,
-        &[Change::Opened { slot: 0 }, Change::Unseen { opened: 3 }],
+        &[
+            Change::Opened { slot: 0 },
+            Change::Unseen { opened: 3 },
+        ],
     );
     assert!(rt; change_at(&old, &new, STEPS).is_none());
 }

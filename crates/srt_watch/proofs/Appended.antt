@@ -5,7 +5,7 @@ use Rattle.std.specs.List.{flat_map}
 use Rattle.srt_seq.specs.declared.shared.Entry.{Entry}
 use Rattle.srt_seq.specs.Terms.{Terms, terms_of}
 use Rattle.srt_config.specs.declared.changes.RouteChange.{RouteChange}
-use Rattle.srt_log.specs.declared.config_events.RouteNumbers.{RouteNumbers}
+use Rattle.srt_log.specs.declared.config_events.ChangeSummary.{ChangeSummary}
 use Rattle.srt_watch.specs.Indexes.{index_of, next_after, indexes_from, counted, counted_all}
 use Rattle.srt_watch.specs.Requests.{opened_at, opened_by, first_indexes}
 
@@ -32,12 +32,12 @@ pub indexes_end : (before : List ℕ) (next : ℕ) (changes : List RouteChange) 
 indexes_end before next [] none = refl
 indexes_end before next (x ∷ changes) none = cc
 
-pub counted_step : (n : RouteNumbers) (changes : List RouteChange) (change : RouteChange) → 0 < length changes →
+pub counted_step : (n : ChangeSummary) (changes : List RouteChange) (change : RouteChange) → 0 < length changes →
     counted_all n changes ≡ counted_all (counted n (get_or changes 0 change)) (drop 1 changes)
 counted_step n [] change some = absurd (omega arith)
 counted_step n (x ∷ changes) change some = refl
 
-pub counted_end : (n : RouteNumbers) (changes : List RouteChange) → length changes ≡ 0 → counted_all n changes ≡ n
+pub counted_end : (n : ChangeSummary) (changes : List RouteChange) → length changes ≡ 0 → counted_all n changes ≡ n
 counted_end n [] none = refl
 counted_end n (x ∷ changes) none = cc
 

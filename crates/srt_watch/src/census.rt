@@ -7,10 +7,11 @@ ghost use Rattle.srt_watch.specs.Census.{with_cause, grown_limits};
 use crate::showing::latency_of;
 use srt_hs::RefusalCode;
 use srt_route::{Route, SessionView, Totals, Traffic};
+use srt_seq::limits::MAX_SESSIONS;
 use srt_seq::{NotAdmitted, Role};
 use srt_status::{
     CauseCounts, Flow, LimitCounts, PublisherCounts, PublisherStatus, RefusalCounts, RouteStatus,
-    SLOTS, SessionStatus, SubscriberCounts, SubscriberStatus,
+    SessionStatus, SubscriberCounts, SubscriberStatus,
 };
 
 /// What publishers' sessions counted. Repeats are the data packets that are counted under nothing else.
@@ -136,7 +137,7 @@ fn limits_of(route: &Route) -> LimitCounts {
 
 /// Notes what a route shows now. Its name, its mode, the number of sessions allowed and the take-overs stay.
 pub(crate) fn note_route(route: &Route, status: &mut RouteStatus) {
-    for slot in 0..SLOTS {
+    for slot in 0..MAX_SESSIONS {
         status.sessions[slot] = slot_status(route.session(slot));
     }
     let Totals {

@@ -6,10 +6,8 @@ ghost use Rattle.srt_config.specs.Changes.{asked, asked_by, any_fixed};
 ghost use Rattle.srt_watch.specs.Requests.{config_of, first_indexes};
 
 use crate::config_file::MAX_REASON;
-use crate::indexes::differing;
-use srt_config::{Changes, Config, changes_between};
+use srt_config::{Changes, Config, FixedKeys, changes_between};
 use srt_explain::explain;
-use srt_log::DifferingKeys;
 use std::alloc::{AllocError, Global};
 use std::fmt::InlineText;
 
@@ -29,7 +27,7 @@ pub(crate) enum NotTaken {
     /// It has this fault.
     Wrong(InlineText<MAX_REASON>),
     /// Keys differ that can't change.
-    KeysDiffer(DifferingKeys),
+    KeysDiffer(FixedKeys),
 }
 
 /// The configuration in force.
@@ -100,9 +98,7 @@ impl<'a> InForce<'a> {
             Err(explanation) => return Err(NotTaken::Wrong(InlineText::of(explanation))),
         };
         match changes_between(alloc, self.config(), &config) {
-            Ok(changes) if changes.fixed.any() => {
-                Err(NotTaken::KeysDiffer(differing(changes.fixed)))
-            }
+            Ok(changes) if changes.fixed.any() => Err(NotTaken::KeysDiffer(changes.fixed)),
             Ok(changes) => Ok(Wanted { config, changes }),
             Err(_) => Err(NotTaken::Wrong(InlineText::of("memory was refused"))),
         }

@@ -5,10 +5,10 @@ ghost use Rattle.std.specs.Prelude.{◌≡◌, ◌≤◌, [], ◌++◌, IfOk, On
 ghost use Rattle.std.specs.List.{flat_map};
 ghost use Rattle.srt_seq.specs.Terms.{terms_of};
 ghost use Rattle.srt_watch.specs.Indexes.{index_at, reopened_at, closing, index_of, next_after, indexes_from};
-ghost use Rattle.srt_watch.specs.Indexes.{opens, counted, counted_all, numbers_of, changes_nothing, mark_of, reaches_mark, megabytes_of, differing};
+ghost use Rattle.srt_watch.specs.Indexes.{opens, counted, counted_all, numbers_of, changes_nothing, mark_of, reaches_mark, megabytes_of};
 
-use srt_config::{Changes, FixedKeys, RouteChange};
-use srt_log::{DifferingKeys, RouteNumbers};
+use srt_config::{Changes, RouteChange};
+use srt_log::ChangeSummary;
 use srt_seq::Entry;
 use std::alloc::{AllocError, Global};
 
@@ -140,19 +140,19 @@ pub(crate) fn fill_indexes(
 }
 
 // The numbers with one route more.
-fn counted(numbers: RouteNumbers, change: RouteChange) -> RouteNumbers
+fn counted(numbers: ChangeSummary, change: RouteChange) -> ChangeSummary
     ensures { result ≡ counted numbers change }
 {
     match change {
-        RouteChange::Stays(_) => RouteNumbers {
+        RouteChange::Stays(_) => ChangeSummary {
             staying: numbers.staying.saturating_add(1),
             ..numbers
         },
-        RouteChange::Reopens(_) => RouteNumbers {
+        RouteChange::Reopens(_) => ChangeSummary {
             changing: numbers.changing.saturating_add(1),
             ..numbers
         },
-        RouteChange::Opens => RouteNumbers {
+        RouteChange::Opens => ChangeSummary {
             opening: numbers.opening.saturating_add(1),
             ..numbers
         },
@@ -161,7 +161,7 @@ fn counted(numbers: RouteNumbers, change: RouteChange) -> RouteNumbers
 
 // These numbers with all of these routes.
 #[tactic(auto, using(crate::proofs::Appended::counted_step, crate::proofs::Appended::counted_end))]
-fn counted_all(start: RouteNumbers, changes: &[RouteChange]) -> RouteNumbers
+fn counted_all(start: ChangeSummary, changes: &[RouteChange]) -> ChangeSummary
     ensures { result ≡ counted_all start changes.now }
 {
     let mut numbers = start;
@@ -174,10 +174,10 @@ fn counted_all(start: RouteNumbers, changes: &[RouteChange]) -> RouteNumbers
 }
 
 /// How many routes of each kind a changed configuration has.
-pub(crate) fn numbers_of(changes: &Changes) -> RouteNumbers
+pub(crate) fn numbers_of(changes: &Changes) -> ChangeSummary
     ensures { result ≡ numbers_of changes.now.gone.items changes.now.routes.items }
 {
-    let start = RouteNumbers {
+    let start = ChangeSummary {
         staying: 0,
         opening: 0,
         closing: changes.gone.len() as u64,
@@ -187,22 +187,10 @@ pub(crate) fn numbers_of(changes: &Changes) -> RouteNumbers
 }
 
 /// Whether no route opens or closes: the configuration has the same routes, perhaps in another order.
-pub(crate) fn changes_nothing(numbers: RouteNumbers) -> bool
+pub(crate) fn changes_nothing(numbers: ChangeSummary) -> bool
     ensures { result ≡ changes_nothing numbers }
 {
     numbers.opening == 0 && numbers.closing == 0 && numbers.changing == 0
-}
-
-/// The keys of a configuration that can't change and differ, as the log names them.
-pub(crate) fn differing(fixed: FixedKeys) -> DifferingKeys
-    ensures { result ≡ differing fixed }
-{
-    DifferingKeys {
-        bind: fixed.bind,
-        workers: fixed.workers,
-        status: fixed.status,
-        secret: fixed.secret,
-    }
 }
 
 /// The used indexes from which on the log warns that few are left, and after how many more it does so again.

@@ -9,7 +9,7 @@ use crate::in_force::{InForce, Wanted};
 use crate::indexes::{changes_nothing, closing, fill_indexes, numbers_of, opens};
 use crate::watched_routes::{OpeningRoute, WatchedRoutes};
 use srt_config::{Changes, Config, RouteChange};
-use srt_log::RouteNumbers;
+use srt_log::ChangeSummary;
 use srt_seq::Entry;
 use srt_status::RouteStatus;
 use srt_supervision::RouteChanges;
@@ -138,7 +138,7 @@ impl Room {
 /// A change that the run can be requested to make. To put its configuration in force allocates nothing.
 #[derive(Drop)]
 pub(crate) struct PreparedChange {
-    numbers: RouteNumbers,
+    numbers: ChangeSummary,
     room: Room,
     wanted: Wanted,
     ghost empty: { (room.indexes.items ≡ []) × (vec_len room.indexes ≡ 0) },
@@ -188,7 +188,7 @@ impl PreparedChange {
     }
 
     /// The number of routes of each kind.
-    pub(crate) fn numbers(&self) -> RouteNumbers {
+    pub(crate) fn numbers(&self) -> ChangeSummary {
         self.numbers
     }
 

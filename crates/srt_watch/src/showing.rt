@@ -3,10 +3,9 @@
 ghost use Rattle.std.specs.Prelude.{◌≡◌};
 ghost use Rattle.srt_watch.specs.Showing.{reason_of, counts_of, troubles_of, latency_of, look_of, end_of, slot_of};
 
-use srt_log::{
-    EndReason, RouteSnapshot, SLOTS, SessionCounts, SessionEnd, SessionSnapshot, Troubles,
-};
+use srt_log::{EndReason, RouteSnapshot, SessionCounts, SessionEnd, SessionSnapshot, Troubles};
 use srt_route::{EndCause, EndedSession, Route, SessionView, Traffic};
+use srt_seq::limits::MAX_SESSIONS;
 
 /// Why a session ended, for a log.
 fn reason_of(stops: bool, cause: EndCause) -> EndReason
@@ -127,8 +126,8 @@ fn slot_of(
 /// Returns a snapshot of a route at this time, in microseconds. `stops`: the gateway is about to end, and that closed the
 /// route.
 pub(crate) fn look_at(route: &Route, moment: u64, stops: bool) -> RouteSnapshot {
-    let mut slots = [None; SLOTS];
-    for slot in 0..SLOTS {
+    let mut slots = [None; MAX_SESSIONS];
+    for slot in 0..MAX_SESSIONS {
         slots[slot] = slot_of(stops, route.session(slot), route.ended(slot));
     }
     RouteSnapshot {
@@ -142,7 +141,7 @@ pub(crate) fn look_at(route: &Route, moment: u64, stops: bool) -> RouteSnapshot 
 pub(crate) fn look_at_none() -> RouteSnapshot {
     RouteSnapshot {
         moment: 0,
-        slots: [None; SLOTS],
+        slots: [None; MAX_SESSIONS],
         opened: 0,
     }
 }

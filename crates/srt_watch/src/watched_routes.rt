@@ -5,6 +5,7 @@ use crate::showing::{look_at, look_at_none};
 use srt_config::RouteChange;
 use srt_log::RouteSnapshot;
 use srt_route::Route;
+use srt_seq::limits::MAX_SESSIONS;
 use srt_seq::{Entry, Mode};
 use srt_status::{LimitCounts, PublisherCounts, RefusalCounts, RouteStatus, SubscriberCounts};
 use std::alloc::{AllocError, Global};
@@ -60,7 +61,7 @@ fn empty_status(alloc: Global, mode: Mode, sessions: u32) -> RouteStatus {
         name: String::new(alloc),
         mode,
         sessions_allowed: sessions,
-        sessions: [None; srt_status::SLOTS],
+        sessions: [None; MAX_SESSIONS],
         publishers: PublisherCounts::default(),
         subscribers: SubscriberCounts::default(),
         opened: 0,
