@@ -1,11 +1,13 @@
 //! What changed at a route between two looks.
 
 ghost use Rattle.std.specs.Prelude.{◌≡◌};
-ghost use Rattle.srt_log.specs.Changes.{is_same, is_open, is_active, is_new, ended_at, opened_at, ended_at_once, took_over_at, count_of};
+ghost use Rattle.srt_log.specs.Changes.{is_same_view, is_same, is_open, is_active, is_new, ended_at, opened_at, ended_at_once, took_over_at};
+ghost use Rattle.srt_log.specs.Snapshots.{received_trouble, sent_trouble, count_of};
 ghost use Rattle.srt_log.specs.Changes.{has_trouble, trouble_at, troubled_at, opened_below, unseen, change_at};
 
 use crate::events::Trouble;
-use crate::snapshots::{RouteSnapshot, SessionSnapshot, Troubles};
+use crate::snapshots::{RouteSnapshot, SlotSession};
+use srt_route::{SessionView, Traffic};
 use srt_seq::limits::MAX_SESSIONS;
 
 /// The number of steps in which two looks are compared.
@@ -49,13 +51,20 @@ pub enum Change {
     },
 }
 
-/// Whether two looks at a slot have the same session.
-fn is_same(old: &Option<SessionSnapshot>, new: &Option<SessionSnapshot>) -> bool
+// Whether these are states of the same session.
+fn is_same_view(old: &SessionView, new: &SessionView) -> bool
+    ensures { result ≡ is_same_view old.now new.now }
+{
+    old.id == new.id && old.opened == new.opened
+}
+
+/// Whether two snapshots of a slot have the same session.
+fn is_same(old: &Option<SlotSession>, new: &Option<SlotSession>) -> bool
     ensures { result ≡ is_same old.now new.now }
 {
     match old {
         Some(old) => match new {
-            Some(new) => old.id == new.id && old.opened_at == new.opened_at,
+            Some(new) => is_same_view(old.view(), new.view()),
             None => false,
         },
         None => false,
@@ -63,38 +72,35 @@ fn is_same(old: &Option<SessionSnapshot>, new: &Option<SessionSnapshot>) -> bool
 }
 
 /// Whether a slot has an open session.
-fn is_open(look: &Option<SessionSnapshot>) -> bool
+fn is_open(look: &Option<SlotSession>) -> bool
     ensures { result ≡ is_open look.now }
 {
     match look {
-        Some(session) => session.end.is_none(),
+        Some(SlotSession::Open(_)) => true,
+        Some(SlotSession::Ended(_)) => false,
         None => false,
     }
 }
 
 /// Whether the session of a slot is the active publisher.
-fn is_active(look: &Option<SessionSnapshot>) -> bool
+fn is_active(look: &Option<SlotSession>) -> bool
     ensures { result ≡ is_active look.now }
 {
     match look {
-        Some(session) => session.active,
+        Some(session) => session.view().is_active,
         None => false,
     }
 }
 
 /// Whether the later look at a slot has a session that the earlier one hasn't.
-fn is_new(old: &Option<SessionSnapshot>, new: &Option<SessionSnapshot>) -> bool
+fn is_new(old: &Option<SlotSession>, new: &Option<SlotSession>) -> bool
     ensures { result ≡ is_new old.now new.now }
 {
     new.is_some() && !is_same(old, new)
 }
 
 /// The end of the session that was open in a slot.
-fn ended_at(
-    slot: usize,
-    old: &Option<SessionSnapshot>,
-    new: &Option<SessionSnapshot>,
-) -> Option<Change>
+fn ended_at(slot: usize, old: &Option<SlotSession>, new: &Option<SlotSession>) -> Option<Change>
     ensures { result ≡ ended_at slot old.now new.now }
 {
     if !is_open(old) {
@@ -111,11 +117,7 @@ fn ended_at(
 }
 
 /// The opening of a session in a slot.
-fn opened_at(
-    slot: usize,
-    old: &Option<SessionSnapshot>,
-    new: &Option<SessionSnapshot>,
-) -> Option<Change>
+fn opened_at(slot: usize, old: &Option<SlotSession>, new: &Option<SlotSession>) -> Option<Change>
     ensures { result ≡ opened_at slot old.now new.now }
 {
     if is_new(old, new) {
@@ -128,8 +130,8 @@ fn opened_at(
 /// The end of a session that opened in a slot since the earlier look.
 fn ended_at_once(
     slot: usize,
-    old: &Option<SessionSnapshot>,
-    new: &Option<SessionSnapshot>,
+    old: &Option<SlotSession>,
+    new: &Option<SlotSession>,
 ) -> Option<Change>
     ensures { result ≡ ended_at_once slot old.now new.now }
 {
@@ -144,11 +146,7 @@ fn ended_at_once(
 }
 
 /// The take-over by the publisher of a slot.
-fn took_over_at(
-    slot: usize,
-    old: &Option<SessionSnapshot>,
-    new: &Option<SessionSnapshot>,
-) -> Option<Change>
+fn took_over_at(slot: usize, old: &Option<SlotSession>, new: &Option<SlotSession>) -> Option<Change>
     ensures { result ≡ took_over_at slot old.now new.now }
 {
     if !is_same(old, new) {
@@ -160,23 +158,44 @@ fn took_over_at(
     Some(Change::TookOver { slot })
 }
 
-/// How often this was wrong.
-fn count_of(trouble: Trouble, troubles: &Troubles) -> u64
-    ensures { result ≡ count_of trouble troubles.now }
+// Returns how often this was wrong with a publisher's stream. Packets that arrived after their place was passed are too late
+// if as many numbers were given up. Otherwise they were sent again though they had arrived.
+fn received_trouble(trouble: Trouble, counts: &srt_pub::Counts) -> u64
+    ensures { result ≡ received_trouble trouble counts.now.full_windows counts.now.late counts.now.given_up }
 {
     match trouble {
-        Trouble::Misdirected => troubles.misdirected,
-        Trouble::FullWindow => troubles.full_window,
-        Trouble::LatePackets => troubles.late,
+        Trouble::Misdirected => 0,
+        Trouble::FullWindow => counts.full_windows,
+        Trouble::LatePackets => counts.late.min(counts.given_up),
+    }
+}
+
+// Returns how often this was wrong with a subscriber's stream.
+fn sent_trouble(trouble: Trouble, misdirected: u64) -> u64
+    ensures { result ≡ sent_trouble trouble misdirected }
+{
+    match trouble {
+        Trouble::Misdirected => misdirected,
+        Trouble::FullWindow | Trouble::LatePackets => 0,
+    }
+}
+
+// Returns how often this was wrong with a session's stream since its opening. Never decreases.
+fn count_of(trouble: Trouble, traffic: &Traffic) -> u64
+    ensures { result ≡ count_of trouble traffic.now }
+{
+    match traffic {
+        Traffic::Received(statistics) => received_trouble(trouble, &statistics.counts),
+        Traffic::Sent(statistics) => sent_trouble(trouble, statistics.counts.misdirected),
     }
 }
 
 /// Whether this was wrong with the session of a slot.
-fn has_trouble(trouble: Trouble, look: &Option<SessionSnapshot>) -> bool
+fn has_trouble(trouble: Trouble, look: &Option<SlotSession>) -> bool
     ensures { result ≡ has_trouble trouble look.now }
 {
     match look {
-        Some(session) => count_of(trouble, &session.troubles) != 0,
+        Some(session) => count_of(trouble, &session.view().traffic) != 0,
         None => false,
     }
 }
@@ -196,8 +215,8 @@ fn trouble_at(step: usize) -> Trouble
 fn troubled_at(
     slot: usize,
     trouble: Trouble,
-    old: &Option<SessionSnapshot>,
-    new: &Option<SessionSnapshot>,
+    old: &Option<SlotSession>,
+    new: &Option<SlotSession>,
 ) -> Option<Change>
     ensures { result ≡ troubled_at slot trouble old.now new.now }
 {

@@ -30,7 +30,7 @@ pub use changes::{Change, STEPS, change_at};
 pub use config_events::{ChangeSummary, CloseCause, ConfigEvent};
 pub use events::{Caller, EndReason, LogEvent, SessionCounts, StopCause, Trouble};
 pub use limit::{LineAllowance, LineLimit};
-pub use snapshots::{RouteSnapshot, SessionEnd, SessionSnapshot, Troubles};
+pub use snapshots::{RouteSnapshot, SlotSession, slot_of};
 pub use telling::event_of;
 pub use writing::write_line;
 

@@ -1,29 +1,6 @@
-//! What is known of the gateway as a whole.
+//! The state of the gateway as a whole, as the page shows it.
 
-/// How many datagrams the gateway's poller counted since the start. Each count stops at 2^64 - 1.
-#[derive(Clone, Copy, Default)]
-pub struct PollerCounts {
-    /// Datagrams that were read.
-    pub read: u64,
-    /// Of these, those that the lobby answered.
-    pub answered: u64,
-    /// Of these, those that their route's inbox accepted.
-    pub accepted: u64,
-    /// Of these, those for a route whose inbox was full.
-    pub full: u64,
-    /// Of these, those that the lobby dropped.
-    pub dropped: u64,
-    /// Of those that were dropped, those to a route from an address in none of its lists.
-    pub not_allowed: u64,
-    /// Of these, those for a route for whose copy memory was refused.
-    pub memory: u64,
-    /// Answers and replies that the socket took.
-    pub sent: u64,
-    /// Answers and replies that it didn't take.
-    pub lost: u64,
-    /// Failed waits, reads and sends.
-    pub faults: u64,
-}
+use srt_supervision::Report;
 
 /// How many conclusions were refused, by the reason (draft-sharabayko-srt-01, section 4.3, table 7). The numbers and
 /// names are those of `srt_hs::RefusalCode`.
@@ -88,8 +65,8 @@ pub struct GatewayStatus<'a> {
     pub routes: u32,
     /// Whether the poller made a round within the last two seconds.
     pub polling: bool,
-    /// What the poller counted.
-    pub poller: PollerCounts,
+    /// The poller's counters.
+    pub poller: Report,
     /// The conclusions that were refused before they belonged to a route.
     pub refused: RefusalCounts,
     /// Those of them that were refused with 1002.

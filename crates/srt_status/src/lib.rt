@@ -25,16 +25,13 @@ mod routes;
 mod text;
 
 pub use connection::{Connection, PATIENCE};
-pub use gateway::{CauseCounts, ChangeCounts, GatewayStatus, PollerCounts, RefusalCounts};
+pub use gateway::{CauseCounts, ChangeCounts, GatewayStatus, RefusalCounts};
 pub use json::put_json;
 pub use metrics::put_metrics;
 pub use overview::OVERVIEW;
 pub use request::{MAX_REQUEST, Method, Page, Request, request_in};
 pub use response::respond;
-pub use routes::{
-    Flow, LimitCounts, PublisherCounts, PublisherStatus, RouteStatus, SLOTS, SessionStatus,
-    SubscriberCounts, SubscriberStatus,
-};
+pub use routes::{LimitCounts, RouteStatus};
 
 #[cfg(test)]
 mod tests;
