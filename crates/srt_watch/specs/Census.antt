@@ -3,7 +3,7 @@ use Rattle.std.specs.Prelude.{ℕ, ◌+◌, ◌-◌, ◌^◌, ◌==◌, ◌&&◌
 use Rattle.srt_seq.specs.declared.shared.Role.TheVariants.{Publish, Request}
 use Rattle.srt_seq.specs.declared.shared.NotAdmitted.{NotAdmitted}
 use Rattle.srt_seq.specs.declared.shared.NotAdmitted.TheVariants.{NoName, UnknownName, Address, Key}
-use Rattle.srt_hs.specs.declared.refusals.RefusalCode.TheVariants as codes
+use Rattle.srt_hs.specs.declared.refusals.RefusalCode.TheVariants as reasons
 use Rattle.srt_route.specs.declared.route.Route.{Route}
 use Rattle.srt_route.specs.declared.refusals.RefusalCause.TheVariants as causes
 use Rattle.srt_route.specs.Ledgers.{refused_in, refused_of}
@@ -14,14 +14,14 @@ use Rattle.srt_status.specs.declared.routes.LimitCounts.{LimitCounts}
 -- the conclusions that a route refused, by their codes, and by the limits of the route
 abbrev pub refusals_of : Route → RefusalCounts
 refusals_of route = record {
-  peer = refused_in codes.Peer route;
-  resource = refused_in codes.Resource route;
-  rogue = refused_in codes.Rogue route;
-  version = refused_in codes.Version route;
-  unsecure = refused_in codes.Unsecure route;
-  message_api = refused_in codes.MessageApi route;
-  filter = refused_in codes.Filter route;
-  group = refused_in codes.Group route;
+  peer = refused_in reasons.Peer route;
+  resource = refused_in reasons.Resource route;
+  rogue = refused_in reasons.Rogue route;
+  version = refused_in reasons.Version route;
+  unsecure = refused_in reasons.Unsecure route;
+  message_api = refused_in reasons.MessageApi route;
+  filter = refused_in reasons.Filter route;
+  group = refused_in reasons.Group route;
 }
 
 abbrev pub limits_of : Route → LimitCounts
