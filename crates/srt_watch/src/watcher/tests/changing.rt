@@ -269,7 +269,7 @@ fn a_route_that_opens_has_its_list_and_its_key(rt: HostRuntime) -> Result<(), Fa
     let Some(change) = next_change(&mut watcher, Ok(1)) else {
         return Err(Fail::from("a change"));
     };
-    assert_eq!(rt; change.closes.as_slice(), &[0]);
+    assert_eq!(rt; change.closes.first().copied(), Some(0));
     let Some(entry) = change.opens.first() else {
         return Err(Fail::from("a route that opens"));
     };
