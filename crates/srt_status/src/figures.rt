@@ -563,7 +563,7 @@ pub(crate) fn refusal_count(reason: Reason, counts: &RefusalCounts) -> u64
     }
 }
 
-/// What is shown of a route beside what its sessions count.
+/// The metrics of a route that aren't counted by its sessions.
 #[derive(Clone, Copy)]
 pub(crate) enum RouteFigure {
     Allowed,
@@ -574,7 +574,7 @@ pub(crate) enum RouteFigure {
     RefusedAddress,
 }
 
-/// All that is shown of a route beside what its sessions count, in its order.
+/// All metrics of a route that aren't counted by its sessions, in the order in which they are shown.
 pub(crate) const ROUTE_FIGURES: [RouteFigure; 6] = [
     RouteFigure::Allowed,
     RouteFigure::Opened,

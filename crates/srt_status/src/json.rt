@@ -271,7 +271,7 @@ fn put_session(out: &mut Vec<u8>, moment: u64, session: &SessionView) -> Result<
     put(out, b"}")
 }
 
-/// Puts a comma, unless nothing stands before.
+/// Puts a comma, unless the next item is the first one.
 fn put_comma(out: &mut Vec<u8>, first: bool) -> Result<(), AllocError>
     ensures { OnOk result (out.new.items ≡ out.old.items ++ comma first) }
 {
@@ -297,7 +297,7 @@ fn put_slot(
     }
 }
 
-/// Whether nothing stands before the next slot either.
+/// Whether the next session is the first one, after this slot.
 fn stays_first(first: bool, slot: &Option<SessionView>) -> bool
     ensures { result ≡ (first && is_none slot.now) }
 {
@@ -321,7 +321,7 @@ fn put_slots(
     Ok(())
 }
 
-/// Puts the mode of a route behind its name.
+/// Puts the mode of a route, after its name.
 fn put_mode(out: &mut Vec<u8>, mode: Mode) -> Result<(), AllocError>
     ensures { OnOk result (out.new.items ≡ out.old.items ++ mode_json mode) }
 {
@@ -419,7 +419,7 @@ fn put_route(out: &mut Vec<u8>, moment: u64, route: &RouteStatus) -> Result<(), 
     put(out, b"]}")
 }
 
-/// Puts a route behind another one.
+/// Puts a route that isn't the first one.
 #[tactic(auto, using(crate::proofs::Puts::joined), unfolding(crate::specs::Json::next_route_json))]
 fn put_next_route(out: &mut Vec<u8>, moment: u64, route: &RouteStatus) -> Result<(), AllocError>
     ensures { OnOk result (out.new.items ≡ out.old.items ++ next_route_json moment route.now) }
@@ -428,7 +428,7 @@ fn put_next_route(out: &mut Vec<u8>, moment: u64, route: &RouteStatus) -> Result
     put_route(out, moment, route)
 }
 
-/// Puts routes behind another one.
+/// Puts routes, none of which is the first one.
 #[tactic(auto, using(crate::proofs::Puts::one_more))]
 fn put_next_routes(out: &mut Vec<u8>, moment: u64, routes: &[RouteStatus]) -> Result<(), AllocError>
     ensures { OnOk result (out.new.items ≡ out.old.items ++ flat_map (next_route_json moment) routes.now) }

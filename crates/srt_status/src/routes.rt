@@ -5,21 +5,21 @@ use srt_route::{SessionView, Totals};
 use srt_seq::Mode;
 use srt_seq::limits::MAX_SESSIONS;
 
-/// How many conclusions a route refused with 1003, by what stood against the caller.
+/// The conclusions that a route refused with 1003, by reason.
 #[derive(Clone, Copy, Default)]
 pub struct LimitCounts {
     /// No slot was free.
     pub sessions: u64,
-    /// It asked for a subscriber's session, and the free slots are reserved for publishers.
+    /// It requested a subscriber's session, and the free slots are reserved for publishers.
     pub reserved: u64,
     /// Its address has as many open sessions as `sessions_per_address` allows.
     pub sessions_per_address: u64,
 }
 
-/// A route at one moment.
+/// A route at one time.
 #[derive(Drop)]
 pub struct RouteStatus {
-    /// The name that Stream IDs ask for.
+    /// Its name, as Stream IDs request it.
     pub name: String,
     /// How it delivers payloads.
     pub mode: Mode,
@@ -31,10 +31,10 @@ pub struct RouteStatus {
     pub totals: Totals,
     /// The sessions that were opened since the start.
     pub opened: u64,
-    /// The conclusions that the route refused.
+    /// The conclusions that it refused.
     pub refused: RefusalCounts,
-    /// Those of them that were refused with 1003; None if that isn't known.
+    /// The conclusions that it refused with 1003; None if that isn't known.
     pub limits: Option<LimitCounts>,
-    /// How often a publisher that stood by became the active one; None if it isn't known.
+    /// How often a standby publisher became the active one; None if it isn't known.
     pub take_overs: Option<u64>,
 }
