@@ -1,4 +1,4 @@
-//! What changed at a route between two looks.
+//! What changed at a route between two snapshots.
 
 ghost use Rattle.std.specs.Prelude.{◌≡◌};
 ghost use Rattle.srt_log.specs.Changes.{is_same_view, is_same, is_open, is_active, is_new, ended_at, opened_at, ended_at_once, took_over_at};
@@ -10,29 +10,28 @@ use crate::snapshots::{RouteSnapshot, SlotSession};
 use srt_route::{SessionView, Traffic};
 use srt_seq::limits::MAX_SESSIONS;
 
-/// The number of steps in which two looks are compared.
+/// The number of steps in which two snapshots are compared.
 pub const STEPS: usize = 120;
 
-/// Something that changed between two looks at a route.
+/// A change between two snapshots of a route.
 #[derive(Clone, Copy, PartialEq, Eq)]
 pub enum Change {
-    /// The session that was open in this slot has ended, and another one stands there now: only the earlier look knows
-    /// it.
+    /// The session that was open in this slot has ended, and the slot has another one: only the earlier snapshot has it.
     Gone {
         /// The slot, from 0.
         slot: usize,
     },
-    /// The session in this slot has ended, as the later look has it.
+    /// The session in this slot has ended. The later snapshot has it.
     Ended {
         /// The slot, from 0.
         slot: usize,
     },
-    /// A session opened in this slot, as the later look has it.
+    /// A session opened in this slot. The later snapshot has it.
     Opened {
         /// The slot, from 0.
         slot: usize,
     },
-    /// The publisher in this slot stood by, and is the active one now.
+    /// The standby publisher in this slot is the active one now.
     TookOver {
         /// The slot, from 0.
         slot: usize,
@@ -41,12 +40,12 @@ pub enum Change {
     Troubled {
         /// The slot, from 0.
         slot: usize,
-        /// What it is.
+        /// What is wrong.
         trouble: Trouble,
     },
-    /// Sessions that opened and ended between the looks.
+    /// Sessions opened and ended between the snapshots.
     Unseen {
-        /// Their number. The later look has nothing of them.
+        /// Their number. No snapshot has them.
         opened: u64,
     },
 }
@@ -58,7 +57,7 @@ fn is_same_view(old: &SessionView, new: &SessionView) -> bool
     old.id == new.id && old.opened == new.opened
 }
 
-/// Whether two snapshots of a slot have the same session.
+// Whether two snapshots of a slot have the same session.
 fn is_same(old: &Option<SlotSession>, new: &Option<SlotSession>) -> bool
     ensures { result ≡ is_same old.now new.now }
 {
@@ -71,35 +70,35 @@ fn is_same(old: &Option<SlotSession>, new: &Option<SlotSession>) -> bool
     }
 }
 
-/// Whether a slot has an open session.
-fn is_open(look: &Option<SlotSession>) -> bool
-    ensures { result ≡ is_open look.now }
+// Whether a slot has an open session.
+fn is_open(slot: &Option<SlotSession>) -> bool
+    ensures { result ≡ is_open slot.now }
 {
-    match look {
+    match slot {
         Some(SlotSession::Open(_)) => true,
         Some(SlotSession::Ended(_)) => false,
         None => false,
     }
 }
 
-/// Whether the session of a slot is the active publisher.
-fn is_active(look: &Option<SlotSession>) -> bool
-    ensures { result ≡ is_active look.now }
+// Whether the session of a slot is the active publisher.
+fn is_active(slot: &Option<SlotSession>) -> bool
+    ensures { result ≡ is_active slot.now }
 {
-    match look {
+    match slot {
         Some(session) => session.view().is_active,
         None => false,
     }
 }
 
-/// Whether the later look at a slot has a session that the earlier one hasn't.
+// Whether the later snapshot of a slot has a session that the earlier one hasn't.
 fn is_new(old: &Option<SlotSession>, new: &Option<SlotSession>) -> bool
     ensures { result ≡ is_new old.now new.now }
 {
     new.is_some() && !is_same(old, new)
 }
 
-/// The end of the session that was open in a slot.
+// Returns the end of the session that was open in a slot.
 fn ended_at(slot: usize, old: &Option<SlotSession>, new: &Option<SlotSession>) -> Option<Change>
     ensures { result ≡ ended_at slot old.now new.now }
 {
@@ -116,7 +115,7 @@ fn ended_at(slot: usize, old: &Option<SlotSession>, new: &Option<SlotSession>) -
     }
 }
 
-/// The opening of a session in a slot.
+// Returns the opening of a session in a slot.
 fn opened_at(slot: usize, old: &Option<SlotSession>, new: &Option<SlotSession>) -> Option<Change>
     ensures { result ≡ opened_at slot old.now new.now }
 {
@@ -127,7 +126,7 @@ fn opened_at(slot: usize, old: &Option<SlotSession>, new: &Option<SlotSession>) 
     }
 }
 
-/// The end of a session that opened in a slot since the earlier look.
+// Returns the end of a session that opened in a slot since the earlier snapshot.
 fn ended_at_once(
     slot: usize,
     old: &Option<SlotSession>,
@@ -145,7 +144,7 @@ fn ended_at_once(
     }
 }
 
-/// The take-over by the publisher of a slot.
+// Returns the take-over by the publisher of a slot.
 fn took_over_at(slot: usize, old: &Option<SlotSession>, new: &Option<SlotSession>) -> Option<Change>
     ensures { result ≡ took_over_at slot old.now new.now }
 {
@@ -190,17 +189,17 @@ fn count_of(trouble: Trouble, traffic: &Traffic) -> u64
     }
 }
 
-/// Whether this was wrong with the session of a slot.
-fn has_trouble(trouble: Trouble, look: &Option<SlotSession>) -> bool
-    ensures { result ≡ has_trouble trouble look.now }
+// Whether this was wrong with the session of a slot.
+fn has_trouble(trouble: Trouble, slot: &Option<SlotSession>) -> bool
+    ensures { result ≡ has_trouble trouble slot.now }
 {
-    match look {
+    match slot {
         Some(session) => count_of(trouble, &session.view().traffic) != 0,
         None => false,
     }
 }
 
-/// What a step of those for troubles asks for: each slot has three.
+// Returns the trouble of a step: each slot has three such steps.
 fn trouble_at(step: usize) -> Trouble
     ensures { result ≡ trouble_at step }
 {
@@ -211,7 +210,7 @@ fn trouble_at(step: usize) -> Trouble
     }
 }
 
-/// The first time that this is wrong with the session of a slot.
+// Returns the first time that this is wrong with the session of a slot.
 fn troubled_at(
     slot: usize,
     trouble: Trouble,
@@ -229,7 +228,7 @@ fn troubled_at(
     Some(Change::Troubled { slot, trouble })
 }
 
-/// How many slots have a new session.
+// Returns how many slots have a new session.
 #[tactic(auto, using(crate::proofs::Slots::no_slots, crate::proofs::Slots::next_slot))]
 fn opened_in(old: &RouteSnapshot, new: &RouteSnapshot) -> u64
     ensures { result ≡ opened_below 17 old.now.slots new.now.slots }
@@ -243,7 +242,7 @@ fn opened_in(old: &RouteSnapshot, new: &RouteSnapshot) -> u64
     opened
 }
 
-/// How many sessions opened and ended between the looks, if there were any.
+// Returns how many sessions opened and ended between the snapshots, if there were any.
 #[tactic(auto, unfolding(crate::specs::Changes::unseen))]
 fn unseen(old: &RouteSnapshot, new: &RouteSnapshot) -> Option<Change>
     ensures { result ≡ unseen old.now new.now }
@@ -258,10 +257,11 @@ fn unseen(old: &RouteSnapshot, new: &RouteSnapshot) -> Option<Change>
     Some(Change::Unseen { opened })
 }
 
-/// What changed at a route between two looks, in this one of the [`STEPS`] steps; None if nothing did, or if there is no
-/// such step. Taken in order, the steps give what a log tells: the ends of sessions that the earlier look had open,
-/// slots upwards; for each slot the session that opened there, and its end if it has ended again; the publisher that
-/// took over; for each slot what is wrong for the first time with its session's stream; how many sessions no look saw.
+/// Returns what changed at a route between two snapshots in this one of the [`STEPS`] steps. None if nothing did, or if there
+/// is no such step. Taken in order, the steps are the order of the log: the ends of sessions that the earlier snapshot had
+/// open, slots upwards; for each slot the session that opened there, and its end if it has ended again; the publisher that
+/// took over; for each slot what is wrong for the first time with its session's stream; the number of sessions that no
+/// snapshot has.
 pub fn change_at(old: &RouteSnapshot, new: &RouteSnapshot, step: usize) -> Option<Change>
     ensures { result ≡ change_at old.now new.now step }
 {
