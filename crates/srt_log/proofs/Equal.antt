@@ -1,5 +1,5 @@
 -- Two snapshots that are equal.
-use Rattle.std.proofs.Common.{◌≡◌, ℕ, ◌-◌, ◌/◌, ◌%◌, Bool, true, false, not, cond, ◌==◌, nat_lt, ◌&&◌, ◌||◌, Option, None, Some, refl, ap, ◌∙◌, arith}
+use Rattle.std.proofs.Common.{◌≡◌, ℕ, ◌-◌, ◌/◌, ◌%◌, Bool, true, false, not, cond, ◌==◌, nat_lt, ◌&&◌, ◌||◌, Option, None, Some, refl, ap, arith}
 use Rattle.std.proofs.lemmas.Bool.{and_from, eq-eqb}
 use Rattle.srt_log.specs.declared.snapshots.SlotSession.{SlotSession}
 use Rattle.srt_log.specs.declared.snapshots.RouteSnapshot.{RouteSnapshot}
