@@ -83,9 +83,8 @@ def expect_few(run, seconds):
     expect(len(times) <= LINES * (seconds + 2), f"{len(times)} lines came in {seconds:.1f} s")
 
 
-def play_flood(routes, stream_id, line, counted, count=20_000, rate=5_000, burst=1):
-    """Plays a flood of conclusions that all are refused. `counted` sums those that the log counts in other lines. Returns how many
-    datagrams the lobby answered that weren't inductions."""
+def play_flood(routes, stream_id, line, count=20_000, rate=5_000, burst=1):
+    """Plays a flood of conclusions that all are refused. Returns how many datagrams the lobby answered that weren't inductions."""
     with Run([live("steady", latency_ms=500, inbox=1024), *routes]) as run:
         run.is_up()
         began = time.monotonic()
@@ -104,7 +103,7 @@ def play_flood(routes, stream_id, line, counted, count=20_000, rate=5_000, burst
         expect(LINES / 2 <= len(told) <= LINES * (spent + 2), f"{len(told)} refusals are told in {spent:.1f} s")
         left_out = sum(int(found[1]) for found in (re.fullmatch(LEFT_OUT, it) for it in texts) if found)
         others = [it for it in texts if re.fullmatch(OTHERS, it)]
-        found, wanted = len(told) + left_out + counted(texts) + len(others), count + EVENTS
+        found, wanted = len(told) + left_out + len(others), count + EVENTS
         expect(found == wanted, f"{len(told)} refusals are told and {left_out} lines left out of {wanted}; beside them {others}")
         return end.report["answered"] - asked
 
@@ -150,30 +149,22 @@ def drops_in_a_flood():
         expect(told == dropped, f"{told} of {dropped} are told")
 
 
-def unseen_of(route):
-    """A function that sums the refusals of a route which the log counts without a line of their own."""
-    def counted(texts):
-        found = (re.fullmatch(rf"{route}: \d+ sessions opened and ended unseen, (\d+) conclusions refused", it) for it in texts)
-        return sum(int(it[1]) for it in found if it)
-    return counted
-
-
 @case("20,000 conclusions that the lobby refuses")
 def lobby_flood():
     line = r'127\.0\.0\.1:{} refused, 1002 PEER, asked for "nowhere", unknown name'
-    refused = play_flood([], "nowhere", line, lambda texts: 0)
+    refused = play_flood([], "nowhere", line)
     expect(refused == 20_000, f"the lobby refused {refused}")
 
 
 @case("6,000 conclusions in bursts of 200, more than wait for the log at once")
 def bursts():
     line = r'127\.0\.0\.1:{} refused, 1002 PEER, asked for "nowhere", unknown name'
-    play_flood([], "nowhere", line, lambda texts: 0, 6_000, 2_000, 200)
+    play_flood([], "nowhere", line, 6_000, 2_000, 200)
 
 
 @case("20,000 conclusions that a route refuses")
 def route_flood():
     """The flooded route is in buffer mode, and its callers want live mode."""
     line = r'127\.0\.0\.1:{} refused, 1012 MESSAGEAPI, asked for "files"'
-    refused = play_flood([files("files", inbox=4096, outbox=4096)], "files", line, unseen_of("files"))
+    refused = play_flood([files("files", inbox=4096, outbox=4096)], "files", line)
     expect(refused == 0, f"the lobby refused {refused}")

@@ -18,7 +18,7 @@ use std::{str, thread};
 const REST_MS: u64 = 20;
 
 /// The time between two polls of the status page's connections, in milliseconds.
-const NAP_MS: u64 = 1;
+const PAUSE_MS: u64 = 1;
 
 /// The machine that the gateway runs on.
 #[derive(Drop)]
@@ -44,8 +44,8 @@ impl<R: Clock + Files + AllocGlobal> Machine for Host<'_, R> {
         thread::sleep(self.rt, Duration::from_millis(REST_MS));
     }
 
-    fn nap(&self) {
-        thread::sleep(self.rt, Duration::from_millis(NAP_MS));
+    fn pause(&self) {
+        thread::sleep(self.rt, Duration::from_millis(PAUSE_MS));
     }
 
     fn moment(&mut self) -> u64 {
@@ -56,7 +56,7 @@ impl<R: Clock + Files + AllocGlobal> Machine for Host<'_, R> {
         time_now(self.rt)
     }
 
-    fn stop_asked(&self) -> bool {
+    fn stop_requested(&self) -> bool {
         stop_asked(self.rt)
     }
 

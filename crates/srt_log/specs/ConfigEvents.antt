@@ -1,19 +1,19 @@
 -- The lines about a configuration that was changed while the gateway runs.
 use Rattle.std.specs.Prelude.{ℕ, Bool, true, not, ◌&&◌, ◌||◌, List, [], ◌++◌, codes, decimal, if◌then◌else◌}
-use Rattle.srt_log.specs.declared.config_events.RouteNumbers.{RouteNumbers}
+use Rattle.srt_log.specs.declared.config_events.ChangeSummary.{ChangeSummary}
 use Rattle.srt_log.specs.declared.config_events.CloseCause.{CloseCause}
 use Rattle.srt_log.specs.declared.config_events.CloseCause.TheVariants.{Removed, OtherKeys}
-use Rattle.srt_log.specs.declared.config_events.DifferingKeys.{DifferingKeys}
+use Rattle.srt_config.specs.declared.changes.FixedKeys.{FixedKeys}
 use Rattle.srt_log.specs.declared.config_events.ConfigEvent.{ConfigEvent}
 use Rattle.srt_log.specs.declared.config_events.ConfigEvent.TheVariants as events
 use Rattle.srt_log.specs.Texts.{escaped_all, readable_all}
 
-abbrev pub numbers_text : RouteNumbers → List ℕ
+abbrev pub numbers_text : ChangeSummary → List ℕ
 numbers_text routes =
     decimal routes.staying ++ codes " routes stay, " ++ decimal routes.opening ++ codes " open, " ++ decimal routes.closing ++ codes " close, "
     ++ decimal routes.changing ++ codes " change"
 
-abbrev pub taken_text : RouteNumbers → List ℕ
+abbrev pub taken_text : ChangeSummary → List ℕ
 taken_text routes = codes "configuration changed: " ++ numbers_text routes
 
 abbrev pub cause_text : CloseCause → List ℕ
@@ -27,7 +27,7 @@ abbrev pub opens_text : (route : List ℕ) → (index megabytes : ℕ) → List 
 opens_text route index megabytes = escaped_all route ++ codes ": opened with index " ++ decimal index ++ codes ", " ++ decimal megabytes ++ codes " MB"
 
 -- the first of the keys that differ; one of them does
-abbrev pub first_text : DifferingKeys → List ℕ
+abbrev pub first_text : FixedKeys → List ℕ
 first_text keys =
     if keys.bind then codes "bind" else (if keys.workers then codes "workers" else (if keys.status then codes "status" else codes "secret"))
 
@@ -47,11 +47,11 @@ these_text workers status secret =
     other_text workers true (codes "workers") ++ other_text status (not workers) (codes "status")
     ++ other_text secret (not workers && not status) (codes "secret") ++ end_text (workers || status || secret)
 
-abbrev pub others_text : DifferingKeys → List ℕ
+abbrev pub others_text : FixedKeys → List ℕ
 others_text keys =
     these_text (keys.bind && keys.workers) ((keys.bind || keys.workers) && keys.status) ((keys.bind || keys.workers || keys.status) && keys.secret)
 
-abbrev pub fixed_text : DifferingKeys → List ℕ
+abbrev pub fixed_text : FixedKeys → List ℕ
 fixed_text keys =
     codes "configuration not taken: " ++ first_text keys ++ codes " can't change while the gateway runs" ++ others_text keys
     ++ codes "; restart it to change it"

@@ -1,8 +1,10 @@
-//! What a line of the log says of a configuration that was changed while the gateway runs.
+//! What a line of the log states of a configuration that was changed while the gateway runs.
 
-/// How many routes a changed configuration has of each kind.
+use srt_config::FixedKeys;
+
+/// The number of routes of each kind in a changed configuration.
 #[derive(Clone, Copy)]
-pub struct RouteNumbers {
+pub struct ChangeSummary {
     /// Those that stay as they are.
     pub staying: u64,
     /// Those that open: no route had their name.
@@ -22,26 +24,13 @@ pub enum CloseCause {
     OtherKeys,
 }
 
-/// The keys that can't change while the gateway runs: for each, whether it has another value.
-#[derive(Clone, Copy)]
-pub struct DifferingKeys {
-    /// `bind`.
-    pub bind: bool,
-    /// `workers`.
-    pub workers: bool,
-    /// `status`.
-    pub status: bool,
-    /// `secret`. A line that names no key is never asked for, so that this one differs if no other does.
-    pub secret: bool,
-}
-
 /// What a line says of a configuration that was changed.
 #[derive(Clone, Copy)]
 pub enum ConfigEvent<'a> {
     /// It is taken. A line for each route follows that closes or opens.
     Taken {
         /// How many routes it has of each kind.
-        routes: RouteNumbers,
+        routes: ChangeSummary,
     },
     /// A route closes.
     RouteCloses {
@@ -61,8 +50,8 @@ pub enum ConfigEvent<'a> {
     },
     /// It isn't taken: keys have other values that can't change.
     KeysDiffer {
-        /// Which.
-        keys: DifferingKeys,
+        /// Which. At least one does.
+        keys: FixedKeys,
     },
     /// It isn't taken: it has a fault.
     Wrong {

@@ -5,12 +5,13 @@ ghost use Rattle.srt_log.specs.Texts.{put};
 ghost use Rattle.srt_log.specs.ConfigEvents.{taken_text, cause_text, closes_text, opens_text, also_text, other_text, end_text, fixed_text, no_memory_text};
 ghost use Rattle.srt_log.specs.ConfigEvents.{first_text, others_text, numbers_text, no_indexes_text, few_indexes_text, about_text, config_text};
 
-use crate::config_events::{CloseCause, ConfigEvent, DifferingKeys, RouteNumbers};
+use crate::config_events::{ChangeSummary, CloseCause, ConfigEvent};
 use crate::line::Line;
+use srt_config::FixedKeys;
 
 /// Puts how many routes a configuration has of each kind.
 #[tactic(auto, using(crate::proofs::Puts::put_put))]
-fn put_numbers(line: &mut Line, routes: RouteNumbers)
+fn put_numbers(line: &mut Line, routes: ChangeSummary)
     ensures { line.new.text.items ≡ put line.old.text.items (numbers_text routes) }
 {
     line.put_number(routes.staying);
@@ -24,7 +25,7 @@ fn put_numbers(line: &mut Line, routes: RouteNumbers)
 }
 
 #[tactic(auto, using(crate::proofs::Puts::put_put))]
-fn put_taken(line: &mut Line, routes: RouteNumbers)
+fn put_taken(line: &mut Line, routes: ChangeSummary)
     ensures { line.new.text.items ≡ put line.old.text.items (taken_text routes) }
 {
     line.put(b"configuration changed: ");
@@ -61,7 +62,7 @@ fn put_opens(line: &mut Line, route: &[u8], index: u64, megabytes: u64)
 }
 
 /// Puts the first of the keys that differ.
-fn put_first(line: &mut Line, keys: DifferingKeys)
+fn put_first(line: &mut Line, keys: FixedKeys)
     ensures { line.new.text.items ≡ put line.old.text.items (first_text keys) }
 {
     if keys.bind {
@@ -112,7 +113,7 @@ fn put_end(line: &mut Line, any: bool)
 
 /// Puts the keys that differ beside the first one.
 #[tactic(auto, using(crate::proofs::Puts::put_put))]
-fn put_others(line: &mut Line, keys: DifferingKeys)
+fn put_others(line: &mut Line, keys: FixedKeys)
     ensures { line.new.text.items ≡ put line.old.text.items (others_text keys) }
 {
     let workers = keys.bind & keys.workers;
@@ -125,7 +126,7 @@ fn put_others(line: &mut Line, keys: DifferingKeys)
 }
 
 #[tactic(auto, using(crate::proofs::Puts::put_put))]
-fn put_fixed(line: &mut Line, keys: DifferingKeys)
+fn put_fixed(line: &mut Line, keys: FixedKeys)
     ensures { line.new.text.items ≡ put line.old.text.items (fixed_text keys) }
 {
     line.put(b"configuration not taken: ");

@@ -244,15 +244,15 @@ fn put_refused_by(line: &mut Line, by: Option<NotAdmitted>)
 }
 
 #[tactic(auto, using(crate::proofs::Puts::put_put))]
-fn put_refused(line: &mut Line, code: u32, peer: Peer, asked: &[u8], by: Option<NotAdmitted>)
-    ensures { line.new.text.items ≡ put line.old.text.items (refused_text code peer asked.now by) }
+fn put_refused(line: &mut Line, code: u32, peer: Peer, name: &[u8], by: Option<NotAdmitted>)
+    ensures { line.new.text.items ≡ put line.old.text.items (refused_text code peer name.now by) }
 {
     put_peer(line, peer);
     line.put(b" refused, ");
     line.put_small(code);
     put_code_name(line, code);
     line.put(b", asked for \"");
-    line.put_escaped(asked);
+    line.put_escaped(name);
     line.put(b"\"");
     put_refused_by(line, by);
 }
@@ -280,15 +280,13 @@ fn put_limited(line: &mut Line, route: &[u8], full: u64, reserved: u64, per_addr
 }
 
 #[tactic(auto, using(crate::proofs::Puts::put_put))]
-fn put_unseen(line: &mut Line, route: &[u8], opened: u64, refused: u64)
-    ensures { line.new.text.items ≡ put line.old.text.items (unseen_text route.now opened refused) }
+fn put_unseen(line: &mut Line, route: &[u8], opened: u64)
+    ensures { line.new.text.items ≡ put line.old.text.items (unseen_text route.now opened) }
 {
     line.put_escaped(route);
     line.put(b": ");
     line.put_number(opened);
-    line.put(b" sessions opened and ended unseen, ");
-    line.put_number(refused);
-    line.put(b" conclusions refused");
+    line.put(b" sessions opened and ended unseen");
 }
 
 /// The text of a start without blocked signals.
@@ -333,20 +331,16 @@ fn put_event(line: &mut Line, event: LogEvent<'_>)
         LogEvent::Refused {
             code,
             peer,
-            asked,
+            name,
             by,
-        } => put_refused(line, code, peer, asked, by),
+        } => put_refused(line, code, peer, name, by),
         LogEvent::Limited {
             route,
             full,
             reserved,
             per_address,
         } => put_limited(line, route, full, reserved, per_address),
-        LogEvent::Unseen {
-            route,
-            opened,
-            refused,
-        } => put_unseen(line, route, opened, refused),
+        LogEvent::Unseen { route, opened } => put_unseen(line, route, opened),
         LogEvent::Config { event } => put_config(line, event),
         LogEvent::Unblocked => line.put(UNBLOCKED),
         LogEvent::Warned { warning } => line.put_escaped(warning),
@@ -357,7 +351,7 @@ fn put_event(line: &mut Line, event: LogEvent<'_>)
             count,
         ),
         LogEvent::LeftOut { count } => put_count(line, b"lines left out ", count),
-        LogEvent::StopAsked { by } => put_cause(line, by),
+        LogEvent::StopRequested { by } => put_cause(line, by),
         LogEvent::Stopped => line.put(b"stopped"),
     }
 }

@@ -3,11 +3,9 @@ use Rattle.std.specs.Prelude.{ℕ, ◌+◌, ◌-◌, ◌*◌, ◌/◌, ◌^◌, 
 use Rattle.std.specs.Prelude.{slice_get, if◌then◌else◌}
 use Rattle.std.specs.List.{flat_map}
 use Rattle.srt_seq.specs.Terms.{Terms}
-use Rattle.srt_config.specs.declared.changes.FixedKeys.{FixedKeys}
 use Rattle.srt_config.specs.declared.changes.RouteChange.{RouteChange}
 use Rattle.srt_config.specs.declared.changes.RouteChange.TheVariants.{Stays, Reopens, Opens}
-use Rattle.srt_log.specs.declared.config_events.DifferingKeys.{DifferingKeys}
-use Rattle.srt_log.specs.declared.config_events.RouteNumbers.{RouteNumbers}
+use Rattle.srt_log.specs.declared.config_events.ChangeSummary.{ChangeSummary}
 use Rattle.srt_watch.specs.Census.{one_more}
 
 -- the index of the route at a place; every place that is asked for is one of a route
@@ -49,24 +47,21 @@ indexes_from before next [] = []
 indexes_from before next (change ∷ changes) = index_of before next change ∷ indexes_from before (next_after next change) changes
 
 -- how many routes of each kind there are
-abbrev pub counted : RouteNumbers → RouteChange → RouteNumbers
+abbrev pub counted : ChangeSummary → RouteChange → ChangeSummary
 counted n (Stays place) = record n { staying = one_more n.staying }
 counted n (Reopens place) = record n { changing = one_more n.changing }
 counted n Opens = record n { opening = one_more n.opening }
 
-abbrev pub counted_all : RouteNumbers → List RouteChange → RouteNumbers
+abbrev pub counted_all : ChangeSummary → List RouteChange → ChangeSummary
 counted_all n [] = n
 counted_all n (change ∷ changes) = counted_all (counted n change) changes
 
-abbrev pub numbers_of : (gone : List ℕ) → List RouteChange → RouteNumbers
+abbrev pub numbers_of : (gone : List ℕ) → List RouteChange → ChangeSummary
 numbers_of gone changes = counted_all (record { staying = 0; opening = 0; closing = length gone; changing = 0 }) changes
 
 -- no route opens or closes
-abbrev pub asks_nothing : RouteNumbers → Bool
-asks_nothing n = (n.opening == 0) && (n.closing == 0) && (n.changing == 0)
-
-abbrev pub differing : FixedKeys → DifferingKeys
-differing fixed = record { bind = fixed.bind; workers = fixed.workers; status = fixed.status; secret = fixed.secret }
+abbrev pub changes_nothing : ChangeSummary → Bool
+changes_nothing n = (n.opening == 0) && (n.closing == 0) && (n.changing == 0)
 
 -- how many marks so many used indexes have reached: the 400th, and each 25th after it
 abbrev pub mark_of : (used : ℕ) → ℕ

@@ -1,33 +1,33 @@
-//! The configuration's file, as a watcher asks for it.
+//! The configuration's file: what a watcher needs of it, and when it reads it.
 
 ghost use Rattle.std.specs.Prelude.{◌≡◌, option_map};
-ghost use Rattle.srt_watch.specs.ConfigFile.{differs, is_other, is_settling, next_phase, reads, after_look};
+ghost use Rattle.srt_watch.specs.ConfigFile.{differs, is_other, is_settling, next_phase, reads, after_poll};
 
 use std::fmt::InlineText;
 
-/// The greatest length of what is said of a file that can't be read, or of a fault in it, in bytes.
+/// The greatest length of a reason why a file can't be read, or of the description of a fault in it, in bytes.
 pub const MAX_REASON: usize = 896;
 
-/// What the system says of a file without its content.
+/// What the system reports of a file without its content.
 #[derive(Clone, Copy)]
 pub struct FileStamp {
-    /// When its content or one of its attributes changed last: nanoseconds since 1970, modulo 2^64. NoWatcher can set this
-    /// time, as the time of the last writing can be set.
+    /// When its content or one of its attributes changed last: nanoseconds since 1970, modulo 2^64. Unlike the time of the
+    /// last writing, nobody can set it.
     pub changed: u64,
     /// Its size in bytes.
     pub size: u64,
 }
 
-/// The file of a configuration, which may change while the gateway runs. No clause says what it answers.
+/// The file of a configuration, which may change while the gateway runs. No clause is about its results.
 pub trait ConfigFile {
-    /// What the system says of it; `None` if that isn't known.
+    /// Returns its stamp; `None` if that isn't known.
     fn stamp(&self) -> Option<FileStamp>;
 
-    /// Its content, at most 65,536 bytes; or else why it can't be read, in words for people. Allocates.
+    /// Returns its content, at most 65,536 bytes, or why it can't be read, in words for people. Allocates.
     fn read(&self) -> Result<Vec<u8>, InlineText<MAX_REASON>>;
 }
 
-/// Whether a file may have another content than at the look before.
+/// Whether a file may have another content than at the poll before.
 fn differs(before: Option<FileStamp>, now: FileStamp) -> bool
     ensures { result ≡ differs before now }
 {
@@ -37,18 +37,18 @@ fn differs(before: Option<FileStamp>, now: FileStamp) -> bool
     }
 }
 
-/// How far a file is that was found to be another one.
+/// The state of a file since it was found changed.
 #[derive(Clone, Copy)]
 pub(crate) enum Phase {
-    /// It was other than at the look before: who writes it may be at work still.
+    /// It differed from the poll before: its writer may still be at work.
     Settling,
-    /// It was the same at two looks, and was read at the second one.
+    /// It was the same at two polls, and was read at the second one.
     Read,
     /// It was read once more.
     Known,
 }
 
-// The phase behind one in which a file is found to be the same.
+// Returns the phase after a poll that finds the file unchanged.
 fn next_phase(phase: Phase) -> Phase
     ensures { result ≡ next_phase phase }
 {
@@ -58,36 +58,37 @@ fn next_phase(phase: Phase) -> Phase
     }
 }
 
-/// The last look at a file.
+/// The last poll of a file.
 #[derive(Clone, Copy)]
-pub(crate) struct LastRead {
-    // what the system said of it
+pub(crate) struct LastPoll {
+    // what the system reported of it
     stamp: Option<FileStamp>,
     phase: Phase,
 }
 
-impl LastRead {
-    /// No look so far.
-    pub(crate) fn none() -> LastRead {
-        LastRead {
+impl LastPoll {
+    /// Before the first poll.
+    pub(crate) fn none() -> LastPoll {
+        LastPoll {
             stamp: None,
             phase: Phase::Known,
         }
     }
 
-    /// Whether the file is found to be another one, and isn't read yet: it is to be looked at again soon.
+    /// Whether the file was found changed and isn't read yet, so that it is to be polled again soon.
     pub(crate) fn is_settling(&self) -> bool
         ensures { result ≡ is_settling self.now }
     {
         matches!(self.phase, Phase::Settling)
     }
 
-    /// Whether the file is to be read, by what the system says of it now. One that is other than at the last look isn't, as
-    /// it may be half written; it is read if it is the same at the next look, and at the one after it, since a file that is
-    /// written twice within the unit of the system's times may look the same. If the system says nothing, reading tells why.
+    /// Whether the file is to be read, by its stamp now. A file that differs from the last poll isn't read, since it may be
+    /// half written. It is read if it is the same at the next poll, and once more at the poll after that: a file that is
+    /// written twice within the unit of the system's times may appear unchanged. Without a stamp it is read, so that reading
+    /// returns the reason.
     pub(crate) fn reads(&mut self, stamp: Option<FileStamp>) -> bool
         ensures result { result ≡ reads self.old stamp }
-        ensures new { self.new ≡ after_look self.old stamp }
+        ensures new { self.new ≡ after_poll self.old stamp }
     {
         let before = *self;
         self.stamp = stamp;
@@ -104,7 +105,7 @@ impl LastRead {
     }
 }
 
-/// Whether this is another content than the one that was looked at last, if one was.
+/// Whether this content differs from the last one, if there was one.
 pub(crate) fn is_other(last: Option<&Vec<u8>>, content: &[u8]) -> bool
     ensures { result ≡ is_other (option_map (λ v. v.now.items) last.entry) content.now }
 {

@@ -1,21 +1,15 @@
-//! How a watcher follows the configuration's file: what a changed one asks of the run, and what becomes of that.
+//! How a watcher follows the configuration's file: the change that a changed file requests, and what becomes of it.
 
+use crate::change_log::ChangeLog;
 use crate::config_file::ConfigFile;
-use crate::config_lines::{refuse, tell_always, tell_no_room, tell_not_taken, tell_taken};
 use crate::in_force::{InForce, NotTaken, Wanted};
-use crate::indexes::reaches_mark;
-use crate::log::{LogWriter, When};
-use crate::requested_change::{NoRoom, RequestedChange};
+use crate::prepared_change::PreparedChange;
 use crate::watched_file::WatchedFile;
 use crate::watched_routes::WatchedRoutes;
 use srt_config::Config;
-use srt_log::ConfigEvent;
-use srt_seq::limits::MAX_ROUTES;
-use srt_status::ChangeCounts;
-use srt_supervision::{ChangeFault, RouteChanges};
+use srt_supervision::{ChangeRoutes, RouteChanges};
 use std::alloc::{AllocError, Global};
 use std::io::Write;
-use std::mem;
 
 /// The configuration that the gateway follows.
 #[derive(Drop)]
@@ -23,13 +17,11 @@ pub(crate) struct Following<'a, F: Drop> {
     alloc: Global,
     file: WatchedFile<F>,
     in_force: InForce<'a>,
-    // what the run was asked for, until it answers
-    asked: Option<RequestedChange>,
 }
 
 impl<'a, F: ConfigFile + Drop> Following<'a, F> {
-    /// Of a run that begins with the routes of this configuration, which was read from the file. The file is looked at
-    /// first a second later. Allocates a list of the routes' indexes; an error if memory is refused.
+    /// Of a run that begins with the routes of this configuration, which was read from the file. The file is first polled
+    /// a second later. Allocates a list of the routes' indexes; the only error is out of memory.
     pub(crate) fn new(
         alloc: Global,
         config: &'a Config,
@@ -39,16 +31,12 @@ impl<'a, F: ConfigFile + Drop> Following<'a, F> {
             alloc,
             file: WatchedFile::new(file),
             in_force: InForce::new(alloc, config)?,
-            asked: None,
         })
     }
 
-    // What is new in the file, once a second. None if nothing is, or while the run hasn't answered the last change.
-    fn look(&mut self, moment: u64) -> Option<Result<Wanted, NotTaken>> {
-        if self.asked.is_some() {
-            return None;
-        }
-        match self.file.look(moment)? {
+    // Polls the file, once a second. None if it has nothing new.
+    fn poll(&mut self, moment: u64) -> Option<Result<Wanted, NotTaken>> {
+        match self.file.poll(moment)? {
             Ok(content) => {
                 let wanted = self.in_force.wanted(self.alloc, content.as_slice());
                 self.file.keep(content);
@@ -58,116 +46,61 @@ impl<'a, F: ConfigFile + Drop> Following<'a, F> {
         }
     }
 
-    // Takes all memory that a change needs here, and returns what the run is to be asked for; None if no route opens or
-    // closes, and the configuration is in force already. After an error nothing has changed.
-    fn ask(
+    // Puts the configuration in force whose change the run made, and logs it. Routes opened from the index `first` on.
+    fn note_made<W: Write + Drop>(
         &mut self,
+        log: &mut ChangeLog<'_, W>,
         routes: &mut WatchedRoutes,
-        wanted: Wanted,
-    ) -> Result<Option<RouteChanges>, NoRoom> {
-        let (asked, changes) = RequestedChange::of(self.alloc, &self.in_force, routes, wanted)?;
-        if asked.asks_nothing() {
-            asked.put_in_force(self.alloc, &mut self.in_force, routes);
-            return Ok(None);
-        }
-        self.asked = Some(asked);
-        Ok(Some(changes))
-    }
-
-    /// What the run is to be asked for, if a changed file asks for something that can be done. If it can't, a line tells
-    /// why, and it is counted.
-    pub(crate) fn change<W: Write + Drop>(
-        &mut self,
-        log: &mut LogWriter<W>,
-        when: When,
-        counts: &mut ChangeCounts,
-        routes: &mut WatchedRoutes,
-    ) -> Option<RouteChanges> {
-        match self.look(when.moment)? {
-            Ok(wanted) => match self.ask(routes, wanted) {
-                Ok(changes) => changes,
-                Err(no_room) => {
-                    tell_no_room(log, when, counts, &no_room);
-                    None
-                }
-            },
-            Err(not_taken) => {
-                tell_not_taken(log, when, counts, &not_taken);
-                None
-            }
-        }
-    }
-
-    // Puts the configuration in force whose change the run was asked for, with its lines. Takes no memory.
-    fn take<W: Write + Drop>(
-        &mut self,
-        log: &mut LogWriter<W>,
-        when: When,
-        routes: &mut WatchedRoutes,
-    ) {
-        if let Some(asked) = self.asked.take() {
-            tell_taken(log, when, &asked, self.in_force.config());
-            asked.put_in_force(self.alloc, &mut self.in_force, routes);
-        }
-    }
-
-    // Puts the configuration in force whose change the run took, with its lines, and counts it. A line tells when few
-    // indexes are left.
-    fn note_taken<W: Write + Drop>(
-        &mut self,
-        log: &mut LogWriter<W>,
-        when: When,
-        counts: &mut ChangeCounts,
-        routes: &mut WatchedRoutes,
+        change: PreparedChange,
+        first: usize,
     ) {
         let before = routes.used();
-        self.take(log, when, routes);
-        counts.taken = counts.taken.saturating_add(1);
-        let used = routes.used();
-        if reaches_mark(before, used) {
-            let left = MAX_ROUTES.saturating_sub(used) as u64;
-            tell_always(log, when, ConfigEvent::FewIndexes { left });
+        log.taken(&change, self.in_force.config(), first);
+        change.put_in_force(self.alloc, first, &mut self.in_force, routes);
+        log.few_indexes(before, routes.used());
+    }
+
+    // Requests a change of the run, unless no route opens or closes: then the configuration is in force at once, without
+    // a line.
+    fn request<W: Write + Drop, C: ChangeRoutes>(
+        &mut self,
+        log: &mut ChangeLog<'_, W>,
+        routes: &mut WatchedRoutes,
+        run: &mut C,
+        change: PreparedChange,
+        requested: RouteChanges,
+    ) {
+        if change.changes_nothing() {
+            let first = routes.used();
+            change.put_in_force(self.alloc, first, &mut self.in_force, routes);
+            return;
+        }
+        match run.change(requested) {
+            Ok(first) => self.note_made(log, routes, change, first),
+            Err(fault) => log.rejected(&change, fault),
         }
     }
 
-    // Tells why the run didn't take the change that it was asked for.
-    fn tell_fault<W: Write + Drop>(
-        &self,
-        log: &mut LogWriter<W>,
-        when: When,
-        counts: &mut ChangeCounts,
-        fault: ChangeFault,
-    ) {
-        let Some(asked) = self.asked.as_ref() else {
-            return;
-        };
-        let event = match fault {
-            ChangeFault::OutOfMemory(place) => ConfigEvent::NoMemory {
-                route: asked.name_at(place).as_bytes(),
-            },
-            ChangeFault::NoIndexLeft(left) => ConfigEvent::NoIndexes {
-                opens: asked.opens() as u64,
-                left: left as u64,
-            },
-        };
-        refuse(log, when, counts, event);
-    }
-
-    /// Puts the configuration in force whose change the run took, or forgets it, with the lines that tell so.
-    pub(crate) fn changed<W: Write + Drop>(
+    /// Polls the file. Requests the change of a new configuration of the run, and puts it in force once the run has made
+    /// it. Logs the outcome and counts it; after a fault the configuration in force stays.
+    pub(crate) fn follow<W: Write + Drop, C: ChangeRoutes>(
         &mut self,
-        log: &mut LogWriter<W>,
-        when: When,
-        counts: &mut ChangeCounts,
+        log: &mut ChangeLog<'_, W>,
         routes: &mut WatchedRoutes,
-        outcome: Result<usize, ChangeFault>,
+        run: &mut C,
     ) {
-        match outcome {
-            Ok(_) => self.note_taken(log, when, counts, routes),
-            Err(fault) => {
-                self.tell_fault(log, when, counts, fault);
-                mem::drop(self.asked.take());
-            }
+        match self.poll(log.when.moment) {
+            Some(Ok(wanted)) => match PreparedChange::of(
+                self.alloc,
+                &self.in_force,
+                routes,
+                wanted,
+            ) {
+                Ok((change, requested)) => self.request(log, routes, run, change, requested),
+                Err(no_room) => log.no_room(&no_room),
+            },
+            Some(Err(not_taken)) => log.not_taken(&not_taken),
+            None => {}
         }
     }
 }

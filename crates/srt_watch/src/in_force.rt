@@ -1,22 +1,25 @@
 //! The configuration in force, and what another one would change.
 
+ghost use Rattle.std.specs.Prelude.{◌≡◌, false, length, IfOk};
+ghost use Rattle.srt_config.specs.Config.{settings_of};
+ghost use Rattle.srt_config.specs.Changes.{asked, asked_by, any_fixed};
+ghost use Rattle.srt_watch.specs.Requests.{config_of, first_indexes};
+
 use crate::config_file::MAX_REASON;
-use crate::indexes::differing;
-use srt_config::{Changes, Config, changes_between};
+use srt_config::{Changes, Config, FixedKeys, changes_between};
 use srt_explain::explain;
-use srt_log::DifferingKeys;
 use std::alloc::{AllocError, Global};
 use std::fmt::InlineText;
 
-/// A configuration that can be taken while the gateway runs.
+/// A valid configuration that differs from the one in force at no fixed key.
 #[derive(Drop)]
 pub(crate) struct Wanted {
     pub config: Config,
-    /// What it changes of the one in force.
+    /// What differs from the one in force.
     pub changes: Changes,
 }
 
-/// Why what the configuration's file says isn't taken.
+/// Why the content of the configuration's file isn't taken.
 #[derive(Clone, Copy)]
 pub(crate) enum NotTaken {
     /// It can't be read, for this reason.
@@ -24,24 +27,28 @@ pub(crate) enum NotTaken {
     /// It has this fault.
     Wrong(InlineText<MAX_REASON>),
     /// Keys differ that can't change.
-    KeysDiffer(DifferingKeys),
+    KeysDiffer(FixedKeys),
 }
 
 /// The configuration in force.
 #[derive(Drop)]
 pub(crate) struct InForce<'a> {
-    // the one that the gateway was started with
+    // the one with which the gateway was started
     first: &'a Config,
-    // the index of each route of the one in force, in its order
+    // the indexes of the routes of the one in force, in its order
     indexes: Vec<usize>,
     // the one that was taken last, if one was
     later: Option<Config>,
 }
 
 impl<'a> InForce<'a> {
-    /// That of a gateway that begins with the routes of this configuration. Allocates a list of their indexes; an error if
-    /// memory is refused.
-    pub(crate) fn new(alloc: Global, config: &'a Config) -> Result<InForce<'a>, AllocError> {
+    /// Returns the one of a gateway that begins with the routes of this configuration. They have the indexes from 0 on.
+    /// Allocates a list of them; the only error is out of memory.
+    #[tactic(auto, using(crate::proofs::Appended::first_none, crate::proofs::Appended::first_step))]
+    pub(crate) fn new(alloc: Global, config: &'a Config) -> Result<InForce<'a>, AllocError>
+        ensures config { IfOk result (λ f. config_of f ≡ config.now) }
+        ensures indexes { IfOk result (λ f. f.indexes.items ≡ first_indexes (length config.now.entries.items)) }
+    {
         let routes = config.entries.len();
         let mut indexes = Vec::with_capacity(alloc, routes)?;
         for index in 0..routes {
@@ -54,35 +61,44 @@ impl<'a> InForce<'a> {
         })
     }
 
-    /// The configuration.
-    pub(crate) fn config(&self) -> &Config {
+    /// Returns the configuration.
+    pub(crate) fn config(&self) -> &Config
+        ensures { result.now ≡ config_of self.now }
+    {
         match &self.later {
             Some(config) => config,
             None => self.first,
         }
     }
 
-    /// The index of each of its routes, in its order.
-    pub(crate) fn indexes(&self) -> &[usize] {
+    /// Returns the index of each of its routes, in its order.
+    pub(crate) fn indexes(&self) -> &[usize]
+        ensures { result.now ≡ self.now.indexes.items }
+    {
         self.indexes.as_slice()
     }
 
     /// Puts another configuration in force, whose routes have these indexes.
-    pub(crate) fn put(&mut self, config: Config, indexes: Vec<usize>) {
+    pub(crate) fn put(&mut self, config: Config, indexes: Vec<usize>)
+        ensures config { config_of self.new ≡ config }
+        ensures indexes { self.new.indexes ≡ indexes }
+    {
         self.indexes = indexes;
         self.later = Some(config);
     }
 
-    /// What the configuration of this content changes, if it can be taken. Allocates what the configuration takes.
-    pub(crate) fn wanted(&self, alloc: Global, content: &[u8]) -> Result<Wanted, NotTaken> {
+    /// Reads the configuration of this content, and compares it with the one in force. An error if it has a fault, or if
+    /// keys differ that can't change. Allocates the configuration and the list of its changes.
+    pub(crate) fn wanted(&self, alloc: Global, content: &[u8]) -> Result<Wanted, NotTaken>
+        ensures changes { IfOk result (λ w. asked_by w.changes ≡ asked (settings_of (config_of self.now)) (settings_of w.config)) }
+        ensures fixed { IfOk result (λ w. any_fixed w.changes.fixed ≡ false) }
+    {
         let config = match explain(alloc, content) {
             Ok(explained) => explained.config,
             Err(explanation) => return Err(NotTaken::Wrong(InlineText::of(explanation))),
         };
         match changes_between(alloc, self.config(), &config) {
-            Ok(changes) if changes.fixed.any() => {
-                Err(NotTaken::KeysDiffer(differing(changes.fixed)))
-            }
+            Ok(changes) if changes.fixed.any() => Err(NotTaken::KeysDiffer(changes.fixed)),
             Ok(changes) => Ok(Wanted { config, changes }),
             Err(_) => Err(NotTaken::Wrong(InlineText::of("memory was refused"))),
         }

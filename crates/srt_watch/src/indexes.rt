@@ -1,18 +1,18 @@
 //! The indexes that routes have in a run, and what a changed configuration does to them: each route that opens gets the
 //! next one, and none is used again.
 
-ghost use Rattle.std.specs.Prelude.{◌≡◌, ◌++◌, IfOk, OnOk, map, length};
+ghost use Rattle.std.specs.Prelude.{◌≡◌, ◌≤◌, [], ◌++◌, IfOk, OnOk, map, length, vec_len, vec_capacity};
 ghost use Rattle.std.specs.List.{flat_map};
 ghost use Rattle.srt_seq.specs.Terms.{terms_of};
 ghost use Rattle.srt_watch.specs.Indexes.{index_at, reopened_at, closing, index_of, next_after, indexes_from};
-ghost use Rattle.srt_watch.specs.Indexes.{opens, counted, counted_all, numbers_of, asks_nothing, mark_of, reaches_mark, megabytes_of, differing};
+ghost use Rattle.srt_watch.specs.Indexes.{opens, counted, counted_all, numbers_of, changes_nothing, mark_of, reaches_mark, megabytes_of};
 
-use srt_config::{Changes, FixedKeys, RouteChange};
-use srt_log::{DifferingKeys, RouteNumbers};
+use srt_config::{Changes, RouteChange};
+use srt_log::ChangeSummary;
 use srt_seq::Entry;
 use std::alloc::{AllocError, Global};
 
-// The index of the route at a place; every place that is asked for is one of a route.
+// Returns the index of the route at a place. Callers pass places of routes alone.
 fn index_at(indexes: &[usize], place: usize) -> usize
     ensures { result ≡ index_at indexes.now place }
 {
@@ -65,8 +65,8 @@ fn append_reopened(
     Ok(())
 }
 
-/// The indexes of the routes that close: first those whose names the changed configuration doesn't have, then those that
-/// open again. `indexes` has those of the routes before. Allocates the list; an error if memory is refused.
+/// Returns the indexes of the routes that close: first those whose names the changed configuration doesn't have, then those
+/// that open again. `indexes` has the indexes of the routes before. Allocates the list; the only error is out of memory.
 #[tactic(auto, using(crate::proofs::Appended::joined), unfolding(crate::specs::Indexes::closing))]
 pub(crate) fn closing(
     alloc: Global,
@@ -81,7 +81,7 @@ pub(crate) fn closing(
     Ok(closes)
 }
 
-// The index of a route of a changed configuration, if the next one to be given is this.
+// Returns the index of a route of a changed configuration. `next` is the next index to be used.
 fn index_of(before: &[usize], next: usize, change: RouteChange) -> usize
     ensures { result ≡ index_of before.now next change }
 {
@@ -91,8 +91,8 @@ fn index_of(before: &[usize], next: usize, change: RouteChange) -> usize
     }
 }
 
-// The index that is to be given next behind a route.
-fn next_after(next: usize, change: RouteChange) -> usize
+/// Returns the index of the next route that opens, after this one.
+pub(crate) fn next_after(next: usize, change: RouteChange) -> usize
     ensures { result ≡ next_after next change }
 {
     if opens(change) {
@@ -112,53 +112,56 @@ pub(crate) fn opens(change: RouteChange) -> bool
     }
 }
 
-/// The index of each route of a changed configuration: the one that it had, if it stays; those that open get the next
-/// ones in their order, from `first` on. `before` has those of the routes before. Allocates the list; an error if memory
-/// is refused.
+/// Puts the index of each route of a changed configuration into an empty list: a route that stays has the one that it had,
+/// and those that open have the next ones in their order, from `first` on. `before` has the indexes of the routes before.
 #[tactic(auto, using(crate::proofs::Appended::indexes_step, crate::proofs::Appended::indexes_end))]
-pub(crate) fn indexes_after(
-    alloc: Global,
+pub(crate) fn fill_indexes(
+    list: Vec<usize>,
     changes: &[RouteChange],
     before: &[usize],
     first: usize,
-) -> Result<Vec<usize>, AllocError>
-    ensures { IfOk result (λ indexes. indexes.items ≡ indexes_from before.now first changes.now) }
+) -> Vec<usize>
+    requires empty { (list.items ≡ []) × (vec_len list ≡ 0) }
+    requires fits { length changes.now ≤ vec_capacity list }
+    ensures { result.items ≡ indexes_from before.now first changes.now }
 {
-    let mut indexes = Vec::with_capacity(alloc, changes.len())?;
+    let mut indexes = list;
     let mut next = first;
     let mut rest = changes;
     while !rest.is_empty() {
         let index = index_of(before, next, rest[0]);
         next = next_after(next, rest[0]);
-        indexes.push(index)?;
+        let Ok(()) = indexes.push(index) else {
+            unreachable!()
+        };
         rest = &rest[1..];
     }
-    Ok(indexes)
+    indexes
 }
 
-// The numbers with one route more.
-fn counted(numbers: RouteNumbers, change: RouteChange) -> RouteNumbers
+// Counts one more route.
+fn counted(numbers: ChangeSummary, change: RouteChange) -> ChangeSummary
     ensures { result ≡ counted numbers change }
 {
     match change {
-        RouteChange::Stays(_) => RouteNumbers {
+        RouteChange::Stays(_) => ChangeSummary {
             staying: numbers.staying.saturating_add(1),
             ..numbers
         },
-        RouteChange::Reopens(_) => RouteNumbers {
+        RouteChange::Reopens(_) => ChangeSummary {
             changing: numbers.changing.saturating_add(1),
             ..numbers
         },
-        RouteChange::Opens => RouteNumbers {
+        RouteChange::Opens => ChangeSummary {
             opening: numbers.opening.saturating_add(1),
             ..numbers
         },
     }
 }
 
-// These numbers with all of these routes.
+// Counts all of these routes.
 #[tactic(auto, using(crate::proofs::Appended::counted_step, crate::proofs::Appended::counted_end))]
-fn counted_all(start: RouteNumbers, changes: &[RouteChange]) -> RouteNumbers
+fn counted_all(start: ChangeSummary, changes: &[RouteChange]) -> ChangeSummary
     ensures { result ≡ counted_all start changes.now }
 {
     let mut numbers = start;
@@ -170,11 +173,11 @@ fn counted_all(start: RouteNumbers, changes: &[RouteChange]) -> RouteNumbers
     numbers
 }
 
-/// How many routes of each kind a changed configuration has.
-pub(crate) fn numbers_of(changes: &Changes) -> RouteNumbers
+/// Returns the number of routes of each kind in a changed configuration.
+pub(crate) fn numbers_of(changes: &Changes) -> ChangeSummary
     ensures { result ≡ numbers_of changes.now.gone.items changes.now.routes.items }
 {
-    let start = RouteNumbers {
+    let start = ChangeSummary {
         staying: 0,
         opening: 0,
         closing: changes.gone.len() as u64,
@@ -183,23 +186,11 @@ pub(crate) fn numbers_of(changes: &Changes) -> RouteNumbers
     counted_all(start, changes.routes.as_slice())
 }
 
-/// Whether no route opens or closes: the configuration says the same, perhaps in another order.
-pub(crate) fn asks_nothing(numbers: RouteNumbers) -> bool
-    ensures { result ≡ asks_nothing numbers }
+/// Whether no route opens or closes: the configuration has the same routes, perhaps in another order.
+pub(crate) fn changes_nothing(numbers: ChangeSummary) -> bool
+    ensures { result ≡ changes_nothing numbers }
 {
     numbers.opening == 0 && numbers.closing == 0 && numbers.changing == 0
-}
-
-/// The keys of a configuration that can't change and differ, as the log names them.
-pub(crate) fn differing(fixed: FixedKeys) -> DifferingKeys
-    ensures { result ≡ differing fixed }
-{
-    DifferingKeys {
-        bind: fixed.bind,
-        workers: fixed.workers,
-        status: fixed.status,
-        secret: fixed.secret,
-    }
 }
 
 /// The used indexes from which on the log warns that few are left, and after how many more it does so again.
@@ -207,7 +198,7 @@ const FIRST_MARK: usize = 400;
 
 const MARK_STEP: usize = 25;
 
-// The number of marks that so many used indexes have reached.
+// Returns the number of marks that this many used indexes have reached.
 fn mark_of(used: usize) -> usize
     ensures { result ≡ mark_of used }
 {
@@ -229,8 +220,8 @@ const PACKET_BYTES: u64 = 1536;
 
 const MEGABYTE: u64 = 1 << 20;
 
-/// What a route takes of memory, in megabytes of 1,048,576 bytes, to the nearest: the windows of its sessions and of two
-/// publishers' deliveries, replies and outbox, 1.5 KB for each packet.
+/// Returns the memory of a route, in megabytes of 1,048,576 bytes, to the nearest: the windows of its sessions and of two
+/// publishers' deliveries, its replies and its outbox, 1.5 KB for each packet.
 pub(crate) fn megabytes_of(entry: &Entry) -> u64
     ensures { result ≡ megabytes_of (terms_of entry.now) }
 {

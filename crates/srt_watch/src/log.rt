@@ -6,17 +6,17 @@ use srt_operate::utc_text;
 use std::io::Write;
 use std::mem;
 
-/// When something happened.
+/// A time, by two clocks.
 #[derive(Clone, Copy)]
 pub(crate) struct When {
-    /// The moment, in microseconds of the routes' clock.
+    /// Microseconds of the routes' clock.
     pub moment: u64,
-    /// The time, in microseconds since 1970.
+    /// Microseconds since 1970.
     pub time: u64,
 }
 
 impl When {
-    /// The present moment and time.
+    /// Reads both clocks.
     pub(crate) fn now<M: Machine>(machine: &mut M) -> When {
         When {
             moment: machine.moment(),
@@ -28,20 +28,20 @@ impl When {
 /// The microseconds of a second.
 const SECOND: u64 = 1_000_000;
 
-/// A log, and how many lines its present second has.
+/// A log, and the number of lines in its current second.
 #[derive(Drop)]
 pub(crate) struct LogWriter<W: Drop> {
     pub(crate) out: W,
     is_timed: bool,
     limit: LineLimit,
-    // what nobody told the log, and wasn't told as left out yet
+    // events that weren't passed to the log, and aren't logged as left out yet
     missed: u64,
-    // the second in which that was told last
+    // the second in which they were logged last
     second: u64,
 }
 
 impl<W: Write + Drop> LogWriter<W> {
-    /// A log without lines. Lines begin with their time if it `is_timed`.
+    /// Returns a log without lines. Lines begin with their time if it `is_timed`.
     pub fn new(out: W, is_timed: bool) -> LogWriter<W> {
         LogWriter {
             out,
@@ -52,12 +52,12 @@ impl<W: Write + Drop> LogWriter<W> {
         }
     }
 
-    /// Counts events that nobody told the log as lines that were left out.
+    /// Counts events that weren't passed to the log as lines that were left out.
     pub fn miss(&mut self, count: u64) {
         self.missed = self.missed.saturating_add(count);
     }
 
-    // The number of missed events to be told by this moment: once a second.
+    // Returns the number of missed events to be logged now: once a second.
     fn missed_by(&mut self, moment: u64) -> u64 {
         let second = moment / SECOND;
         if second <= self.second {
@@ -67,7 +67,7 @@ impl<W: Write + Drop> LogWriter<W> {
         mem::replace(&mut self.missed, 0)
     }
 
-    // Writes a line, whatever the limit says. NoWatcher is told if it can't be written: the gateway goes on without a log.
+    // Writes a line, whatever the limit. A failed write is ignored: the gateway continues without a log.
     fn write(&mut self, when: When, event: LogEvent<'_>) {
         let time = if self.is_timed {
             Some(utc_text(when.time))
@@ -77,41 +77,41 @@ impl<W: Write + Drop> LogWriter<W> {
         let _ = write_line(&mut self.out, time, event);
     }
 
-    // Tells how many lines were left out, if some were.
-    fn tell_left_out(&mut self, when: When, count: u64) {
+    // Writes how many lines were left out, if some were.
+    fn append_left_out(&mut self, when: When, count: u64) {
         if count > 0 {
             self.write(when, LogEvent::LeftOut { count });
         }
     }
 
-    /// Writes the line of an event, if its second has room for it; else it is counted.
-    pub fn tell(&mut self, when: When, event: LogEvent<'_>) {
+    /// Writes the line of an event if its second has room for it, and counts it otherwise.
+    pub fn append(&mut self, when: When, event: LogEvent<'_>) {
         let allowed = self.limit.line(when.moment);
-        self.tell_left_out(when, allowed.left_out);
+        self.append_left_out(when, allowed.left_out);
         if allowed.written {
             self.write(when, event);
         }
     }
 
-    /// Writes the line of an event whether its second has room or not: one that comes once in a run, or twice a second at
-    /// most.
-    pub fn tell_always(&mut self, when: When, event: LogEvent<'_>) {
+    /// Writes the line of an event whether its second has room or not. For events that happen once in a run, or at most
+    /// twice a second.
+    pub fn append_always(&mut self, when: When, event: LogEvent<'_>) {
         self.end_second(when);
         self.write(when, event);
     }
 
-    /// Tells how many lines the second before left out, if that is over and they weren't told yet.
+    /// Writes how many lines the last second left out, once, after its end.
     pub fn end_second(&mut self, when: When) {
-        let count = self.limit.look(when.moment);
+        let count = self.limit.poll(when.moment);
         let missed = self.missed_by(when.moment);
-        self.tell_left_out(when, count.saturating_add(missed));
+        self.append_left_out(when, count.saturating_add(missed));
     }
 
-    /// Tells how many lines the present second has left out so far, at the end of the log.
+    /// Writes how many lines the current second has left out so far, at the end of the log.
     pub fn end(&mut self, when: When) {
         self.end_second(when);
         let missed = mem::replace(&mut self.missed, 0);
         let left_out = self.limit.left_out();
-        self.tell_left_out(when, left_out.saturating_add(missed));
+        self.append_left_out(when, left_out.saturating_add(missed));
     }
 }

@@ -1,34 +1,61 @@
-//! The routes that a watcher sees, by their indexes, and what the page shows of those in force.
+//! The routes of a run, by their indexes, and the status of those in the configuration in force.
 
 use crate::census::{grown_limits, note_route};
-use crate::showing::{look_at, look_at_none};
+use crate::showing::{first_snapshot, sessions_of, snapshot_of};
 use srt_config::RouteChange;
 use srt_log::RouteSnapshot;
-use srt_route::Route;
+use srt_route::{Route, Totals};
+use srt_seq::limits::MAX_SESSIONS;
 use srt_seq::{Entry, Mode};
-use srt_status::{LimitCounts, PublisherCounts, RefusalCounts, RouteStatus, SubscriberCounts};
+use srt_status::{LimitCounts, RefusalCounts, RouteStatus};
+use srt_sub::Sendings;
 use std::alloc::{AllocError, Global};
 use std::mem;
 use std::vec::IntoIter;
 
+// The totals of a route without sessions.
+const NO_TOTALS: Totals = Totals {
+    received: srt_pub::Counts {
+        came: 0,
+        late: 0,
+        ahead: 0,
+        received: 0,
+        bytes: 0,
+        delivered: 0,
+        given_up: 0,
+        naks: 0,
+        reported_lost: 0,
+        full_windows: 0,
+    },
+    queued: srt_sub::Counts {
+        queued: 0,
+        bytes: 0,
+        naks: 0,
+        given_up: 0,
+        misdirected: 0,
+    },
+    sent: Sendings { fresh: 0, again: 0 },
+};
+
 // A route of the run.
 #[derive(Drop)]
 struct WatchedRoute {
+    index: usize,
     name: String,
-    // the look before the next one
-    look: RouteSnapshot,
-    // its place among those that the page shows; none once it is no longer in the configuration
+    // the last snapshot
+    snapshot: RouteSnapshot,
+    // its place among the routes of the configuration in force; none once it is no longer in it
     place: Option<usize>,
 }
 
-/// What is kept of a route that opens while the gateway runs, all of its memory taken.
+/// A route that is to open while the gateway runs, with its memory.
 #[derive(Drop)]
 pub(crate) struct OpeningRoute {
-    seen: WatchedRoute,
+    name: String,
     status: RouteStatus,
 }
 
-/// Two looks at a route, and what its limits refused between them.
+/// Two snapshots of a route, and what its limits refused between them.
 #[derive(Clone, Copy)]
 pub(crate) struct SnapshotPair {
     pub old: RouteSnapshot,
@@ -36,24 +63,31 @@ pub(crate) struct SnapshotPair {
     pub grown: Option<LimitCounts>,
 }
 
-/// The routes of a run, those that were closed too, and what the page shows of those in the configuration in force.
+/// The routes of a run, closed ones included, and the status of those in the configuration in force.
 #[derive(Drop)]
 pub(crate) struct WatchedRoutes {
-    // by their indexes
-    seen: Vec<WatchedRoute>,
+    // in rising order of their indexes
+    routes: Vec<WatchedRoute>,
     // in the order of the configuration
     shown: Vec<RouteStatus>,
 }
 
-// A route before its first look, without a name.
-fn unseen_status(alloc: Global, mode: Mode, sessions: u32) -> RouteStatus {
+// Returns the place of the route with this index.
+fn place_of(routes: &[WatchedRoute], index: usize) -> Option<usize> {
+    match routes.binary_search_by_key(&index, |route| route.index) {
+        Ok(place) => Some(place),
+        Err(_) => None,
+    }
+}
+
+// Returns the status of a route before its first snapshot, without a name.
+fn empty_status(alloc: Global, mode: Mode, sessions: u32) -> RouteStatus {
     RouteStatus {
         name: String::new(alloc),
         mode,
         sessions_allowed: sessions,
-        sessions: [None; srt_status::SLOTS],
-        publishers: PublisherCounts::default(),
-        subscribers: SubscriberCounts::default(),
+        sessions: [None; MAX_SESSIONS],
+        totals: NO_TOTALS,
         opened: 0,
         refused: RefusalCounts::default(),
         limits: None,
@@ -62,32 +96,28 @@ fn unseen_status(alloc: Global, mode: Mode, sessions: u32) -> RouteStatus {
 }
 
 impl OpeningRoute {
-    /// The route of this entry. Allocates two copies of its name; an error if memory is refused.
+    /// Returns the route of this entry. Allocates two copies of its name; the only error is out of memory.
     pub(crate) fn new(alloc: Global, entry: &Entry) -> Result<OpeningRoute, AllocError> {
-        let mut status = unseen_status(alloc, entry.mode, entry.sessions);
+        let mut status = empty_status(alloc, entry.mode, entry.sessions);
         status.name = String::from_str(alloc, entry.name.as_str())?;
         Ok(OpeningRoute {
-            seen: WatchedRoute {
-                name: String::from_str(alloc, entry.name.as_str())?,
-                look: look_at_none(),
-                place: None,
-            },
+            name: String::from_str(alloc, entry.name.as_str())?,
             status,
         })
     }
 
-    /// Its name.
+    /// Returns its name.
     pub(crate) fn name(&self) -> &str {
-        self.seen.name.as_str()
+        self.name.as_str()
     }
 }
 
 impl WatchedRoutes {
-    /// The routes of these entries, none of which was looked at. Allocates 7 KB for each; the only error is that memory is
-    /// refused.
+    /// Returns the routes of these entries, with the indexes from 0 on. Allocates 7 KB for each; the only error is out of
+    /// memory.
     pub(crate) fn open(alloc: Global, entries: &[Entry]) -> Result<WatchedRoutes, AllocError> {
         let mut routes = WatchedRoutes {
-            seen: Vec::with_capacity(alloc, entries.len())?,
+            routes: Vec::with_capacity(alloc, entries.len())?,
             shown: Vec::with_capacity(alloc, entries.len())?,
         };
         for entry in entries {
@@ -96,57 +126,73 @@ impl WatchedRoutes {
         Ok(routes)
     }
 
-    // Adds the route of an entry, for which there is room, and shows it behind the others. Allocates two copies of its
-    // name; an error if memory is refused.
+    // Adds the route of an entry, for which there is room, with the next index, and shows it after the others. Allocates
+    // two copies of its name; the only error is out of memory.
     fn add_shown(&mut self, alloc: Global, entry: &Entry) -> Result<(), AllocError> {
-        let mut opening = OpeningRoute::new(alloc, entry)?;
-        opening.seen.place = Some(self.shown.len());
-        let status = self.add(opening);
+        let place = self.shown.len();
+        let status = self.add(place, OpeningRoute::new(alloc, entry)?);
         self.shown.push(status)?;
+        if let Some(route) = self.routes.last_mut() {
+            route.place = Some(place);
+        }
         Ok(())
     }
 
-    /// The number of indexes that are used.
+    /// Returns the number of indexes that are used.
     pub(crate) fn used(&self) -> usize {
-        self.seen.len()
+        match self.routes.last() {
+            Some(route) => route.index.saturating_add(1),
+            None => 0,
+        }
     }
 
-    /// The routes of the configuration in force, in its order.
+    /// Returns the routes of the configuration in force, in its order.
     pub(crate) fn shown(&self) -> &[RouteStatus] {
         self.shown.as_slice()
     }
 
-    /// The name of the route with this index; empty if there is none.
+    // Returns the route with this index.
+    fn route(&self, index: usize) -> Option<&WatchedRoute> {
+        self.routes.get(place_of(self.routes.as_slice(), index)?)
+    }
+
+    /// Returns the name of the route with this index; empty if there is none.
     pub(crate) fn name_of(&self, index: usize) -> &str {
-        match self.seen.get(index) {
-            Some(seen) => seen.name.as_str(),
+        match self.route(index) {
+            Some(route) => route.name.as_str(),
             None => "",
         }
     }
 
-    // What the page shows of the route with this index; none of one that is no longer in the configuration.
+    // Returns the status of the route with this index. None if it is no longer in the configuration.
     fn status_of(&mut self, index: usize) -> Option<&mut RouteStatus> {
-        let place = self.seen.get(index)?.place?;
+        let place = self.route(index)?.place?;
         self.shown.get_mut(place)
     }
 
-    /// Notes what the route with this index is at this moment. `stops`: the gateway is about to end. None for an index
-    /// that no route has.
-    pub(crate) fn look(
+    // Replaces the snapshot of the route with this index. Returns the one before; None if no route has the index.
+    fn replace_snapshot(&mut self, index: usize, new: RouteSnapshot) -> Option<RouteSnapshot> {
+        let place = place_of(self.routes.as_slice(), index)?;
+        let route = self.routes.get_mut(place)?;
+        Some(mem::replace(&mut route.snapshot, new))
+    }
+
+    /// Takes a snapshot of the route with this index, and updates its status. `stops`: the gateway is about to end. None
+    /// if no route has the index.
+    pub(crate) fn observe(
         &mut self,
         index: usize,
         route: &Route,
         moment: u64,
         stops: bool,
     ) -> Option<SnapshotPair> {
-        let seen = self.seen.get_mut(index)?;
-        let new = look_at(route, moment, stops);
-        let old = seen.look;
-        seen.look = new;
+        let sessions = sessions_of(route);
+        let new = snapshot_of(route, &sessions, moment, stops);
+        let old = self.replace_snapshot(index, new)?;
         let grown = match self.status_of(index) {
             Some(status) => {
                 let before = status.limits.unwrap_or(LimitCounts::default());
-                note_route(route, status);
+                note_route(route, &sessions, status);
                 grown_limits(before, status.limits)
             }
             None => None,
@@ -163,54 +209,61 @@ impl WatchedRoutes {
         }
     }
 
-    /// Takes the memory that so many more routes need, and a list for the page of so many routes as the configuration
-    /// will have. An error if it is refused.
+    /// Allocates what this many more routes need, and returns an empty list for the status of as many routes as the
+    /// configuration will have. The only error is out of memory.
     pub(crate) fn make_room(
         &mut self,
         alloc: Global,
         opening: usize,
         configured: usize,
     ) -> Result<Vec<RouteStatus>, AllocError> {
-        self.seen.reserve(opening)?;
+        self.routes.reserve(opening)?;
         Vec::with_capacity(alloc, configured)
     }
 
-    // Notes a route that opens, and returns what the page shows of it.
-    fn add(&mut self, opening: OpeningRoute) -> RouteStatus {
-        let OpeningRoute { seen, status } = opening;
+    // Adds a route that opens with this index, the highest so far, and returns its status.
+    fn add(&mut self, index: usize, opening: OpeningRoute) -> RouteStatus {
+        let OpeningRoute { name, status } = opening;
         // There is room for it (`open`, `make_room`).
-        let _ = self.seen.push(seen);
+        let _ = self.routes.push(WatchedRoute {
+            index,
+            name,
+            snapshot: first_snapshot(),
+            place: None,
+        });
         status
     }
 
-    // Takes the status of a route that stays out of the list.
+    // Moves the status of a route that stays out of the list.
     fn taken(&mut self, alloc: Global, place: usize) -> RouteStatus {
-        let nothing = unseen_status(alloc, Mode::Live, 0);
+        let nothing = empty_status(alloc, Mode::Live, 0);
         match self.shown.get_mut(place) {
             Some(status) => mem::replace(status, nothing),
             None => nothing,
         }
     }
 
-    // What the page shows of the next route of a changed configuration; those that open are taken in their order.
+    // Returns the status of the next route of a changed configuration, which has this index. Routes that open are added
+    // in their order.
     fn next_status(
         &mut self,
         alloc: Global,
         change: RouteChange,
+        index: usize,
         opening: &mut IntoIter<OpeningRoute>,
     ) -> Option<RouteStatus> {
         match change {
             RouteChange::Stays(place) => Some(self.taken(alloc, place)),
             RouteChange::Reopens(_) | RouteChange::Opens => match opening.next() {
-                Some(opening) => Some(self.add(opening)),
+                Some(opening) => Some(self.add(index, opening)),
                 None => None,
             },
         }
     }
 
-    /// The routes of a changed configuration, which is in force now: `indexes` has the index of each. Those that open
-    /// are added in their order; the page doesn't show those any more that aren't in it. Takes no memory: `shown` is what
-    /// `make_room` gave.
+    /// Changes to the routes of a configuration that is in force now. `indexes` has the index of each. Routes that open are
+    /// added in their order; routes that aren't in the configuration lose their status. Doesn't allocate: `shown` is the
+    /// list that `make_room` returned.
     pub(crate) fn change(
         &mut self,
         alloc: Global,
@@ -220,24 +273,26 @@ impl WatchedRoutes {
         mut shown: Vec<RouteStatus>,
     ) {
         let mut opening = opening.into_iter();
-        for change in changes {
-            if let Some(status) = self.next_status(alloc, *change, &mut opening) {
+        for (change, index) in changes.iter().zip(indexes.iter()) {
+            if let Some(status) = self.next_status(alloc, *change, *index, &mut opening) {
                 let _ = shown.push(status);
             }
         }
         self.shown = shown;
-        place_all(self.seen.as_mut_slice(), indexes);
+        place_all(self.routes.as_mut_slice(), indexes);
     }
 }
 
-// Notes which routes the page shows: those with these indexes, in this order.
-fn place_all(seen: &mut [WatchedRoute], indexes: &[usize]) {
-    for route in seen.iter_mut() {
+// Sets the places of all routes: these indexes are in the configuration, in this order.
+fn place_all(routes: &mut [WatchedRoute], indexes: &[usize]) {
+    for route in routes.iter_mut() {
         route.place = None;
     }
     for (place, index) in indexes.iter().enumerate() {
-        if let Some(route) = seen.get_mut(*index) {
-            route.place = Some(place);
+        if let Some(found) = place_of(routes, *index) {
+            if let Some(route) = routes.get_mut(found) {
+                route.place = Some(place);
+            }
         }
     }
 }

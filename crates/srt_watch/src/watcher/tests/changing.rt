@@ -1,12 +1,13 @@
 //! A watcher that follows a configuration's file, over a file in memory that says something else at each look.
 
-use super::{NOTHING, Watching, assert_lines, start, watcher};
-use crate::config_file::LastRead;
+use super::{CALLER, NOTHING, Watching, assert_lines, start, watcher};
+use crate::config_file::LastPoll;
 use crate::indexes::{megabytes_of, reaches_mark};
 use crate::{ConfigFile, FileStamp, MAX_REASON};
 use srt_config::{Config, read_config};
+use srt_seq::Role;
 use srt_status::ChangeCounts;
-use srt_supervision::{ChangeFault, Order, RouteChanges, Watch};
+use srt_supervision::{ChangeFault, ChangeRoutes, Order, RouteChanges, Watch};
 use std::alloc::{AllocError, Global};
 use std::cell::Cell;
 use std::fmt::InlineText;
@@ -30,6 +31,9 @@ const SLOW_STUDIO: &str =
 
 const WRONG_STUDIO: &str =
     "[[route]]\nname = \"studio\"\nmode = \"live\"\nlatency_ms = 120\nbuffer = 1024\nsessions = 40\ninbox = 16\noutbox = 136\n";
+
+const GUARDED_STUDIO: &str =
+    "[[route]]\nname = \"studio\"\nmode = \"live\"\nlatency_ms = 120\nbuffer = 1024\nsessions = 2\ninbox = 16\noutbox = 136\npublish_from = [\"192.0.2.0/24\"]\npublish_key = \"put-a-key-of-your-own-here\"\n";
 
 const NEWS: &str =
     "[[route]]\nname = \"news\"\nmode = \"live\"\nlatency_ms = 120\nbuffer = 1024\nsessions = 2\ninbox = 16\noutbox = 136\n";
@@ -92,7 +96,7 @@ fn config(alloc: Global, parts: &[&'static str]) -> Result<Config, Fail> {
     };
     match read_config(alloc, text) {
         Ok(config) => Ok(config),
-        Err(_) => Err(Fail::from("a right configuration")),
+        Err(_) => Err(Fail::from("a valid configuration")),
     }
 }
 
@@ -116,18 +120,42 @@ fn follower<'a>(
     Ok(watcher)
 }
 
-/// The change that is asked for at the next two looks at the file. The first one finds another file, and asks for nothing.
-fn next_change(watcher: &mut Watching<'_>) -> Option<RouteChanges> {
+/// A run that returns this outcome of each change that is requested of it, and keeps the change.
+#[derive(Drop)]
+struct Run {
+    outcome: Result<usize, ChangeFault>,
+    requested: Option<RouteChanges>,
+}
+
+impl ChangeRoutes for Run {
+    fn change(&mut self, changes: RouteChanges) -> Result<usize, ChangeFault> {
+        self.requested = Some(changes);
+        self.outcome
+    }
+}
+
+/// Returns the change that is requested at the next two polls of the file, of a run that returns this outcome. The first
+/// poll finds the file changed, and requests nothing.
+fn next_change(
+    watcher: &mut Watching<'_>,
+    outcome: Result<usize, ChangeFault>,
+) -> Option<RouteChanges> {
+    let mut run = Run {
+        outcome,
+        requested: None,
+    };
     watcher.machine.moment = watcher.machine.moment.saturating_add(1_000_000);
-    if watcher.change().is_some() {
+    watcher.change_routes(&mut run);
+    if run.requested.is_some() {
         return None;
     }
     watcher.machine.moment = watcher.machine.moment.saturating_add(50_000);
-    watcher.change()
+    watcher.change_routes(&mut run);
+    run.requested
 }
 
 /// Asserts that a change closes the routes with these indexes, and opens as many routes, the first of this name.
-fn assert_asks(
+fn assert_requests(
     rt: &impl Abort,
     change: Option<RouteChanges>,
     closes: &[usize],
@@ -162,7 +190,7 @@ fn assert_page(rt: &impl Abort, watcher: &mut Watching<'_>, initials: &[u8], cou
 }
 
 #[test]
-fn a_change_is_asked_for_and_told(rt: HostRuntime) -> Result<(), Fail> {
+fn a_change_is_requested_and_logged(rt: HostRuntime) -> Result<(), Fail> {
     let config = config(rt.alloc(), &[HEAD, STUDIO, NEWS])?;
     let mut watcher = follower(
         rt.alloc(),
@@ -174,27 +202,30 @@ fn a_change_is_asked_for_and_told(rt: HostRuntime) -> Result<(), Fail> {
             &[HEAD, NEWS, GUEST],
         ],
     )?;
+    let mut run = Run {
+        outcome: Ok(2),
+        requested: None,
+    };
     watcher.machine.moment = 999_999;
-    assert!(rt; watcher.change().is_none());
+    watcher.change_routes(&mut run);
+    assert!(rt; run.requested.is_none());
     watcher.machine.moment = 0;
-    assert!(rt; next_change(&mut watcher).is_none());
-    let change = next_change(&mut watcher);
-    assert_asks(&rt, change, &[1, 0], 2, "guest")?;
-    assert!(rt; next_change(&mut watcher).is_none());
+    assert!(rt; next_change(&mut watcher, Ok(2)).is_none());
+    assert_lines(&rt, &mut watcher, "");
     assert_page(&rt, &mut watcher, b"sn", [0, 0, 2]);
-    watcher.changed(Ok(2));
+    let change = next_change(&mut watcher, Ok(2));
+    assert_requests(&rt, change, &[1, 0], 2, "guest")?;
     assert_lines(
         &rt,
         &mut watcher,
         "configuration changed: 0 routes stay, 1 open, 1 close, 1 change\nnews: closed, it is no longer in the configuration\nstudio: closed, to open again with other keys\nguest: opened with index 2, 6 MB\nstudio: opened with index 3, 6 MB\n",
     );
     assert_page(&rt, &mut watcher, b"gs", [1, 0, 4]);
-    assert!(rt; next_change(&mut watcher).is_none());
+    assert!(rt; next_change(&mut watcher, Ok(4)).is_none());
     assert_lines(&rt, &mut watcher, "");
     assert_page(&rt, &mut watcher, b"sg", [1, 0, 4]);
-    let change = next_change(&mut watcher);
-    assert_asks(&rt, change, &[3], 1, "news")?;
-    watcher.changed(Ok(4));
+    let change = next_change(&mut watcher, Ok(4));
+    assert_requests(&rt, change, &[3], 1, "news")?;
     assert_lines(
         &rt,
         &mut watcher,
@@ -207,7 +238,52 @@ fn a_change_is_asked_for_and_told(rt: HostRuntime) -> Result<(), Fail> {
 }
 
 #[test]
-fn what_is_not_taken_is_told_once(rt: HostRuntime) -> Result<(), Fail> {
+fn indexes_are_those_that_the_run_returns(rt: HostRuntime) -> Result<(), Fail> {
+    let config = config(rt.alloc(), &[HEAD, STUDIO])?;
+    let mut watcher = follower(
+        rt.alloc(),
+        &config,
+        &[&[HEAD, STUDIO], &[HEAD, STUDIO, NEWS], &[HEAD, STUDIO]],
+    )?;
+    assert!(rt; next_change(&mut watcher, Ok(1)).is_none());
+    let change = next_change(&mut watcher, Ok(7));
+    assert_requests(&rt, change, &[], 1, "news")?;
+    assert_lines(
+        &rt,
+        &mut watcher,
+        "configuration changed: 1 routes stay, 1 open, 0 close, 0 change\nnews: opened with index 7, 6 MB\n",
+    );
+    let change = next_change(&mut watcher, Ok(8));
+    assert_requests(&rt, change, &[7], 0, "")
+}
+
+#[test]
+fn a_route_that_opens_has_its_list_and_its_key(rt: HostRuntime) -> Result<(), Fail> {
+    let config = config(rt.alloc(), &[HEAD, STUDIO])?;
+    let mut watcher = follower(
+        rt.alloc(),
+        &config,
+        &[&[HEAD, STUDIO], &[HEAD, GUARDED_STUDIO]],
+    )?;
+    assert!(rt; next_change(&mut watcher, Ok(1)).is_none());
+    let Some(change) = next_change(&mut watcher, Ok(1)) else {
+        return Err(Fail::from("a change"));
+    };
+    assert_eq!(rt; change.closes.first().copied(), Some(0));
+    let Some(entry) = change.opens.first() else {
+        return Err(Fail::from("a route that opens"));
+    };
+    let publishers = entry.access.in_role(Role::Publish);
+    assert!(rt; !publishers.lists(CALLER));
+    assert!(rt; !publishers.is_right_key(None));
+    assert!(rt; publishers.is_right_key(Some(b"put-a-key-of-your-own-here")));
+    let subscribers = entry.access.in_role(Role::Request);
+    assert!(rt; subscribers.lists(CALLER) && subscribers.is_right_key(None));
+    Ok(())
+}
+
+#[test]
+fn what_is_not_taken_is_logged_once(rt: HostRuntime) -> Result<(), Fail> {
     let config = config(rt.alloc(), &[HEAD, STUDIO])?;
     let mut watcher = follower(
         rt.alloc(),
@@ -222,37 +298,37 @@ fn what_is_not_taken_is_told_once(rt: HostRuntime) -> Result<(), Fail> {
             &[HEAD],
         ],
     )?;
-    assert!(rt; next_change(&mut watcher).is_none());
+    assert!(rt; next_change(&mut watcher, Ok(1)).is_none());
     assert_lines(
         &rt,
         &mut watcher,
         "configuration not taken: route 1 (studio): sessions = 40: allowed are 1 to 17\n",
     );
-    assert!(rt; next_change(&mut watcher).is_none());
+    assert!(rt; next_change(&mut watcher, Ok(1)).is_none());
     assert_lines(&rt, &mut watcher, "");
-    assert!(rt; next_change(&mut watcher).is_none());
+    assert!(rt; next_change(&mut watcher, Ok(1)).is_none());
     assert_lines(
         &rt,
         &mut watcher,
         "configuration can't be read: No such file or directory (os error 2)\n",
     );
-    assert!(rt; next_change(&mut watcher).is_none());
-    assert!(rt; next_change(&mut watcher).is_none());
+    assert!(rt; next_change(&mut watcher, Ok(1)).is_none());
+    assert!(rt; next_change(&mut watcher, Ok(1)).is_none());
     assert_lines(&rt, &mut watcher, "");
-    assert!(rt; next_change(&mut watcher).is_none());
+    assert!(rt; next_change(&mut watcher, Ok(1)).is_none());
     assert_lines(
         &rt,
         &mut watcher,
         "configuration not taken: bind can't change while the gateway runs (also: workers, secret); restart it to change it\n",
     );
-    assert!(rt; next_change(&mut watcher).is_none());
+    assert!(rt; next_change(&mut watcher, Ok(1)).is_none());
     watcher.log.out.clear();
     assert_page(&rt, &mut watcher, b"s", [0, 3, 1]);
     Ok(())
 }
 
 #[test]
-fn what_the_run_refuses_is_told(rt: HostRuntime) -> Result<(), Fail> {
+fn what_the_run_rejects_is_logged(rt: HostRuntime) -> Result<(), Fail> {
     let config = config(rt.alloc(), &[HEAD, STUDIO])?;
     let mut watcher = follower(
         rt.alloc(),
@@ -263,21 +339,21 @@ fn what_the_run_refuses_is_told(rt: HostRuntime) -> Result<(), Fail> {
             &[HEAD, STUDIO],
         ],
     )?;
-    assert!(rt; next_change(&mut watcher).is_some());
-    watcher.changed(Err(ChangeFault::OutOfMemory(0)));
+    let change = next_change(&mut watcher, Err(ChangeFault::OutOfMemory(0)));
+    assert!(rt; change.is_some());
     assert_lines(
         &rt,
         &mut watcher,
         "configuration not taken: no memory for news\n",
     );
-    assert!(rt; next_change(&mut watcher).is_some());
-    watcher.changed(Err(ChangeFault::NoIndexLeft(1)));
+    let change = next_change(&mut watcher, Err(ChangeFault::NoIndexLeft(1)));
+    assert!(rt; change.is_some());
     assert_lines(
         &rt,
         &mut watcher,
         "configuration not taken: 2 routes are to open, 1 indexes are left; restart the gateway\n",
     );
-    assert!(rt; next_change(&mut watcher).is_none());
+    assert!(rt; next_change(&mut watcher, Ok(1)).is_none());
     assert_lines(&rt, &mut watcher, "");
     assert_page(&rt, &mut watcher, b"s", [0, 2, 1]);
     Ok(())
@@ -290,7 +366,7 @@ fn stamp_at(changed: u64) -> Option<FileStamp> {
 
 #[test]
 fn a_file_that_is_being_written_is_not_read(rt: HostRuntime) {
-    let mut last = LastRead::none();
+    let mut last = LastPoll::none();
     assert!(rt; !last.reads(stamp_at(1)) && last.is_settling());
     assert!(rt; !last.reads(stamp_at(2)) && last.is_settling());
     assert!(rt; last.reads(stamp_at(2)) && !last.is_settling());
@@ -302,7 +378,7 @@ fn a_file_that_is_being_written_is_not_read(rt: HostRuntime) {
 }
 
 #[test]
-fn few_indexes_are_told_at_marks(rt: HostRuntime) {
+fn few_indexes_are_logged_at_marks(rt: HostRuntime) {
     assert!(rt; !reaches_mark(2, 399));
     assert!(rt; reaches_mark(399, 400));
     assert!(rt; !reaches_mark(400, 424));
