@@ -27,6 +27,7 @@
 
 mod accounts;
 mod cells;
+mod claims;
 mod evidence;
 mod gates;
 mod inbox;
@@ -39,6 +40,7 @@ mod places;
 mod readers;
 mod running;
 mod seats;
+mod slots;
 mod spares;
 
 pub use accounts::{Account, Unsettled, settle};
@@ -53,6 +55,7 @@ pub use places::Place;
 pub use readers::SeatReader;
 pub use running::{BUFFER_ROOM, Running};
 pub use seats::{Attachment, ClockHand, PollerEnds, Seat, SeatTag, open_seat};
+pub use slots::TakenElsewhere;
 
 #[cfg(test)]
 mod tests;
