@@ -124,8 +124,8 @@ impl RouteCell {
         }
     }
 
-    // Claims the route, makes one turn if the gate lets it pass, and gives the route back. The error is evidence that another
-    // call has it.
+    // Claims the route, makes one turn if the gate lets it pass, and gives the route back. The error is evidence that
+    // another call has it.
     #[inline(always)]
     fn serve_claimed<R: Wait, G: Gate>(
         &self,
@@ -143,8 +143,7 @@ impl RouteCell {
         Ok((served, back))
     }
 
-    // Claims the route, visits it, and gives it back. The error is evidence that another
-    // call has it.
+    // Claims the route, visits it, and gives it back. The error is evidence that another call has it.
     #[inline(always)]
     fn visit_claimed<R: Wait, G: Gate>(
         &self,
@@ -168,8 +167,7 @@ impl RouteCell {
         Ok((visit, back))
     }
 
-    // Claims the route, shows it, and gives it back as it was. The error is evidence that another
-    // call has it.
+    // Claims the route, shows it, and gives it back as it was. The error is evidence that another call has it.
     #[inline(always)]
     fn show_claimed<R: Wait, L: Observer>(
         &self,

@@ -8,21 +8,22 @@
 //! offers ticks), `RouteCell` (workers serve the route) and `Drain` (the poller takes replies). A `Gate` may refuse a
 //! turn (`Ungated` never does), `Served` is the outcome of a turn that was asked for, `Visit` that of several, and
 //! `Account` has the counts of a route that has ended. A `Observer` is shown a route under its claim. `InboxFull` and
-//! `OutboxEmpty` are evidence of a refusal. For routes that come while threads run: a `Seat` has a route and its ends
-//! until their owners take them (`PollerEnds` with a `Attachment`, `ClockHand`), a `Place` has a seat or is empty, and
-//! each owner has a `SeatReader`.
+//! `OutboxEmpty` are evidence of a refusal, `TakenElsewhere` of what another call has taken. For routes that come while
+//! threads run: a `Seat` has a route and its ends until their owners take them (`PollerEnds` with a `Attachment`,
+//! `ClockHand`), a `Place` has a seat or is empty, and each owner has a `SeatReader`.
 //!
 //! Calls: `open_route`; then, each from its own thread, `offer` on `Ingress` (for a datagram also `offer_datagram`) and
-//! on `ClockEnd`, `RouteCell::visit` or `RouteCell::serve` (any number of workers; `RouteCell::show` makes no turn), and
-//! `Drain::take` with `Drain::reply` and `Drain::take_buffer`; last `settle`, which takes all four ends. With seats
+//! on `ClockEnd`, `RouteCell::visit` or `RouteCell::serve` (any number of workers; `RouteCell::show` makes no turn),
+//! and `Drain::take` with `Drain::reply` and `Drain::take_buffer`; last `settle`, which takes all four ends. With seats
 //! `open_seat` and `Place::put`; then, each owner, `SeatReader::next_poller` or `next_clock`; last `SeatReader::agree`,
 //! `seat` and `Seat::settle`.
 //!
-//! Files: the claim word is in `cells.rt`, one turn of a route in `running.rt`, what a look is given in `looks.rt`, the queues in `inbox.rt` and
-//! `outbox.rt`, what passes through them in `inbox_rule.rt` and `outbox_rule.rt` (`specs/Inbox.antt`,
-//! `specs/Outbox.antt`), and the evidence that one of them was full or empty in `evidence.rt`. That the replies don't
-//! depend on which worker serves is `Replays` in `specs/Runs.antt`. Seats are in `seats.rt`, their places in `places.rt`
-//! and what reads these in `readers.rt` (`specs/Places.antt`).
+//! Files: the claim word is in `cells.rt` and `slots.rt`, what a call has of a claimed route in `claims.rt`, one turn
+//! of a route in `running.rt`, what a snapshot is handed in `observer.rt`, the queues in `inbox.rt` and `outbox.rt`,
+//! what passes through them in `inbox_rule.rt` and `outbox_rule.rt` (`specs/Inbox.antt`, `specs/Outbox.antt`), and the
+//! evidence that one of them was full or empty in `evidence.rt`. That the replies don't depend on which worker serves
+//! is `Replays` in `specs/Runs.antt`. Seats are in `seats.rt`, their places in `places.rt` and what reads these in
+//! `readers.rt` (`specs/Places.antt`).
 #![tactic(auto)]
 
 mod accounts;
