@@ -144,7 +144,7 @@ drain_in_sync =
           spent_is.the_field_sync,
           (
             heap.Box-sync _ reply_is.the_sync,
-            (search (sendable, heap.crosses, option_is.the_field_sync) depth 30, (search sendable, tt)),
+            (search (sendable, heap.crosses, option_is.the_field_sync) depth 30, tt),
           ),
         ),
       ),

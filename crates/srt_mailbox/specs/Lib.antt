@@ -3,8 +3,10 @@ pub mod Inbox
 pub mod Outbox
 pub mod Ends
 pub mod Counts
+pub mod Boxes
 pub mod Evidence
 pub mod Runs
+pub mod Claims
 pub mod Asked
 pub mod Visits
 pub mod Cells

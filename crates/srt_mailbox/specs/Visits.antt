@@ -1,5 +1,5 @@
--- The queries of a gate in a batch of steps, and the number of steps that a route made.
-use Rattle.std.specs.Prelude.{◌≡◌, ℕ, true, false, Option, None, Some, List, ◌∷◌, ◌+◌, length}
+-- What a gate was asked for the turns of a route, and how many turns the route made.
+use Rattle.std.specs.Prelude.{◌≡◌, ◌⊎◌, ℕ, true, false, Option, None, Some, List, ◌∷◌, ◌+◌, length, option_map}
 use Rattle.srt_seq.specs.declared.shared.Turned.TheVariants.{Moved, Applied, Blocked, Idle}
 use Rattle.srt_mailbox.specs.declared.gates.Served.{Served}
 use Rattle.srt_mailbox.specs.declared.gates.Served.TheVariants.{Turned, GateRefused, ClaimedElsewhere}
@@ -42,3 +42,19 @@ EndedAs (Some (Turned Moved)) a b = ⊥
 EndedAs (Some GateRefused) a b = b.refusals ≡ a.refusals
 EndedAs (Some ClaimedElsewhere) a b = ⊥
 EndedAs None a b = b.refusals ≡ a.refusals
+
+-- the visit was of this route: it made as many turns and moved as many replies as it reports, and ended as it reports
+abbrev pub VisitedAs : Visit → Run → Run → Type 0
+VisitedAs v a b = (turns_of b ≡ turns_of a + v.turns) × (length b.outbox.put ≡ length a.outbox.put + v.moved) × EndedAs v.end a b
+
+-- what the visit of a place reports that has no route
+abbrev pub nothing_done : Visit
+nothing_done = record { turns = 0; moved = 0; end = Some (Turned Idle) }
+
+-- each turn of the visit is one for which the gate was asked about one route; or the gate was asked nothing, and the visit is that of an empty place
+abbrev pub AskedOrEmpty : Visit → (old new : Option (List Answer)) → Type 0
+AskedOrEmpty v old new = ((r : ℕ) × (new ≡ option_map (asked_in r v) old)) ⊎ ((new ≡ old) × (v ≡ nothing_done))
+
+-- the same of one turn
+abbrev pub AskedOnceOrEmpty : Served → (old new : Option (List Answer)) → Type 0
+AskedOnceOrEmpty s old new = ((r : ℕ) × (new ≡ option_map (asked_last r s) old)) ⊎ ((new ≡ old) × (s ≡ Turned Idle))

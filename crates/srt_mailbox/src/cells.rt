@@ -1,19 +1,21 @@
 //! The cell in which workers find a route: the route and a claim word. A worker that finds the route claimed doesn't
 //! wait for it.
 
-ghost use Rattle.std.specs.Prelude.{◌≡◌, ◌≢◌, ◌≤◌, true, false, Some, None, IfSome, IfOk, IfErr, option_map};
+ghost use Rattle.std.specs.Prelude.{◌≡◌, ◌≢◌, ◌≤◌, true, false, Some, None, IfOk, IfErr, option_map};
 ghost use Rattle.srt_seq.specs.Terms.{terms_of};
 ghost use Rattle.srt_mailbox.specs.Counts.{Grew};
 ghost use Rattle.srt_mailbox.specs.Cells.{CellIdentity, Bears};
-ghost use Rattle.srt_mailbox.specs.Looks.{Seen, OneWasShown, SawMore};
+ghost use Rattle.srt_mailbox.specs.Looks.{Seen, WasShown, OneWasShown, SawMore};
 ghost use Rattle.srt_mailbox.specs.declared.gates.Served.TheVariants.{GateRefused, ClaimedElsewhere};
 
+use crate::claims::{Claimed, GivenBack};
 use crate::gates::{Gate, Served, Visit};
 use crate::inbox_rule::Inbox;
 use crate::observer::Observer;
 use crate::outbox_rule::Outbox;
 use crate::running::Running;
-use counted_slot::{Counted, FREE, Fits, PRESENT, TAKEN};
+use crate::slots::{TakenElsewhere, take_out};
+use counted_slot::{Counted, Fits};
 use srt_seq::Entry;
 use std::marker::Model;
 use std::snapshot::Snapshot;
@@ -55,19 +57,6 @@ impl Fits for Boxed {
     ghost fits = { λ label boxed. Bears label boxed.running.value };
 }
 
-/// Removes the content of a slot. `None` if it is empty, or another call has it. One compare-exchange; never waits.
-#[inline(always)]
-pub(crate) fn take_out<X: Fits + Drop>(slot: &Counted<Option<X>>) -> Option<X>
-    ensures { IfSome result (X.fits slot.now) }
-{
-    let (found, claim) = slot.turn(FREE, TAKEN);
-    if found != FREE {
-        claim.done();
-        return None;
-    }
-    claim.put(None, PRESENT)
-}
-
 /// A route that workers share. At most one call has the route at a time; the slot is empty meanwhile.
 #[derive(Drop)]
 pub struct RouteCell {
@@ -80,7 +69,7 @@ pub struct RouteCell {
 
 impl RouteCell {
     ghost use Rattle.srt_mailbox.specs.Identities.{identity_in};
-    ghost use Rattle.srt_mailbox.specs.Visits.{asked_in, asked_last};
+    ghost use Rattle.srt_mailbox.specs.Visits.{asked_in, asked_last, ServedAs, VisitedAs};
 
     /// Makes a cell that holds this route, with a free claim word. `index` is the route's; gates are queried for it.
     pub(crate) fn new(index: usize, boxed: Boxed, label: &CellTag) -> RouteCell
@@ -95,11 +84,15 @@ impl RouteCell {
         }
     }
 
-    // Takes the route out of the slot. `None` if another call has it. One compare-exchange; never waits.
-    fn claim(&self) -> Option<Boxed>
-        ensures { IfSome result (λ r. Bears (identity_in self.now) r.running.value) }
+    // Claims the route. The error is evidence that another call has it. One compare-exchange; never waits.
+    #[inline(always)]
+    fn claim(&self) -> Result<Claimed, TakenElsewhere>
+        ensures { IfOk result (λ c. Bears (identity_in self.now) c.was × (c.now ≡ c.was)) }
     {
-        take_out(&self.slot)
+        match take_out(&self.slot) {
+            Ok(boxed) => Ok(Claimed::new(boxed)),
+            Err(elsewhere) => Err(elsewhere),
+        }
     }
 
     /// Returns the route's index.
@@ -109,14 +102,14 @@ impl RouteCell {
         self.index
     }
 
-    /// Takes the route out permanently: to every later call the route is claimed elsewhere. `None` if another call has
-    /// it. Never waits.
-    pub(crate) fn take(&self) -> Option<Running>
-        ensures { IfSome result (λ running. Bears (identity_in self.now) running) }
+    /// Takes the route out for good: to every later call the route is claimed elsewhere. The error is evidence that another
+    /// call has it. Never waits.
+    pub(crate) fn take(&self) -> Result<Running, TakenElsewhere>
+        ensures { IfOk result (λ running. Bears (identity_in self.now) running) }
     {
-        match self.claim() {
-            Some(boxed) => Some(Box::into_inner(boxed.running)),
-            None => None,
+        match take_out(&self.slot) {
+            Ok(boxed) => Ok(Box::into_inner(boxed.running)),
+            Err(elsewhere) => Err(elsewhere),
         }
     }
 
@@ -127,24 +120,69 @@ impl RouteCell {
         ensures busy { IfErr result (λ cell. cell ≡ self) }
     {
         match self.take() {
-            Some(running) => Ok(running),
-            None => Err(self),
+            Ok(running) => Ok(running),
+            Err(_) => Err(self),
         }
     }
 
-    // Puts the route back and frees the claim word. While a call has the route, no other call changes the word, so the
-    // first attempt succeeds. No contract states this, hence the loop.
-    fn give_back<R: Wait>(&self, rt: &R, boxed: Boxed)
-        requires { Bears (identity_in self.now) boxed.running.value }
+    // Claims the route, makes one turn if the gate lets it pass, and gives the route back. The error is evidence that
+    // another call has it.
+    #[inline(always)]
+    fn serve_claimed<R: Wait, G: Gate>(
+        &self,
+        rt: &R,
+        gate: &mut G,
+    ) -> Result<(Served, GivenBack), TakenElsewhere>
+        ensures made { IfOk result (λ r. Bears (identity_in self.now) r.1.was × ServedAs r.0 r.1.was r.1.now) }
+        ensures held { IfOk result (λ r. r.0 ≡ GateRefused → Grew (G.held gate.old) (G.held gate.new)) }
+        ensures asked { IfOk result (λ r. G.asked gate.new ≡ option_map (asked_last (identity_in self.now).index r.0) (G.asked gate.old)) }
+        ensures busy { IfErr result (λ _. gate.new ≡ gate.old) }
     {
-        for _ in rt.forever() {
-            let (found, claim) = self.slot.turn(PRESENT, TAKEN);
-            if found == PRESENT {
-                let _ = claim.put(Some(boxed), FREE);
-                return;
-            }
-            claim.done();
-        }
+        let mut claimed = self.claim()?;
+        let served = claimed.serve(rt, self.index, gate);
+        let back = claimed.give_back(rt, &self.slot);
+        Ok((served, back))
+    }
+
+    // Claims the route, visits it, and gives it back. The error is evidence that another call has it.
+    #[inline(always)]
+    fn visit_claimed<R: Wait, G: Gate>(
+        &self,
+        rt: &R,
+        gate: &mut G,
+        most: u32,
+    ) -> Result<(Visit, GivenBack), TakenElsewhere>
+        ensures made { IfOk result (λ r. Bears (identity_in self.now) r.1.was × VisitedAs r.0 r.1.was r.1.now) }
+        ensures most { IfOk result (λ r. r.0.turns ≤ most) }
+        ensures moved { IfOk result (λ r. r.0.moved ≤ r.0.turns) }
+        ensures all { IfOk result (λ r. r.0.end ≡ None → r.0.turns ≡ most) }
+        ensures held { IfOk result (λ r. r.0.end ≡ Some GateRefused → Grew (G.held gate.old) (G.held gate.new)) }
+        ensures passed { IfOk result (λ r. r.0.end ≢ Some GateRefused → G.held gate.new ≡ G.held gate.old) }
+        ensures claimed { IfOk result (λ r. r.0.end ≢ Some ClaimedElsewhere) }
+        ensures asked { IfOk result (λ r. G.asked gate.new ≡ option_map (asked_in (identity_in self.now).index r.0) (G.asked gate.old)) }
+        ensures busy { IfErr result (λ _. gate.new ≡ gate.old) }
+    {
+        let mut claimed = self.claim()?;
+        let visit = claimed.visit(rt, self.index, gate, most);
+        let back = claimed.give_back(rt, &self.slot);
+        Ok((visit, back))
+    }
+
+    // Claims the route, shows it, and gives it back as it was. The error is evidence that another call has it.
+    #[inline(always)]
+    fn show_claimed<R: Wait, L: Observer>(
+        &self,
+        rt: &R,
+        look: &mut L,
+    ) -> Result<GivenBack, TakenElsewhere>
+        ensures shown { IfOk result (λ b. Bears (identity_in self.now) b.was × WasShown b.was (L.looked look.old) (L.looked look.new)) }
+        ensures same { IfOk result (λ b. b.now ≡ b.was) }
+        ensures busy { IfErr result (λ _. look.new ≡ look.old) }
+    {
+        let claimed = self.claim()?;
+        claimed.show(look);
+        let back = claimed.give_back(rt, &self.slot);
+        Ok(back)
     }
 
     /// Makes one step of the route, if no other call has it and the gate permits it. `GateRefused`: the gate refused.
@@ -154,12 +192,10 @@ impl RouteCell {
         ensures held { result ≡ GateRefused → Grew (G.held gate.old) (G.held gate.new) }
         ensures asked { G.asked gate.new ≡ option_map (asked_last (identity_in self.now).index result) (G.asked gate.old) }
     {
-        let Some(mut boxed) = self.claim() else {
-            return Served::ClaimedElsewhere;
-        };
-        let served = boxed.running.serve(rt, self.index, gate);
-        self.give_back(rt, boxed);
-        served
+        match self.serve_claimed(rt, gate) {
+            Ok((served, _)) => served,
+            Err(_) => Served::ClaimedElsewhere,
+        }
     }
 
     /// Makes a batch of at most `most` steps of the route, if no other call has it, until a step finds no work or a
@@ -174,24 +210,14 @@ impl RouteCell {
         ensures busy { result.end ≡ Some ClaimedElsewhere → (result.turns ≡ 0) × (gate.new ≡ gate.old) }
         ensures asked { G.asked gate.new ≡ option_map (asked_in (identity_in self.now).index result) (G.asked gate.old) }
     {
-        let Some(mut boxed) = self.claim() else {
-            return Visit {
+        match self.visit_claimed(rt, gate, most) {
+            Ok((visit, _)) => visit,
+            Err(_) => Visit {
                 turns: 0,
                 moved: 0,
                 end: Some(Served::ClaimedElsewhere),
-            };
-        };
-        let visit = boxed.running.visit(rt, self.index, gate, most);
-        self.give_back(rt, boxed);
-        visit
-    }
-
-    // Puts back a route that is unchanged since it was claimed.
-    fn give_back_same<R: Wait>(&self, rt: &R, boxed: Boxed, _claimed: Snapshot<Boxed>)
-        requires bears { Bears (identity_in self.now) boxed.running.value }
-        requires same { boxed ≡ _claimed.value }
-    {
-        self.give_back(rt, boxed);
+            },
+        }
     }
 
     /// Shows the route once to `look`, if no other call has it. False if another call has it; then nothing was shown.
@@ -200,12 +226,9 @@ impl RouteCell {
         ensures shown { result ≡ true → OneWasShown (identity_in self.now) (L.looked look.old) (L.looked look.new) }
         ensures busy { result ≡ false → look.new ≡ look.old }
     {
-        let Some(boxed) = self.claim() else {
+        let Ok(_) = self.show_claimed(rt, look) else {
             return false;
         };
-        let claimed = Snapshot::of(&boxed);
-        boxed.running.show(look);
-        self.give_back_same(rt, boxed, claimed);
         true
     }
 }

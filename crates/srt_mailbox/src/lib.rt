@@ -4,29 +4,31 @@
 //! (`srt_route` does). After `open_route` no call allocates: replies are passed in boxes that are reused
 //! (`spares.rt`). The body buffer of a processed datagram returns to the poller with a reply, to be filled again.
 //!
-//! Types: the four ends of a route: `Ingress` (the poller offers datagrams), `ClockEnd` (the ticking thread offers
-//! ticks), `RouteCell` (workers serve the route) and `Drain` (the poller receives replies). A `Gate` may refuse a step
-//! (`Ungated` never does); `Served` is the outcome of one step, `Visit` that of a batch of steps, and `Account` has
-//! the final counters of a finalised route. An `Observer` receives a snapshot of a claimed route. `InboxFull` and
-//! `OutboxEmpty` are evidence of a refusal. For routes added at run time: a `Seat` has a route and its ends until
-//! their owners take them (`PollerEnds` with an `Attachment`, `ClockHand`), a `Place` has a seat or is empty, and each
-//! owner has a `SeatReader`.
+//! Types: the four ends of a route, which are `Ingress` (the poller offers datagrams), `ClockEnd` (the ticking thread
+//! offers ticks), `RouteCell` (workers serve the route) and `Drain` (the poller takes replies). A `Gate` may refuse a
+//! turn (`Ungated` never does), `Served` is the outcome of a turn that was asked for, `Visit` that of several, and
+//! `Account` has the counts of a route that has ended. A `Observer` is shown a route under its claim. `InboxFull` and
+//! `OutboxEmpty` are evidence of a refusal, `TakenElsewhere` of what another call has taken. For routes that come while
+//! threads run: a `Seat` has a route and its ends until their owners take them (`PollerEnds` with a `Attachment`,
+//! `ClockHand`), a `Place` has a seat or is empty, and each owner has a `SeatReader`.
 //!
-//! Calls: `open_route`; then, each from its own thread, `offer` on `Ingress` (for a datagram also `offer_datagram`)
-//! and on `ClockEnd`, `RouteCell::visit` or `RouteCell::serve` (any number of workers; `RouteCell::show` makes no
-//! step), and `Drain::take` with `Drain::reply` and `Drain::take_buffer`; last `settle`, which consumes all four ends.
-//! With seats: `open_seat` and `Place::put`; then for each owner `SeatReader::next_poller` or `next_clock`; last
-//! `SeatReader::agree`, `seat` and `Seat::settle`.
+//! Calls: `open_route`; then, each from its own thread, `offer` on `Ingress` (for a datagram also `offer_datagram`) and
+//! on `ClockEnd`, `RouteCell::visit` or `RouteCell::serve` (any number of workers; `RouteCell::show` makes no turn),
+//! and `Drain::take` with `Drain::reply` and `Drain::take_buffer`; last `settle`, which takes all four ends. With seats
+//! `open_seat` and `Place::put`; then, each owner, `SeatReader::next_poller` or `next_clock`; last `SeatReader::agree`,
+//! `seat` and `Seat::settle`.
 //!
-//! Files: `cells.rt` has the claim word, `running.rt` one step of a route, `observer.rt` the receiver of snapshots,
-//! `inbox.rt` and `outbox.rt` the queues, `inbox_rule.rt` and `outbox_rule.rt` their entries and rules
-//! (`specs/Inbox.antt`, `specs/Outbox.antt`), and `evidence.rt` the evidence that one of them was full or empty.
-//! `Replays` in `specs/Runs.antt` states that the replies don't depend on which worker serves. `seats.rt` has the
-//! seats, `places.rt` their places and `readers.rt` the readers of places (`specs/Places.antt`).
+//! Files: the claim word is in `cells.rt` and `slots.rt`, what a call has of a claimed route in `claims.rt`, one turn
+//! of a route in `running.rt`, what a snapshot is handed in `observer.rt`, the queues in `inbox.rt` and `outbox.rt`,
+//! what passes through them in `inbox_rule.rt` and `outbox_rule.rt` (`specs/Inbox.antt`, `specs/Outbox.antt`), and the
+//! evidence that one of them was full or empty in `evidence.rt`. That the replies don't depend on which worker serves
+//! is `Replays` in `specs/Runs.antt`. Seats are in `seats.rt`, their places in `places.rt` and what reads these in
+//! `readers.rt` (`specs/Places.antt`).
 #![tactic(auto)]
 
 mod accounts;
 mod cells;
+mod claims;
 mod evidence;
 mod gates;
 mod inbox;
@@ -39,6 +41,7 @@ mod places;
 mod readers;
 mod running;
 mod seats;
+mod slots;
 mod spares;
 
 pub use accounts::{Account, Unsettled, settle};
@@ -53,6 +56,7 @@ pub use places::Place;
 pub use readers::SeatReader;
 pub use running::{BUFFER_ROOM, Running};
 pub use seats::{Attachment, ClockHand, PollerEnds, Seat, SeatTag, open_seat};
+pub use slots::TakenElsewhere;
 
 #[cfg(test)]
 mod tests;

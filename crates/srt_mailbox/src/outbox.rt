@@ -50,8 +50,6 @@ pub struct Drain {
     hand: Box<Reply>,
     // the buffer that was passed with it
     buffer: Option<Vec<u8>>,
-    // the number of replies drained; saturates at 2^64 - 1
-    count: u64,
 }
 
 impl Model for Drain {
@@ -66,8 +64,9 @@ impl Model for Drain {
 
     ghost view = { λ s. drained s.pass.table_id (ruled_capacity (arc_value s.queue)) (replies_in s.pass.me.0.client.drained) s.hand.value };
 
+    // As many boxes went back to the route as replies were drained.
     ghost invariant = { λ s. IsPassOf (arc_value s.queue) s.pass × (s.pass.me.0.client.drains ≡ true) ×
-        (s.count ≡ counted (length (replies_in s.pass.me.0.client.drained))) };
+        (s.spent.given ≡ counted (length (replies_in s.pass.me.0.client.drained))) };
 }
 
 impl OutboxSender {
@@ -98,13 +97,12 @@ impl OutboxSender {
         let Drain {
             queue: _,
             pass: drains,
-            spent: _,
+            spent,
             hand: _,
             buffer: _,
-            count,
         } = drain;
         queue.absorb::<Draining>(&mut pass, drains);
-        (queue.len_as::<RepliesLeft, R>(rt, &mut pass), count)
+        (queue.len_as::<RepliesLeft, R>(rt, &mut pass), spent.given)
     }
 
     /// Allocates another handle of this end's queue.
@@ -131,7 +129,6 @@ impl Drain {
                 self.buffer = buffer;
                 let empty = mem::replace(&mut self.hand, reply);
                 self.spent.give(empty);
-                self.count = self.count.saturating_add(1);
                 Ok(())
             }
             Err(empty) => {
@@ -198,7 +195,6 @@ pub fn open_outbox(
         spent,
         hand,
         buffer: None,
-        count: 0,
     };
     Ok((sender, drain, boxes))
 }

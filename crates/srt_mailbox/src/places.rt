@@ -2,6 +2,7 @@
 
 ghost use Rattle.std.specs.Prelude.{◌≡◌, ◌≢◌, ◌≤◌, true, false, Some, None, IfOk, IfErr, IfSome};
 ghost use Rattle.srt_mailbox.specs.Counts.{Grew};
+ghost use Rattle.srt_mailbox.specs.Visits.{AskedOrEmpty, AskedOnceOrEmpty};
 ghost use Rattle.srt_mailbox.specs.Looks.{Seen, SawMore};
 ghost use Rattle.srt_mailbox.specs.declared.gates.Served.TheVariants.{GateRefused, ClaimedElsewhere};
 
@@ -39,8 +40,16 @@ impl<X: Attachment + Drop> Place<X> {
 }
 
 impl<X: Attachment + Drop> Serve for Place<X> {
-    // An empty place has no work, which is an idle step.
-    fn visit<R: Wait, G: Gate>(&self, rt: &R, gate: &mut G, most: u32) -> Visit {
+    // An empty place has nothing to do: that is an idle turn.
+    fn visit<R: Wait, G: Gate>(&self, rt: &R, gate: &mut G, most: u32) -> Visit
+        ensures most { result.turns ≤ most }
+        ensures moved { result.moved ≤ result.turns }
+        ensures all { result.end ≡ None → result.turns ≡ most }
+        ensures held { result.end ≡ Some GateRefused → Grew (G.held gate.old) (G.held gate.new) }
+        ensures passed { result.end ≢ Some GateRefused → G.held gate.new ≡ G.held gate.old }
+        ensures busy { result.end ≡ Some ClaimedElsewhere → (result.turns ≡ 0) × (gate.new ≡ gate.old) }
+        ensures asked { AskedOrEmpty result (G.asked gate.old) (G.asked gate.new) }
+    {
         match self.seat.get() {
             Some(seat) => seat.cell.visit(rt, gate, most),
             None => Visit {
@@ -51,7 +60,10 @@ impl<X: Attachment + Drop> Serve for Place<X> {
         }
     }
 
-    fn serve<R: Wait, G: Gate>(&self, rt: &R, gate: &mut G) -> Served {
+    fn serve<R: Wait, G: Gate>(&self, rt: &R, gate: &mut G) -> Served
+        ensures held { result ≡ GateRefused → Grew (G.held gate.old) (G.held gate.new) }
+        ensures asked { AskedOnceOrEmpty result (G.asked gate.old) (G.asked gate.new) }
+    {
         match self.seat.get() {
             Some(seat) => seat.cell.serve(rt, gate),
             None => Served::Turned(Turned::Idle),

@@ -82,7 +82,9 @@ impl<'a, X: Attachment + Drop> SeatReader<'a, X> {
         ensures places { places_of self.new ≡ places_of self.old }
     {
         let (seat, token) = self.coming()?;
-        let ends = seat.take_poller()?;
+        let Ok(ends) = seat.take_poller() else {
+            return None;
+        };
         self.pass(token);
         Some(ends)
     }
@@ -95,7 +97,9 @@ impl<'a, X: Attachment + Drop> SeatReader<'a, X> {
         ensures places { places_of self.new ≡ places_of self.old }
     {
         let (seat, token) = self.coming()?;
-        let hand = seat.take_clock()?;
+        let Ok(hand) = seat.take_clock() else {
+            return None;
+        };
         self.pass(token);
         Some(hand)
     }

@@ -11,10 +11,11 @@ ghost use Rattle.srt_mailbox.specs.Seats.{IsNewPoller, IsNewClock};
 ghost use Rattle.srt_mailbox.specs.Settled.{Settles};
 
 use crate::accounts::Account;
-use crate::cells::{RouteCell, take_out};
+use crate::cells::RouteCell;
 use crate::inbox::{ClockEnd, Ingress};
 use crate::openings::open_route;
 use crate::outbox::Drain;
+use crate::slots::{TakenElsewhere, take_out};
 use counted_slot::{Counted, Fits};
 use srt_seq::{Entry, OpenFault};
 use std::alloc::Global;
@@ -119,25 +120,43 @@ pub fn open_seat<X: Attachment + Drop>(
 }
 
 impl<X: Attachment + Drop> Seat<X> {
-    /// Takes the poller's ends and the data passed with them. `None` if they were taken before. One compare-exchange;
-    /// never waits.
-    pub fn take_poller(&self) -> Option<PollerEnds<X>>
-        ensures new { IfSome result (λ e. IsNewPoller (identity_in self.now.cell) e.ingress e.drain) }
-        ensures belongs { IfSome result (λ e. X.belongs (identity_in self.now.cell).terms (identity_in self.now.cell).index e.companion) }
+    /// Takes the poller's ends and what was put there with them. The error is evidence that they were taken before. One
+    /// compare-exchange; never waits.
+    pub fn take_poller(&self) -> Result<PollerEnds<X>, TakenElsewhere>
+        ensures new { IfOk result (λ e. IsNewPoller (identity_in self.now.cell) e.ingress e.drain) }
+        ensures belongs { IfOk result (λ e. X.belongs (identity_in self.now.cell).terms (identity_in self.now.cell).index e.companion) }
     {
         take_out(&self.poller)
     }
 
-    /// Takes the clock's end. `None` if it was taken before. One compare-exchange; never waits.
-    pub fn take_clock(&self) -> Option<ClockHand>
-        ensures { IfSome result (λ h. IsNewClock (identity_in self.now.cell) h.end) }
+    /// Takes the clock's end. The error is evidence that it was taken before. One compare-exchange; never waits.
+    pub fn take_clock(&self) -> Result<ClockHand, TakenElsewhere>
+        ensures { IfOk result (λ h. IsNewClock (identity_in self.now.cell) h.end) }
     {
         take_out(&self.clock)
     }
 
-    /// Finalises the route and returns its final counters, as `settle` does; the three ends must be of this seat's
-    /// route. `None` if another call has the route, or it was finalised before. Messages and replies remaining in the
-    /// queues are counted and discarded; the ends are consumed in both cases. Doesn't allocate.
+    // As `settle`, with evidence that another call has the route, or that it was settled before.
+    #[inline(always)]
+    fn settle_taken<R: Wait>(
+        &self,
+        rt: &R,
+        ingress: Ingress,
+        clock: ClockEnd,
+        drain: Drain,
+    ) -> Result<Account, TakenElsewhere>
+        requires { AreEndsOf (identity_in self.now.cell) ingress clock drain }
+        ensures { IfOk result (λ a. Settles a (identity_in self.now.cell) ingress clock drain) }
+    {
+        match self.cell.take() {
+            Ok(running) => Ok(running.settle(rt, ingress, clock, drain)),
+            Err(elsewhere) => Err(elsewhere),
+        }
+    }
+
+    /// Ends the route and returns its account, as `settle` does; the three ends must be of this seat's route. `None` if
+    /// another call has the route, or it was settled before. What is left in the queues is counted and discarded; the
+    /// ends are gone in both cases. Doesn't allocate.
     pub fn settle<R: Wait>(
         &self,
         rt: &R,
@@ -148,9 +167,6 @@ impl<X: Attachment + Drop> Seat<X> {
         requires { AreEndsOf (identity_in self.now.cell) ingress clock drain }
         ensures { IfSome result (λ a. Settles a (identity_in self.now.cell) ingress clock drain) }
     {
-        match self.cell.take() {
-            Some(running) => Some(running.settle(rt, ingress, clock, drain)),
-            None => None,
-        }
+        self.settle_taken(rt, ingress, clock, drain).ok()
     }
 }

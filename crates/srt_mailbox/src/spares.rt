@@ -3,6 +3,10 @@
 //! cache lines of another processor. No thread waits for the lock. No contract is about the boxes' contents, since
 //! each is overwritten as a whole, nor about the order in which boxes return.
 
+ghost use Rattle.std.specs.Prelude.{◌≡◌, ◌⊎◌, ◌<◌, ◌≤◌, ◌+◌, ◌-◌, ◌^◌, min, [], ◌∷◌, ◌++◌, length, vec_len, vec_capacity};
+ghost use Rattle.std.specs.Prelude.{IfOk, IfSome, IfNone};
+ghost use Rattle.srt_mailbox.specs.Boxes.{batch_of, boxes_of};
+
 use srt_route::Reply;
 use std::alloc::{AllocError, Global};
 use std::sync::atomic::{AtomicBool, Ordering};
@@ -26,6 +30,8 @@ pub struct Spent {
     returned: Arc<Returned>,
     boxes: Vec<Box<Reply>>,
     batch: usize,
+    /// The number of boxes that were given. Saturates at 2^64 - 1.
+    pub(crate) given: u64,
 }
 
 /// The route's part: a stack of free boxes. The box that was returned last is used first, so that only as many boxes
@@ -36,15 +42,19 @@ pub struct Boxes {
     stock: Vec<Box<Reply>>,
 }
 
-/// Allocates both parts for an outbox of this capacity, with all free boxes in the stock: as many as the outbox holds,
-/// a batch, and two. Allocates them and three lists that have room for all; the error is a failed allocation.
-pub fn open_boxes(alloc: Global, capacity: usize) -> Result<(Boxes, Spent), AllocError> {
+/// Both parts for an outbox of this capacity, with all free boxes in the stock: as many as the outbox holds, a batch,
+/// and two. Allocates them and three lists that have room for all; an error means that memory was refused.
+pub fn open_boxes(alloc: Global, capacity: usize) -> Result<(Boxes, Spent), AllocError>
+    ensures stock { IfOk result (λ r. length r.0.stock.items ≡ boxes_of capacity) }
+    ensures batch { IfOk result (λ r. r.1.batch ≡ batch_of capacity) }
+    ensures given { IfOk result (λ r. (r.1.boxes.items ≡ []) × (r.1.given ≡ 0)) }
+{
     let batch = (capacity / 16).clamp(1, BATCH);
     let count = capacity.saturating_add(batch + 2);
     // one more: the box that the drain has from the start
     let room = count.saturating_add(1);
     let mut stock = Vec::with_capacity(alloc, room)?;
-    for _ in 0..count {
+    for at in 0..count {
         stock.push(Box::new(alloc, Reply::blank())?)?;
     }
     let ours = Arc::new(
@@ -59,6 +69,7 @@ pub fn open_boxes(alloc: Global, capacity: usize) -> Result<(Boxes, Spent), Allo
         returned: theirs,
         boxes: Vec::with_capacity(alloc, room)?,
         batch,
+        given: 0,
     };
     let boxes = Boxes {
         returned: ours,
@@ -70,15 +81,23 @@ pub fn open_boxes(alloc: Global, capacity: usize) -> Result<(Boxes, Spent), Allo
 impl Spent {
     /// Returns a box to the route, with the previous ones once they are a batch. Doesn't allocate.
     #[inline(always)]
-    pub fn give(&mut self, empty: Box<Reply>) {
+    pub fn give(&mut self, empty: Box<Reply>)
+        ensures given { self.new.given ≡ min (self.old.given + 1) (2 ^ 64 - 1) }
+        ensures boxes { vec_len self.old.boxes < vec_capacity self.old.boxes → (self.new.boxes.items ≡ self.old.boxes.items ++ empty ∷ []) ⊎ (self.new.boxes.items ≡ []) }
+    {
         let _ = self.boxes.push(empty);
+        self.given = self.given.saturating_add(1);
         self.flush();
     }
 
     /// Leaves all boxes for the route if they are a batch or more. If the route has the lock they stay, until the next
     /// call of this function or of `give`. Doesn't allocate.
     #[inline(always)]
-    pub fn flush(&mut self) {
+    pub fn flush(&mut self)
+        ensures given { self.new.given ≡ self.old.given }
+        ensures boxes { (self.new.boxes.items ≡ self.old.boxes.items) ⊎ (self.new.boxes.items ≡ []) }
+        ensures early { length self.old.boxes.items < self.old.batch → self.new.boxes.items ≡ self.old.boxes.items }
+    {
         if self.boxes.len() < self.batch {
             return;
         }
@@ -90,8 +109,10 @@ impl Spent {
 }
 
 impl Boxes {
-    // Moves the returned boxes to the stock, if there are any and the drain doesn't hold the lock.
-    fn collect(&mut self) {
+    // Moves the boxes that were returned to the stock, if there are any and the drain hasn't got the lock.
+    fn collect(&mut self)
+        ensures { length self.old.stock.items ≤ length self.new.stock.items }
+    {
         if !self.returned.any.load(Ordering::SeqCst) {
             return;
         }
@@ -104,7 +125,10 @@ impl Boxes {
     /// Returns a free box, if one is in the stock, or was returned and the drain doesn't hold the lock. Its old
     /// contents are to be overwritten.
     #[inline(always)]
-    pub fn try_box(&mut self) -> Option<Box<Reply>> {
+    pub fn try_box(&mut self) -> Option<Box<Reply>>
+        ensures some { IfSome result (λ _. length self.old.stock.items ≤ length self.new.stock.items + 1) }
+        ensures none { IfNone result ((length self.old.stock.items ≡ 0) × (length self.new.stock.items ≡ 0)) }
+    {
         self.collect();
         self.stock.pop()
     }

@@ -62,10 +62,10 @@ fn is_there(hand: Option<ClockHand>) -> Result<ClockHand, Fail>
 #[test]
 fn a_seat_gives_each_end_once(rt: HostRuntime) -> Result<(), Fail> {
     let seat = marked(rt.alloc(), 3, 7)?;
-    let ends = are_there(seat.take_poller())?;
-    let _hand = is_there(seat.take_clock())?;
-    assert!(rt; seat.take_poller().is_none());
-    assert!(rt; seat.take_clock().is_none());
+    let ends = are_there(seat.take_poller().ok())?;
+    let _hand = is_there(seat.take_clock().ok())?;
+    assert!(rt; seat.take_poller().is_err());
+    assert!(rt; seat.take_clock().is_err());
     assert_eq!(rt; ends.companion.0, 7);
     Ok(())
 }
@@ -150,8 +150,8 @@ fn a_place_serves_the_route_of_its_seat(rt: HostRuntime) -> Result<(), Fail> {
         mut ingress,
         mut drain,
         companion: _,
-    } = are_there(seat.take_poller())?;
-    let ClockHand { mut end } = is_there(seat.take_clock())?;
+    } = are_there(seat.take_poller().ok())?;
+    let ClockHand { mut end } = is_there(seat.take_clock().ok())?;
     assert_goes_through(&rt, &place, &mut ingress, &mut end, &mut drain)?;
     assert!(rt; place.show(&rt, &mut Eye::new()));
     assert_eq!(rt; account_of(&rt, seat, ingress, end, drain)?, ONE_ANSWER);
@@ -170,7 +170,7 @@ fn a_place_has_one_seat(rt: HostRuntime) -> Result<(), Fail> {
     let Err(back) = place.put(marked(rt.alloc(), 0, 8)?) else {
         return Err(Fail::from("the place has a seat"));
     };
-    assert_eq!(rt; are_there(back.take_poller())?.companion.0, 8);
+    assert_eq!(rt; are_there(back.take_poller().ok())?.companion.0, 8);
     Ok(())
 }
 
@@ -344,5 +344,89 @@ fn routes_come_to_another_thread(rt: HostRuntime) -> Result<(), Fail> {
     come_beside(&rt, &places, &mut poller, &mut clock)?;
     assert_eq!(rt; clock.reader.routes(), 3);
     assert_eq!(rt; clock.hands.len(), 3);
+    Ok(())
+}
+
+/// The account of a route that took one of two ticks, neither of which brings a reply.
+const ONE_LEFT: Account = Account {
+    taken: 1,
+    left: 1,
+    waiting: 0,
+    queued: 0,
+    drained: 0,
+};
+
+/// Asserts that a place serves and shows a route of this index, and that it is settled with what is left.
+fn assert_served_and_settled(
+    rt: &(impl AllocGlobal + Wait + Abort),
+    index: usize,
+) -> Result<(), Fail> {
+    let place = Place::new();
+    let Ok(token) = place.put(marked(rt.alloc(), index, 7)?) else {
+        return Err(Fail::from("the place is empty"));
+    };
+    let seat = place.seat.value(&token);
+    let PollerEnds {
+        ingress,
+        drain,
+        companion: _,
+    } = are_there(seat.take_poller().ok())?;
+    let ClockHand { mut end } = is_there(seat.take_clock().ok())?;
+    assert!(rt; tick(rt, &mut end, 5));
+    assert_visited(rt, &place, 64, (1, 0, Some(IDLE)));
+    assert!(rt; place.show(rt, &mut Eye::new()));
+    assert!(rt; tick(rt, &mut end, 6));
+    assert_eq!(rt; account_of(rt, seat, ingress, end, drain)?, ONE_LEFT);
+    Ok(())
+}
+
+const LATE: [usize; 6] = [3, 9, 64, 100, 255, 510];
+
+fn assert_all_served_and_settled(
+    rt: &(impl AllocGlobal + Wait + Abort),
+    rows: &[usize],
+) -> Result<(), Fail> {
+    for index in rows {
+        assert_served_and_settled(rt, *index)?;
+    }
+    Ok(())
+}
+
+#[test]
+fn a_route_of_any_index_is_served_and_settled(rt: HostRuntime) -> Result<(), Fail> {
+    assert_all_served_and_settled(&rt, &LATE)
+}
+
+/// Puts a seat with a small route of this index into the place of that index.
+fn put_small(
+    rt: &(impl AllocGlobal + Abort),
+    places: &[Place<Mark>],
+    index: usize,
+) -> Result<(), Fail> {
+    let mut small = entry(rt.alloc())?;
+    small.buffer = 32;
+    small.sessions = 1;
+    let Some(place) = places.get(index) else {
+        return Err(Fail::from("a place"));
+    };
+    match open_seat(rt.alloc(), &small, index, Mark(0)) {
+        Ok(seat) => assert!(rt; place.put(seat).is_ok()),
+        Err(_) => return Err(Fail::from("the route opens")),
+    }
+    Ok(())
+}
+
+#[test]
+fn both_readers_reach_the_last_of_many_routes(rt: HostRuntime) -> Result<(), Fail> {
+    let places = empty_places(rt.alloc(), 128)?;
+    let mut poller = SeatReader::new(rt.alloc(), places.as_slice())?;
+    let mut clock = SeatReader::new(rt.alloc(), places.as_slice())?;
+    for index in 0..128 {
+        put_small(&rt, &places, index)?;
+        assert!(rt; poller.next_poller().is_some());
+        assert!(rt; clock.next_clock().is_some());
+    }
+    assert_eq!(rt; poller.routes(), 128);
+    assert_eq!(rt; clock.routes(), 128);
     Ok(())
 }

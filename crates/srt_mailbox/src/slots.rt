@@ -1,0 +1,98 @@
+//! Moves a value out of a slot and back. The functions are generic over the value's type, of which they don't know that
+//! it may be dropped: so no body of theirs loses a value.
+
+ghost use Rattle.std.specs.Prelude.{◌≡◌, ◌≢◌, IfSome, IfOk};
+ghost use Rattle.srt_mailbox.specs.inside.Slots.{word_of};
+
+use counted_slot::{Claim, Counted, FREE, Fits, PRESENT, TAKEN};
+use std::snapshot::Snapshot;
+use std::sync::Wait;
+
+// What a slot is left with, and the word for it.
+struct Content<X> {
+    value: Option<X>,
+    word: u64,
+    ghost agrees: { word ≡ word_of value },
+}
+
+// Leaves this in the slot, and returns what was there. Nothing states that the word is the one that is written, since
+// `Claim::put` has no clause about it.
+#[inline(always)]
+fn leave<X: Fits>(claim: Claim<'_, Option<X>>, content: Content<X>) -> Option<X>
+    requires right { claim.right ≡ 2 }
+    requires fits { IfSome content.value (X.fits claim.tag) }
+    ensures { IfSome result (X.fits claim.entry.tag) }
+{
+    let Content { value, word } = content;
+    claim.put(value, word)
+}
+
+/// Evidence that a value was put back into a slot. It has no bytes, and can't be copied. Only `put_back` makes any.
+pub(crate) struct PutBack<X> {
+    value: Snapshot<X>,
+}
+
+impl<X> Drop for PutBack<X> {
+    fn drop(self) {
+        let Self { value: _ } = self;
+    }
+}
+
+/// Evidence that another call had taken out what a slot holds, at some time of a call. It can't be copied. Only `take_out`
+/// makes any.
+#[derive(Drop)]
+pub struct TakenElsewhere {
+    // the word that was found
+    found: u64,
+    ghost taken: { found ≢ 0 },
+}
+
+/// Takes out what a slot holds. The error is evidence that another call has it. One compare-exchange; never waits.
+#[inline(always)]
+pub(crate) fn take_out<X: Fits>(slot: &Counted<Option<X>>) -> Result<X, TakenElsewhere>
+    ensures { IfOk result (X.fits slot.now) }
+{
+    let (found, claim) = slot.turn(FREE, TAKEN);
+    if found != FREE {
+        claim.done();
+        return Err(TakenElsewhere { found });
+    }
+    let content = Content {
+        value: None,
+        word: PRESENT,
+    };
+    match leave(claim, content) {
+        Some(value) => Ok(value),
+        None => Err(TakenElsewhere { found: PRESENT }),
+    }
+}
+
+/// Puts a value back into the slot from which it was taken, and frees the slot. While a call has the value, no other call
+/// changes the word, so the first try succeeds and finds the slot empty. The proof doesn't know that, hence the loop,
+/// which puts a value that was found there in its turn.
+#[inline(always)]
+pub(crate) fn put_back<X: Fits, R: Wait>(rt: &R, slot: &Counted<Option<X>>, value: X) -> PutBack<X>
+    requires { X.fits slot.now value }
+    ensures { result.value.value ≡ value }
+{
+    let back = PutBack {
+        value: Snapshot::of(&value),
+    };
+    let mut left = value;
+    for _ in rt.forever() {
+        let (found, claim) = slot.turn(PRESENT, TAKEN);
+        if found == PRESENT {
+            let content = Content {
+                value: Some(left),
+                word: FREE,
+            };
+            match leave(claim, content) {
+                None => return back,
+                Some(other) => left = other,
+            }
+        } else {
+            claim.done();
+        }
+    }
+    unreachable!()
+}
