@@ -83,7 +83,8 @@ impl Spent {
     #[inline(always)]
     pub fn give(&mut self, empty: Box<Reply>)
         ensures given { self.new.given ≡ min (self.old.given + 1) (2 ^ 64 - 1) }
-        ensures boxes { vec_len self.old.boxes < vec_capacity self.old.boxes → (self.new.boxes.items ≡ self.old.boxes.items ++ empty ∷ []) ⊎ (self.new.boxes.items ≡ []) }
+        ensures boxes { vec_len self.old.boxes < vec_capacity self.old.boxes
+            → (self.new.boxes.items ≡ self.old.boxes.items ++ empty ∷ []) ⊎ (self.new.boxes.items ≡ []) }
     {
         let _ = self.boxes.push(empty);
         self.given = self.given.saturating_add(1);
