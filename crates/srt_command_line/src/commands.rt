@@ -59,7 +59,7 @@ fn explain<'a>(alloc: Global) -> Arg<'a> {
     Arg::new(alloc, "explain")
         .long("explain")
         .action(ArgAction::SetTrue)
-        .help("Says on standard error where the fault is and how to mend it, or what is unwise")
+        .help("Prints on standard error where the fault is and how to fix it, or warnings")
 }
 
 fn duration<'a>(alloc: Global) -> Arg<'a> {
@@ -91,7 +91,7 @@ fn check<'a>(alloc: Global) -> Result<Command<'a>, AllocError> {
 fn replay<'a>(alloc: Global) -> Result<Command<'a>, AllocError> {
     Command::new(alloc, "replay")
         .about(
-            "Runs the gateway's core over a tape, a text of events, and prints what comes of each event",
+            "Runs the gateway's core over a tape, a text of events, and prints the result of each event",
         )
         .after_help("docs/PROTOCOL.md has the form of a tape; srtgw explain prints one in words.")
         .arg(config(alloc))?
@@ -118,7 +118,7 @@ fn serve<'a>(alloc: Global) -> Result<Command<'a>, AllocError> {
             "Serves SRT callers at the configuration's UDP address, and prints a report at the end",
         )
         .after_help(
-            "docs/OPERATING.md says how to call it, what the report means and how to keep it running.",
+            "docs/operating/configuration.md explains rounds, docs/operating/log.md the report.",
         )
         .arg(config(alloc))?
         .arg(rounds(alloc))
@@ -128,10 +128,10 @@ fn serve<'a>(alloc: Global) -> Result<Command<'a>, AllocError> {
 fn run<'a>(alloc: Global) -> Result<Command<'a>, AllocError> {
     Command::new(alloc, "run")
         .about(
-            "Serves SRT callers until it is told to stop, tells on standard error what happens, and prints a report at the end",
+            "Serves SRT callers until it is stopped, logs on standard error, and prints a report at the end",
         )
         .after_help(
-            "SIGINT and SIGTERM stop it if it was started by bin/srtgw, which blocks them: then every session gets a SHUTDOWN. docs/OPERATING.md has each line of the log.",
+            "SIGINT and SIGTERM stop it if it was started by bin/srtgw, which blocks them: then every session gets a SHUTDOWN. docs/operating/log.md has each line of the log.",
         )
         .arg(config(alloc))?
         .arg(duration(alloc))?

@@ -394,7 +394,7 @@ impl fmt::Display for Explanation {
             ConfigFault::RepeatedName => write_repeated_name(f, value, hint),
             ConfigFault::BadSecret => write_bad_secret(f, hint),
             ConfigFault::BadAddress(key) => write_bad_address(f, *key, value, hint),
-            ConfigFault::OutOfMemory => f.write_str("memory was refused"),
+            ConfigFault::OutOfMemory => f.write_str("out of memory"),
         }
     }
 }

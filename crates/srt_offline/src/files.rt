@@ -26,7 +26,7 @@ pub enum Unread {
     #[error("larger than {0} bytes")]
     Large(u32),
     /// Memory was refused.
-    #[error("memory was refused")]
+    #[error("out of memory")]
     Memory,
 }
 

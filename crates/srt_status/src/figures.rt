@@ -180,9 +180,9 @@ pub(crate) fn count_help(count: Count) -> &'static str
         Count::ReceivedPackets => "Data packets received from publishers, each counted once.",
         Count::ReceivedBytes => "Payload bytes received from publishers.",
         Count::DeliveredPackets => "Packets of publishers that were delivered to the subscribers.",
-        Count::RepeatedPackets => "Packets of publishers that came again.",
-        Count::LatePackets => "Packets of publishers that came too late.",
-        Count::AheadPackets => "Packets of publishers that came ahead of the window.",
+        Count::RepeatedPackets => "Packets received again from publishers.",
+        Count::LatePackets => "Packets received too late from publishers.",
+        Count::AheadPackets => "Packets received ahead of the window from publishers.",
         Count::ReportedLost => "Packets of publishers that were reported as lost.",
         Count::NaksSent => "NAKs sent to publishers.",
         Count::FullWindowAcks => "Full ACKs sent to publishers while their window was full.",
@@ -192,7 +192,7 @@ pub(crate) fn count_help(count: Count) -> &'static str
         Count::SentPackets => "Data packets sent to subscribers for the first time.",
         Count::ResentPackets => "Data packets sent to subscribers again.",
         Count::NaksTaken => "NAKs taken from subscribers.",
-        Count::Misdirected => "Data packets from callers that did not ask to publish.",
+        Count::Misdirected => "Data packets from clients that did not request to publish.",
     }
 }
 
@@ -281,9 +281,9 @@ pub(crate) fn gauge_help(gauge: Gauge) -> &'static str
     ensures { result.now ≡ gauge_help gauge }
 {
     match gauge {
-        Gauge::Active => "1 for the active publisher of a route, 0 for one that stands by.",
+        Gauge::Active => "1 for the active publisher of a route, 0 for the standby.",
         Gauge::Open => "The time since the session was opened.",
-        Gauge::Silent => "The time since something came from the caller.",
+        Gauge::Silent => "The time since the last packet from the client.",
         Gauge::Latency => "The delay that was agreed with the caller.",
         Gauge::RoundTrip => "The smoothed round-trip time.",
         Gauge::RoundTripVariance => "The variance of the round-trip time.",
@@ -430,7 +430,7 @@ pub(crate) fn total_help(total: Total) -> &'static str
         Total::Full => "Datagrams for a route whose inbox was full.",
         Total::Dropped => "Datagrams dropped, since they belong to no route and no handshake.",
         Total::NotAllowed => "Dropped datagrams to a route from an address in none of its lists.",
-        Total::Memory => "Datagrams for whose copy memory was refused.",
+        Total::Memory => "Datagrams dropped because there was no memory for their copy.",
         Total::Sent => "Datagrams sent.",
         Total::Lost => "Datagrams that could not be sent.",
         Total::Faults => "Failed waits, reads and sends.",
@@ -603,7 +603,7 @@ pub(crate) fn figure_help(figure: RouteFigure) -> &'static str
     match figure {
         RouteFigure::Allowed => "The greatest number of open sessions.",
         RouteFigure::Opened => "Sessions opened since the start.",
-        RouteFigure::TakeOvers => "How often a publisher that stood by became the active one.",
+        RouteFigure::TakeOvers => "How often a standby became the active publisher.",
         RouteFigure::RefusedFull => "Conclusions refused with 1003: no slot is free.",
         RouteFigure::RefusedReserved =>
             "Conclusions refused with 1003: the free slots are reserved for publishers.",

@@ -61,7 +61,7 @@ impl<W: Write + Drop> ChangeLog<'_, W> {
                 self.refuse(ConfigEvent::NoMemory { route });
             }
             NoRoom::Lists => {
-                let why = b"memory was refused";
+                let why = b"out of memory";
                 self.refuse(ConfigEvent::Wrong { why });
             }
         }

@@ -100,7 +100,7 @@ impl<'a> InForce<'a> {
         match changes_between(alloc, self.config(), &config) {
             Ok(changes) if changes.fixed.any() => Err(NotTaken::KeysDiffer(changes.fixed)),
             Ok(changes) => Ok(Wanted { config, changes }),
-            Err(_) => Err(NotTaken::Wrong(InlineText::of("memory was refused"))),
+            Err(_) => Err(NotTaken::Wrong(InlineText::of("out of memory"))),
         }
     }
 }

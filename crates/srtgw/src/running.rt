@@ -44,7 +44,7 @@ fn explain_bind(rt: &impl Eprint, config: &Config, fault: BindFault) {
             eprintln!(rt; "srtgw: {ip}:{port}: {why}")
         }
         BindFault::Socket(None) => eprintln!(rt; "srtgw: {ip}:{port}: the socket can't be used"),
-        BindFault::OutOfMemory => eprintln!(rt; "srtgw: {ip}:{port}: memory was refused"),
+        BindFault::OutOfMemory => eprintln!(rt; "srtgw: {ip}:{port}: out of memory"),
     };
 }
 
@@ -71,10 +71,10 @@ where
 fn explain_run(rt: &impl Eprint, path: &str, fault: RunFault) {
     let why = match fault {
         RunFault::OutOfMemory => {
-            "memory was refused for the routes: less buffer, sessions, inbox or outbox take less"
+            "out of memory for the routes: a smaller buffer, inbox or outbox, or fewer sessions, need less"
         }
         RunFault::Thread => "a thread can't be started, or isn't running after ten seconds",
-        RunFault::Busy => "a route's account can't be taken, since another thread still has it",
+        RunFault::Busy => "the final counters of a route aren't known, since another thread still has it",
     };
     let _ = eprintln!(rt; "srtgw: {path}: {why}");
 }
