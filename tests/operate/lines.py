@@ -34,7 +34,7 @@ def took_over_line(route, caller):
 
 TROUBLES = {"misdirected": ("subscriber", "sends data, but has not asked to publish (m=publish)"),
             "full_window": ("publisher", "fills its window and waits, buffer is too small"),
-            "late": ("publisher", "sends packets that come too late")}
+            "late": ("publisher", "sends packets that arrive too late")}
 
 
 def trouble_line(route, trouble, caller):

@@ -102,7 +102,7 @@ def ends_by_silence():
         for _, one in callers:
             one.stop()
         for (role, one), (first, last) in zip(callers, began):
-            _, found = run.line(ended_line("studio", role, one, "nothing came from its peer"), IDLE + LOOK)
+            _, found = run.line(ended_line("studio", role, one, "nothing arrived from its peer"), IDLE + LOOK)
             heard = one.sent / 1e6  # The clock of callers is time.monotonic().
             lasted, least, most = int(found["after"]) / 1000, heard - last + IDLE, heard - first + IDLE
             expect(least - 0.3 <= lasted <= most + 0.8, f"the session of the {role} lasted {lasted} s, and it were {least:.2f} to {most:.2f}")

@@ -37,7 +37,7 @@ opened_text standby = if standby then codes " opened as standby, socket " else c
 abbrev pub reason_text : EndReason → List ℕ
 reason_text Shutdown = codes ", its peer sent a SHUTDOWN"
 reason_text DrainedTooLong = codes ", its peer sent a SHUTDOWN, and not all of it could be delivered"
-reason_text Silence = codes ", nothing came from its peer"
+reason_text Silence = codes ", nothing arrived from its peer"
 reason_text WindowLost = codes ", its window was lost"
 reason_text StreamEnd = codes ", the stream is at its end"
 reason_text RouteClosed = codes ", its route was closed"
@@ -125,7 +125,7 @@ took_over_text caller = caller_text caller ++ codes " took over, socket " ++ id_
 abbrev pub trouble_text : Trouble → List ℕ
 trouble_text troubles.Misdirected = codes " sends data, but has not asked to publish (m=publish), socket "
 trouble_text troubles.FullWindow = codes " fills its window and waits, buffer is too small, socket "
-trouble_text troubles.LatePackets = codes " sends packets that come too late, socket "
+trouble_text troubles.LatePackets = codes " sends packets that arrive too late, socket "
 
 abbrev pub troubled_text : Caller → Trouble → List ℕ
 troubled_text caller trouble = caller_text caller ++ trouble_text trouble ++ id_text caller.id

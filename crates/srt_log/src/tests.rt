@@ -101,7 +101,7 @@ fn lines_of_ends_and_take_overs(rt: HostRuntime) -> Result<(), Fail> {
             lasted_ms: 3_600_123,
             counts,
         },
-        "studio: subscriber [2001:0db8:0000:0000:0000:0000:0000:0001]:9 ended, socket 0xfedcba98, nothing came from its peer, after 3600123 ms, 1000 packets, 1316000 bytes, 3 lost, 2 resent\n",
+        "studio: subscriber [2001:0db8:0000:0000:0000:0000:0000:0001]:9 ended, socket 0xfedcba98, nothing arrived from its peer, after 3600123 ms, 1000 packets, 1316000 bytes, 3 lost, 2 resent\n",
     )?;
     assert_line(
         &rt,
@@ -677,7 +677,7 @@ fn lines_of_troubles(rt: HostRuntime) -> Result<(), Fail> {
         &rt,
         &none,
         &troubled(0, 1, 0),
-        "studio: publisher 192.0.2.7:50123 sends packets that come too late, socket 0x00000001\n",
+        "studio: publisher 192.0.2.7:50123 sends packets that arrive too late, socket 0x00000001\n",
     )
 }
 

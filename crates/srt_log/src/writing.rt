@@ -67,7 +67,7 @@ fn put_reason(line: &mut Line, reason: EndReason)
         EndReason::DrainedTooLong => {
             line.put(b", its peer sent a SHUTDOWN, and not all of it could be delivered")
         }
-        EndReason::Silence => line.put(b", nothing came from its peer"),
+        EndReason::Silence => line.put(b", nothing arrived from its peer"),
         EndReason::WindowLost => line.put(b", its window was lost"),
         EndReason::StreamEnd => line.put(b", the stream is at its end"),
         EndReason::RouteClosed => line.put(b", its route was closed"),
@@ -146,7 +146,7 @@ fn put_trouble(line: &mut Line, trouble: Trouble)
             line.put(b" fills its window and waits, buffer is too small, socket ");
         }
         Trouble::LatePackets => {
-            line.put(b" sends packets that come too late, socket ");
+            line.put(b" sends packets that arrive too late, socket ");
         }
     }
 }
