@@ -10,7 +10,7 @@ use Rattle.srt_seq.specs.Entries.{is_between}
 use Rattle.srt_config.specs.declared.config.table.Key.{Key}
 use Rattle.srt_config.specs.declared.config.table.Key.TheVariants.{PublishFrom, RequestFrom, PublishKey, RequestKey}
 use Rattle.srt_config.specs.Address.{parted, octet_to}
-use Rattle.srt_config.specs.KeyTable.{key_name}
+use Rattle.srt_config.specs.KeyTable.{key_name, limits_of}
 use Rattle.srt_config.specs.FirstFault.{Fault, WrongKind, OutOfRange, BadAddress, ◌>>=◌}
 use Rattle.srt_config.specs.Keys.{of_kind, optional, text_value}
 use Rattle.srt_config.specs.Numbers.{number_in}
@@ -49,10 +49,10 @@ networks_from key before no_items = Ok before
 networks_from key before (item value rest) =
     text_value key value >>= λ text. networked key (network_in text) >>= λ network. networks_from key (before ++ network ∷ []) rest
 
--- 1 to 16 texts, each of them a network
+-- 1 to 16 texts, each of them a network; the limits of both roles are the same
 unfoldable pub list_in : Key → Items → Result (List Network) Fault
 list_in key items =
-    if not (is_between 1 16 (member_count items)) then Err (OutOfRange key)
+    if not (is_between (limits_of PublishFrom).least (limits_of PublishFrom).most (member_count items)) then Err (OutOfRange key)
     else if not (are_texts items) then Err (WrongKind key)
     else networks_from key [] items
 
@@ -70,7 +70,7 @@ is_key_byte b = is_between 97 122 b || is_between 65 90 b || is_between 48 57 b 
 
 -- 1 to 64 such bytes
 abbrev pub is_key_text : List ℕ → Bool
-is_key_text text = is_between 1 64 (length text) && list_all is_key_byte text
+is_key_text text = is_between (limits_of PublishKey).least (limits_of PublishKey).most (length text) && list_all is_key_byte text
 
 unfoldable pub key_in : Key → List ℕ → Result (List ℕ) Fault
 key_in key text = if is_key_text text then Ok text else Err (OutOfRange key)

@@ -13,7 +13,7 @@ use Rattle.srt_config.specs.Address.{Address, address_in}
 use Rattle.srt_config.specs.AddressParts.{address_of}
 use Rattle.srt_config.specs.KeyTable.{key_name}
 use Rattle.srt_config.specs.FirstFault.{Fault, Toml, BadSecret, BadAddress, ◌>>=◌}
-use Rattle.srt_config.specs.Keys.{known, value_at, text_value, text_at, number_at, optional}
+use Rattle.srt_config.specs.Keys.{known, value_at, text_value, text_at, key_number_at, optional}
 use Rattle.srt_config.specs.Routes.{routes_at}
 
 abbrev pub decoded : Result (List ℕ) FromHexError → Result (List ℕ) Fault
@@ -62,7 +62,7 @@ settings_at table =
     known top_keys table >>= λ _.
     secret_at table >>= λ secret.
     address_at Bind table >>= λ bind.
-    number_at Workers 1 16 table >>= λ workers.
+    key_number_at Workers table >>= λ workers.
     optional_address_at Status table >>= λ status.
     routes_at table >>= λ routes.
     Ok (record { secret = secret; bind = bind; workers = workers; status = status; routes = routes.terms; schedules = routes.schedules })

@@ -6,8 +6,9 @@ use Rattle.srt_config.specs.declared.config.faults.ConfigFault.{ConfigFault}
 use Rattle.srt_config.specs.declared.config.faults.ConfigFault.TheVariants as code
 use Rattle.srt_config.specs.declared.config.placed.PlacedFault.{PlacedFault}
 use Rattle.srt_config.specs.declared.config.table.Key.TheVariants.{Bind, Workers, Status, Route}
+use Rattle.srt_config.specs.KeyTable.{limits_of}
 use Rattle.srt_config.specs.FirstFault.{Fault, seen}
-use Rattle.srt_config.specs.Keys.{known, value_at, number_at, of_kind}
+use Rattle.srt_config.specs.Keys.{known, value_at, key_number_at, of_kind}
 use Rattle.srt_config.specs.Routes.{Routes, no_routes, routes_and, are_tables, count}
 use Rattle.srt_config.specs.Config.{top_keys, secret_at, address_at, optional_address_at}
 
@@ -33,7 +34,7 @@ faulty_from number before (item value rest) = or_later number (routes_and before
 abbrev pub place_in : Items → Option ℕ
 place_in items =
     if not (are_tables items) then None
-    else if not (is_between 1 511 (count items)) then None
+    else if not (is_between (limits_of Route).least (limits_of Route).most (count items)) then None
     else Some (faulty_from 1 no_routes items)
 
 infixl 10 ◌>>?◌
@@ -51,7 +52,7 @@ fault_place table =
     known top_keys table >>? λ _.
     secret_at table >>? λ _.
     address_at Bind table >>? λ _.
-    number_at Workers 1 16 table >>? λ _.
+    key_number_at Workers table >>? λ _.
     optional_address_at Status table >>? λ _.
     routes_place table
 

@@ -10,7 +10,7 @@ use Rattle.toml.specs.View.{view}
 use Rattle.toml.specs.declared.value.Value.{Value}
 use Rattle.srt_seq.specs.Entries.{is_between}
 use Rattle.srt_config.specs.declared.config.table.Key.{Key}
-use Rattle.srt_config.specs.KeyTable.{key_name}
+use Rattle.srt_config.specs.KeyTable.{key_name, limits_of}
 use Rattle.srt_config.specs.FirstFault.{Fault, UnknownKey, Missing, WrongKind, OutOfRange, ◌>>=◌}
 
 -- one of these keys has this spelling
@@ -77,6 +77,14 @@ number_at key low high table = value_at key table >>= λ value. number_value key
 -- the number at a key that may be missing
 unfoldable pub optional_number_at : Key → (low high : ℕ) → Members → Result (Option ℕ) Fault
 optional_number_at key low high table = optional (number_value key low high) (get_member (key_name key) table)
+
+-- the number at a key, within the key's limits
+abbrev pub key_number_at : Key → Members → Result ℕ Fault
+key_number_at key table = number_at key (limits_of key).least (limits_of key).most table
+
+-- the same at a key that may be missing
+abbrev pub optional_key_number_at : Key → Members → Result (Option ℕ) Fault
+optional_key_number_at key table = optional_number_at key (limits_of key).least (limits_of key).most table
 
 -- a number that is 0 if it isn't given
 abbrev pub given_or_0 : Option ℕ → ℕ

@@ -15,10 +15,11 @@ use Rattle.srt_config.specs.declared.config.table.Key.{Key}
 use Rattle.srt_config.specs.declared.config.table.Key.TheVariants.{Route, Name, Mode, LatencyMs, Buffer, Sessions, Inbox, Outbox}
 use Rattle.srt_config.specs.declared.config.table.Key.TheVariants.{OpenRound, CloseRound, Callers, PublishFrom, RequestFrom, PublishKey}
 use Rattle.srt_config.specs.declared.config.table.Key.TheVariants.{RequestKey, Reserved, SessionsPerAddress, TakeoverMs, ResendPercent}
+use Rattle.srt_config.specs.KeyTable.{limits_of}
 use Rattle.srt_config.specs.Access.{access_at}
 use Rattle.srt_config.specs.Rules.{callers_at, draft_if_none, rules_at}
 use Rattle.srt_config.specs.FirstFault.{Fault, WrongKind, OutOfRange, BadName, RepeatedName, ◌>>=◌}
-use Rattle.srt_config.specs.Keys.{known, value_at, text_at, number_at, optional_number_at, given_or_0, of_kind}
+use Rattle.srt_config.specs.Keys.{known, value_at, text_at, key_number_at, optional_number_at, optional_key_number_at, given_or_0, of_kind}
 
 -- a name of the right form that no earlier route has
 unfoldable pub name_in : (before : List Terms) → List ℕ → Result (List ℕ) Fault
@@ -43,11 +44,11 @@ pub record Numbers : Type 0 where
 
 unfoldable pub numbers_at : Members → Result Numbers Fault
 numbers_at table =
-    number_at LatencyMs 20 8000 table >>= λ latency_ms.
-    number_at Buffer 32 8192 table >>= λ buffer.
-    number_at Sessions 1 17 table >>= λ sessions.
-    number_at Inbox 16 4096 table >>= λ inbox.
-    number_at Outbox 16 4096 table >>= λ outbox.
+    key_number_at LatencyMs table >>= λ latency_ms.
+    key_number_at Buffer table >>= λ buffer.
+    key_number_at Sessions table >>= λ sessions.
+    key_number_at Inbox table >>= λ inbox.
+    key_number_at Outbox table >>= λ outbox.
     Ok (record { latency_ms = latency_ms; buffer = buffer; sessions = sessions; inbox = inbox; outbox = outbox })
 
 -- the keys of a route
@@ -85,8 +86,8 @@ schedule_of opens closes = record { open_round = opens; close_round = closes }
 -- the rounds in which a route opens and closes: it opens in round 0 if it has no `open_round`, and closes in a later round
 unfoldable pub schedule_at : Members → Result Schedule Fault
 schedule_at table =
-    optional_number_at OpenRound 0 1_000_000_000 table >>= λ opens.
-    optional_number_at CloseRound (given_or_0 opens + 1) 1_000_000_000 table >>= λ closes.
+    optional_key_number_at OpenRound table >>= λ opens.
+    optional_number_at CloseRound (given_or_0 opens + 1) (limits_of CloseRound).most table >>= λ closes.
     Ok (schedule_of (given_or_0 opens) closes)
 
 abbrev pub is_later : (opens : ℕ) → (closes : Option ℕ) → Bool
@@ -152,7 +153,7 @@ routes_from before (item value rest) =
 unfoldable pub routes_in : Items → Result Routes Fault
 routes_in items =
     if not (are_tables items) then Err (WrongKind Route)
-    else if not (is_between 1 511 (count items)) then Err (OutOfRange Route)
+    else if not (is_between (limits_of Route).least (limits_of Route).most (count items)) then Err (OutOfRange Route)
     else routes_from no_routes items
 
 -- the routes of the whole table

@@ -6,9 +6,9 @@ use Rattle.srt_seq.specs.declared.shared.Callers.{Callers as TheCallers}
 use Rattle.srt_seq.specs.declared.shared.Callers.TheVariants as callers
 use Rattle.srt_seq.specs.declared.shared.Rules.{Rules}
 use Rattle.srt_config.specs.declared.config.table.Key.TheVariants.{Callers, Reserved, SessionsPerAddress, TakeoverMs, ResendPercent}
-use Rattle.srt_config.specs.KeyTable.{key_name}
+use Rattle.srt_config.specs.KeyTable.{key_name, limits_of}
 use Rattle.srt_config.specs.FirstFault.{Fault, OutOfRange, ◌>>=◌}
-use Rattle.srt_config.specs.Keys.{optional, text_value, optional_number_at, given_or_0}
+use Rattle.srt_config.specs.Keys.{optional, text_value, optional_number_at, optional_key_number_at, given_or_0}
 
 -- which rules sessions follow where libsrt's differ from the draft's
 unfoldable pub callers_in : List ℕ → Result TheCallers Fault
@@ -31,7 +31,7 @@ draft_if_none (Some given) = given
 
 -- at most two slots are kept for publishers, and fewer than there are sessions
 abbrev pub most_reserved : (sessions : ℕ) → ℕ
-most_reserved sessions = min 2 (sessions - 1)
+most_reserved sessions = min (limits_of Reserved).most (sessions - 1)
 
 abbrev pub rules_with : TheCallers → (reserved sessions_per_address takeover_ms resend_percent : Option ℕ) → Rules
 rules_with callers reserved sessions_per_address takeover_ms resend_percent =
@@ -46,8 +46,8 @@ rules_with callers reserved sessions_per_address takeover_ms resend_percent =
 -- the rules of the route of a table, with this number of sessions and for these callers
 unfoldable pub rules_at : (sessions : ℕ) → TheCallers → Members → Result Rules Fault
 rules_at sessions callers table =
-    optional_number_at Reserved 0 (most_reserved sessions) table >>= λ reserved.
-    optional_number_at SessionsPerAddress 1 17 table >>= λ sessions_per_address.
-    optional_number_at TakeoverMs 100 5000 table >>= λ takeover_ms.
-    optional_number_at ResendPercent 5 1000 table >>= λ resend_percent.
+    optional_number_at Reserved (limits_of Reserved).least (most_reserved sessions) table >>= λ reserved.
+    optional_key_number_at SessionsPerAddress table >>= λ sessions_per_address.
+    optional_key_number_at TakeoverMs table >>= λ takeover_ms.
+    optional_key_number_at ResendPercent table >>= λ resend_percent.
     Ok (rules_with callers reserved sessions_per_address takeover_ms resend_percent)

@@ -7,7 +7,7 @@ ghost use Rattle.srt_seq.specs.Entries.{is_between};
 ghost use Rattle.srt_config.specs.KeyTable.{key_name, limits_of};
 ghost use Rattle.srt_config.specs.FirstFault.{seen, Gives};
 ghost use Rattle.srt_config.specs.Keys.{is_key, least_unknown, known, value_at, value_seen, text_value, text_at, within, number_value};
-ghost use Rattle.srt_config.specs.Keys.{number_at, optional_number_at};
+ghost use Rattle.srt_config.specs.Keys.{key_number_at, optional_number_at, optional_key_number_at};
 
 use super::faults::ConfigFault;
 use super::table::{Key, Limits};
@@ -112,7 +112,7 @@ fn number_value(key: Key, limits: Limits, value: &Value) -> Result<u32, ConfigFa
 /// Returns the number at a key, within the key's limits, or `Missing`, `WrongKind` or `OutOfRange`.
 #[tactic(auto, unfolding(crate::specs::Keys::number_at))]
 pub(crate) fn number_at(table: &Table, key: Key) -> Result<u32, ConfigFault>
-    ensures value { seen (λ n. n) result ≡ number_at key (limits_of key).least (limits_of key).most (table_view table.now) }
+    ensures value { seen (λ n. n) result ≡ key_number_at key (table_view table.now) }
     ensures inside { IfOk result (λ n. is_between (limits_of key).least (limits_of key).most n ≡ true) }
 {
     number_value(key, key.limits(), value_at(table, key)?)
@@ -137,7 +137,7 @@ pub(crate) fn optional_number_within(
 
 /// Returns the number at a key that may be missing, within the key's limits, or `WrongKind` or `OutOfRange`.
 pub(crate) fn optional_number_at(table: &Table, key: Key) -> Result<Option<u32>, ConfigFault>
-    ensures value { seen (λ n. n) result ≡ optional_number_at key (limits_of key).least (limits_of key).most (table_view table.now) }
+    ensures value { seen (λ n. n) result ≡ optional_key_number_at key (table_view table.now) }
     ensures inside { IfOk result (λ found. IfSome found (λ n. is_between (limits_of key).least (limits_of key).most n ≡ true)) }
 {
     optional_number_within(table, key, key.limits())
