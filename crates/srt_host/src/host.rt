@@ -1,4 +1,4 @@
-//! The machine as a watcher asks it, the configuration's file as it looks at it, and standard error as it writes to it.
+//! The machine, the configuration's file and standard error, as a watcher needs them.
 
 use crate::clock::Since;
 use srt_config::BindAddress;
@@ -13,13 +13,13 @@ use std::rt::Files;
 use std::time::{Clock, Duration, Instant, SystemTime};
 use std::{str, thread};
 
-/// The time between two questions of a watcher, in milliseconds.
+/// The rest of a watcher, in milliseconds.
 const REST_MS: u64 = 20;
 
-/// The time between two looks at connections of the status page, in milliseconds.
-const NAP_MS: u64 = 1;
+/// The rest of a watcher while a client is connected to the status page, in milliseconds.
+const PAUSE_MS: u64 = 1;
 
-/// The present time, in microseconds since 1970; 0 if the system's clock can't be read.
+/// Reads the system's clock, in microseconds since 1970; 0 if it can't be read.
 pub fn time_now(clock: &impl Clock) -> u64 {
     let Ok(now) = SystemTime::now(clock) else {
         return 0;
@@ -39,7 +39,7 @@ pub struct Host<'a, R> {
 }
 
 impl<'a, R: Clock> Host<'a, R> {
-    /// Of a gateway that started at this moment, with its socket at this address.
+    /// Returns the machine of a gateway that started at this instant, with its socket at this address.
     pub fn new(rt: &'a R, start: Option<Instant>, bind: BindAddress) -> Host<'a, R> {
         Host {
             rt,
@@ -54,8 +54,8 @@ impl<R: Clock + Files + AllocGlobal> Machine for Host<'_, R> {
         thread::sleep(self.rt, Duration::from_millis(REST_MS));
     }
 
-    fn nap(&self) {
-        thread::sleep(self.rt, Duration::from_millis(NAP_MS));
+    fn pause(&self) {
+        thread::sleep(self.rt, Duration::from_millis(PAUSE_MS));
     }
 
     fn moment(&mut self) -> u64 {
@@ -66,7 +66,7 @@ impl<R: Clock + Files + AllocGlobal> Machine for Host<'_, R> {
         time_now(self.rt)
     }
 
-    fn stop_asked(&self) -> bool {
+    fn stop_requested(&self) -> bool {
         stop_asked(self.rt)
     }
 

@@ -1,22 +1,23 @@
--- Two looks that are equal.
-use Rattle.std.proofs.Common.{◌≡◌, ℕ, ◌-◌, ◌/◌, ◌%◌, Bool, true, false, not, cond, ◌==◌, nat_lt, ◌&&◌, ◌||◌, Option, None, Some, refl, ap, ◌∙◌, arith}
+-- Two snapshots that are equal.
+use Rattle.std.proofs.Common.{◌≡◌, ℕ, ◌-◌, ◌/◌, ◌%◌, Bool, true, false, not, cond, ◌==◌, nat_lt, ◌&&◌, ◌||◌, Option, None, Some, refl, ap, arith}
 use Rattle.std.proofs.lemmas.Bool.{and_from, eq-eqb}
-use Rattle.srt_log.specs.declared.snapshots.SessionSnapshot.{SessionSnapshot}
+use Rattle.srt_log.specs.declared.snapshots.SlotSession.{SlotSession}
 use Rattle.srt_log.specs.declared.snapshots.RouteSnapshot.{RouteSnapshot}
 use Rattle.srt_log.specs.declared.changes.Change.{Change}
 use Rattle.srt_log.specs.declared.events.Trouble.{Trouble}
+use Rattle.srt_log.specs.Snapshots.{view_of}
 use Rattle.srt_log.specs.Changes.{is_same, is_open, is_active, is_new, ended_at, opened_at, ended_at_once, took_over_at, has_trouble}
 use Rattle.srt_log.specs.Changes.{trouble_at, troubled_at, slot_at, opened_below, unseen_of, unseen, change_at}
 
-same : (session : SessionSnapshot) → is_same (Some session) (Some session) ≡ true
-same session = and_from (session.id == session.id) (session.opened_at == session.opened_at) (eq-eqb session.id session.id refl)
-    (eq-eqb session.opened_at session.opened_at refl)
+same : (session : SlotSession) → is_same (Some session) (Some session) ≡ true
+same session = and_from ((view_of session).id == (view_of session).id) ((view_of session).opened == (view_of session).opened)
+    (eq-eqb (view_of session).id (view_of session).id refl) (eq-eqb (view_of session).opened (view_of session).opened refl)
 
 never_new : (d : Bool) → d ≡ true → (not d) ≡ false
 never_new true h = refl
 never_new false h = cc
 
-old_one : (look : Option SessionSnapshot) → is_new look look ≡ false
+old_one : (look : Option SlotSession) → is_new look look ≡ false
 old_one None = refl
 old_one (Some session) = never_new (is_same (Some session) (Some session)) (same session)
 
@@ -25,7 +26,7 @@ ended_of true true x y h = refl
 ended_of true false x y h = cc
 ended_of false e x y h = refl
 
-not_ended : (slot : ℕ) (look : Option SessionSnapshot) → ended_at slot look look ≡ None
+not_ended : (slot : ℕ) (look : Option SlotSession) → ended_at slot look look ≡ None
 not_ended slot None = refl
 not_ended slot (Some session) = ended_of (is_open (Some session)) (is_same (Some session) (Some session)) _ _ (same session)
 
@@ -33,14 +34,14 @@ none_if : (d : Bool) (o : Option Change) → d ≡ false → cond d o None ≡ N
 none_if true o h = cc
 none_if false o h = refl
 
-not_opened : (slot : ℕ) (look : Option SessionSnapshot) → opened_at slot look look ≡ None
+not_opened : (slot : ℕ) (look : Option SlotSession) → opened_at slot look look ≡ None
 not_opened slot look = none_if (is_new look look) _ (old_one look)
 
 none_unless : (d : Bool) (o : Option Change) → d ≡ false → cond (not d) None o ≡ None
 none_unless true o h = cc
 none_unless false o h = refl
 
-not_ended_at_once : (slot : ℕ) (look : Option SessionSnapshot) → ended_at_once slot look look ≡ None
+not_ended_at_once : (slot : ℕ) (look : Option SlotSession) → ended_at_once slot look look ≡ None
 not_ended_at_once slot look = none_unless (is_new look look) _ (old_one look)
 
 over_of : (s a n : Bool) (o : Option Change) → cond (not s) None (cond (a || not a || n) None o) ≡ None
@@ -48,7 +49,7 @@ over_of true true n o = refl
 over_of true false n o = refl
 over_of false a n o = refl
 
-not_over : (slot : ℕ) (look : Option SessionSnapshot) → took_over_at slot look look ≡ None
+not_over : (slot : ℕ) (look : Option SlotSession) → took_over_at slot look look ≡ None
 not_over slot look = over_of (is_same look look) (is_active look) (not (is_open look)) _
 
 no_news : (s t : Bool) (o : Option Change) → s ≡ true → cond (not t) None (cond (s && t) None o) ≡ None
@@ -56,7 +57,7 @@ no_news true true o h = refl
 no_news true false o h = refl
 no_news false t o h = cc
 
-no_trouble : (slot : ℕ) (trouble : Trouble) (look : Option SessionSnapshot) → troubled_at slot trouble look look ≡ None
+no_trouble : (slot : ℕ) (trouble : Trouble) (look : Option SlotSession) → troubled_at slot trouble look look ≡ None
 no_trouble slot trouble None = refl
 no_trouble slot trouble (Some session) =
     no_news (is_same (Some session) (Some session)) (has_trouble trouble (Some session)) _ (same session)

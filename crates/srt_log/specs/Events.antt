@@ -86,9 +86,9 @@ refused_by_text (Some obstacles.UnknownName) = codes ", unknown name"
 refused_by_text (Some (obstacles.Address role)) = list_text role
 refused_by_text (Some (obstacles.Key role)) = key_text role
 
-abbrev pub refused_text : (code : ℕ) → Peer → (asked : List ℕ) → Option NotAdmitted → List ℕ
-refused_text code peer asked by =
-    peer_text peer ++ codes " refused, " ++ decimal code ++ code_text code ++ codes ", asked for \"" ++ escaped_all asked ++ codes "\""
+abbrev pub refused_text : (code : ℕ) → Peer → (name : List ℕ) → Option NotAdmitted → List ℕ
+refused_text code peer name by =
+    peer_text peer ++ codes " refused, " ++ decimal code ++ code_text code ++ codes ", asked for \"" ++ escaped_all name ++ codes "\""
     ++ refused_by_text by
 
 -- how many conclusions each limit of a route refused
@@ -137,7 +137,7 @@ event_text (events.Opened caller standby latency_ms) = session_opened_text calle
 event_text (events.Ended caller reason lasted_ms counts) = ended_text caller reason lasted_ms counts
 event_text (events.TookOver caller) = took_over_text caller
 event_text (events.Troubled caller trouble) = troubled_text caller trouble
-event_text (events.Refused code peer asked by) = refused_text code peer asked.now by
+event_text (events.Refused code peer name by) = refused_text code peer name.now by
 event_text (events.Limited route full reserved per_address) = limited_text route.now full reserved per_address
 event_text (events.Unseen route opened) = unseen_text route.now opened
 event_text (events.Config event) = config_text event
@@ -146,7 +146,7 @@ event_text (events.Warned warning) = escaped_all warning.now
 event_text (events.SocketFaults count) = count_text (codes "socket faults ") count
 event_text (events.KernelDrops count) = count_text (codes "datagrams dropped by the kernel ") count
 event_text (events.LeftOut count) = count_text (codes "lines left out ") count
-event_text (events.StopAsked cause) = cause_text cause
+event_text (events.StopRequested cause) = cause_text cause
 event_text events.Stopped = codes "stopped"
 
 -- the text of a time and a space; none without a time

@@ -3,5 +3,6 @@ pub mod Peers
 pub mod ConfigEvents
 pub mod Events
 pub mod LineLimit
+pub mod Snapshots
 pub mod Changes
 pub mod Telling

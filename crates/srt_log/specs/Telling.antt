@@ -1,4 +1,4 @@
--- What the log says of a change.
+-- What the log states of a change.
 use Rattle.std.specs.Prelude.{ℕ, ◌-◌, ◌/◌, Bool, true, false, not, ◌&&◌, nat_lt, List, Option, None, Some, if◌then◌else◌}
 use denote.Ref.{Bor}
 use Rattle.srt_seq.specs.declared.shared.Role.{Role}
@@ -8,59 +8,60 @@ use Rattle.srt_log.specs.declared.events.EndReason.TheVariants as reasons
 use Rattle.srt_log.specs.declared.events.Trouble.{Trouble}
 use Rattle.srt_log.specs.declared.events.LogEvent.{LogEvent}
 use Rattle.srt_log.specs.declared.events.LogEvent.TheVariants as events
-use Rattle.srt_log.specs.declared.snapshots.SessionEnd.{SessionEnd}
-use Rattle.srt_log.specs.declared.snapshots.SessionSnapshot.{SessionSnapshot}
+use Rattle.srt_route.specs.declared.view.SessionView.{SessionView}
+use Rattle.srt_log.specs.declared.snapshots.SlotSession.{SlotSession}
+use Rattle.srt_log.specs.declared.snapshots.SlotSession.TheVariants as sessions
 use Rattle.srt_log.specs.declared.snapshots.RouteSnapshot.{RouteSnapshot}
 use Rattle.srt_log.specs.declared.changes.Change.{Change}
 use Rattle.srt_log.specs.declared.changes.Change.TheVariants.{Gone, Ended, Opened, TookOver, Troubled, Unseen}
+use Rattle.srt_log.specs.Snapshots.{view_of, counts_of, reason_of, latency_of}
 use Rattle.srt_log.specs.Changes.{slot_at}
 
 -- the session in a slot
-abbrev pub session_at : RouteSnapshot → (slot : ℕ) → Option SessionSnapshot
-session_at look slot = if nat_lt slot 17 then slot_at slot look.slots else None
+abbrev pub session_at : RouteSnapshot → (slot : ℕ) → Option SlotSession
+session_at snapshot slot = if nat_lt slot 17 then slot_at slot snapshot.slots else None
 
 -- a session as a line names it
-abbrev pub caller_of : Bor (List ℕ) → SessionSnapshot → Caller
-caller_of route session = record { route = route; role = session.role; peer = session.peer; id = session.id }
+abbrev pub caller_of : Bor (List ℕ) → SessionView → Caller
+caller_of route view = record { route = route; role = view.role; peer = view.peer; id = view.id }
 
 -- a publisher that isn't the active one
 abbrev pub is_publisher : Role → Bool
 is_publisher Publish = true
 is_publisher Request = false
 
-abbrev pub stands_by : SessionSnapshot → Bool
-stands_by session = is_publisher session.role && not session.active
+abbrev pub stands_by : SessionView → Bool
+stands_by view = is_publisher view.role && not view.is_active
 
 -- an opening, an end, the end of a session that is gone, a take-over; times in milliseconds
-abbrev pub opened_event : Bor (List ℕ) → SessionSnapshot → LogEvent
-opened_event route session = events.Opened (caller_of route session) (stands_by session) session.latency_ms
+abbrev pub opened_event : Bor (List ℕ) → SessionView → LogEvent
+opened_event route view = events.Opened (caller_of route view) (stands_by view) (latency_of view.latency_ms)
 
-abbrev pub ended_by : Bor (List ℕ) → SessionSnapshot → Option SessionEnd → Option LogEvent
-ended_by route session None = None
-ended_by route session (Some end) = Some (events.Ended (caller_of route session) end.reason ((end.moment - session.opened_at) / 1000) session.counts)
+abbrev pub ended_event : Bor (List ℕ) → (stops : Bool) → SlotSession → Option LogEvent
+ended_event route stops (sessions.Open view) = None
+ended_event route stops (sessions.Ended x) =
+    Some (events.Ended (caller_of route x.view) (reason_of stops x.cause) ((x.moment - x.view.opened) / 1000) (counts_of x.view.traffic))
 
-abbrev pub ended_event : Bor (List ℕ) → SessionSnapshot → Option LogEvent
-ended_event route session = ended_by route session session.end
+abbrev pub gone_event : Bor (List ℕ) → SessionView → (moment : ℕ) → LogEvent
+gone_event route view moment = events.Ended (caller_of route view) reasons.Unknown ((moment - view.opened) / 1000) (counts_of view.traffic)
 
-abbrev pub gone_event : Bor (List ℕ) → SessionSnapshot → (moment : ℕ) → LogEvent
-gone_event route session moment = events.Ended (caller_of route session) reasons.Unknown ((moment - session.opened_at) / 1000) session.counts
+abbrev pub took_over_event : Bor (List ℕ) → SessionView → LogEvent
+took_over_event route view = events.TookOver (caller_of route view)
 
-abbrev pub took_over_event : Bor (List ℕ) → SessionSnapshot → LogEvent
-took_over_event route session = events.TookOver (caller_of route session)
+abbrev pub troubled_event : Bor (List ℕ) → SessionView → Trouble → LogEvent
+troubled_event route view trouble = events.Troubled (caller_of route view) trouble
 
-abbrev pub troubled_event : Bor (List ℕ) → SessionSnapshot → Trouble → LogEvent
-troubled_event route session trouble = events.Troubled (caller_of route session) trouble
-
--- what is said of a session, if there is one
-abbrev pub of_session : (SessionSnapshot → Option LogEvent) → Option SessionSnapshot → Option LogEvent
+-- what is logged of a session, if there is one
+abbrev pub of_session : (SlotSession → Option LogEvent) → Option SlotSession → Option LogEvent
 of_session f None = None
 of_session f (Some session) = f session
 
--- what is said of a change between two looks
+-- what is logged of a change between two snapshots
 abbrev pub event_of : Bor (List ℕ) → (old new : RouteSnapshot) → Change → Option LogEvent
-event_of route old new (Gone slot) = of_session (λ session. Some (gone_event route session old.moment)) (session_at old slot)
-event_of route old new (Ended slot) = of_session (λ session. ended_event route session) (session_at new slot)
-event_of route old new (Opened slot) = of_session (λ session. Some (opened_event route session)) (session_at new slot)
-event_of route old new (TookOver slot) = of_session (λ session. Some (took_over_event route session)) (session_at new slot)
-event_of route old new (Troubled slot trouble) = of_session (λ session. Some (troubled_event route session trouble)) (session_at new slot)
+event_of route old new (Gone slot) = of_session (λ session. Some (gone_event route (view_of session) old.moment)) (session_at old slot)
+event_of route old new (Ended slot) = of_session (λ session. ended_event route new.stops session) (session_at new slot)
+event_of route old new (Opened slot) = of_session (λ session. Some (opened_event route (view_of session))) (session_at new slot)
+event_of route old new (TookOver slot) = of_session (λ session. Some (took_over_event route (view_of session))) (session_at new slot)
+event_of route old new (Troubled slot trouble) =
+    of_session (λ session. Some (troubled_event route (view_of session) trouble)) (session_at new slot)
 event_of route old new (Unseen opened) = Some (events.Unseen route opened)

@@ -1,36 +1,37 @@
-//! What changed at a route between two looks.
+//! What changed at a route between two snapshots.
 
 ghost use Rattle.std.specs.Prelude.{◌≡◌};
-ghost use Rattle.srt_log.specs.Changes.{is_same, is_open, is_active, is_new, ended_at, opened_at, ended_at_once, took_over_at, count_of};
+ghost use Rattle.srt_log.specs.Changes.{is_same_view, is_same, is_open, is_active, is_new, ended_at, opened_at, ended_at_once, took_over_at};
+ghost use Rattle.srt_log.specs.Snapshots.{received_trouble, sent_trouble, count_of};
 ghost use Rattle.srt_log.specs.Changes.{has_trouble, trouble_at, troubled_at, opened_below, unseen, change_at};
 
 use crate::events::Trouble;
-use crate::snapshots::{RouteSnapshot, SessionSnapshot, Troubles};
+use crate::snapshots::{RouteSnapshot, SlotSession};
+use srt_route::{SessionView, Traffic};
 use srt_seq::limits::MAX_SESSIONS;
 
-/// The number of steps in which two looks are compared.
+/// The number of steps in which two snapshots are compared.
 pub const STEPS: usize = 120;
 
-/// Something that changed between two looks at a route.
+/// A change between two snapshots of a route.
 #[derive(Clone, Copy, PartialEq, Eq)]
 pub enum Change {
-    /// The session that was open in this slot has ended, and another one stands there now: only the earlier look knows
-    /// it.
+    /// The session that was open in this slot has ended, and the slot has another one: only the earlier snapshot has it.
     Gone {
         /// The slot, from 0.
         slot: usize,
     },
-    /// The session in this slot has ended, as the later look has it.
+    /// The session in this slot has ended. The later snapshot has it.
     Ended {
         /// The slot, from 0.
         slot: usize,
     },
-    /// A session opened in this slot, as the later look has it.
+    /// A session opened in this slot. The later snapshot has it.
     Opened {
         /// The slot, from 0.
         slot: usize,
     },
-    /// The publisher in this slot stood by, and is the active one now.
+    /// The standby publisher in this slot is the active one now.
     TookOver {
         /// The slot, from 0.
         slot: usize,
@@ -39,62 +40,66 @@ pub enum Change {
     Troubled {
         /// The slot, from 0.
         slot: usize,
-        /// What it is.
+        /// What is wrong.
         trouble: Trouble,
     },
-    /// Sessions that opened and ended between the looks.
+    /// Sessions opened and ended between the snapshots.
     Unseen {
-        /// Their number. The later look has nothing of them.
+        /// Their number. No snapshot has them.
         opened: u64,
     },
 }
 
-/// Whether two looks at a slot have the same session.
-fn is_same(old: &Option<SessionSnapshot>, new: &Option<SessionSnapshot>) -> bool
+// Whether these are states of the same session.
+fn is_same_view(old: &SessionView, new: &SessionView) -> bool
+    ensures { result ≡ is_same_view old.now new.now }
+{
+    old.id == new.id && old.opened == new.opened
+}
+
+// Whether two snapshots of a slot have the same session.
+fn is_same(old: &Option<SlotSession>, new: &Option<SlotSession>) -> bool
     ensures { result ≡ is_same old.now new.now }
 {
     match old {
         Some(old) => match new {
-            Some(new) => old.id == new.id && old.opened_at == new.opened_at,
+            Some(new) => is_same_view(old.view(), new.view()),
             None => false,
         },
         None => false,
     }
 }
 
-/// Whether a slot has an open session.
-fn is_open(look: &Option<SessionSnapshot>) -> bool
-    ensures { result ≡ is_open look.now }
+// Whether a slot has an open session.
+fn is_open(slot: &Option<SlotSession>) -> bool
+    ensures { result ≡ is_open slot.now }
 {
-    match look {
-        Some(session) => session.end.is_none(),
+    match slot {
+        Some(SlotSession::Open(_)) => true,
+        Some(SlotSession::Ended(_)) => false,
         None => false,
     }
 }
 
-/// Whether the session of a slot is the active publisher.
-fn is_active(look: &Option<SessionSnapshot>) -> bool
-    ensures { result ≡ is_active look.now }
+// Whether the session of a slot is the active publisher.
+fn is_active(slot: &Option<SlotSession>) -> bool
+    ensures { result ≡ is_active slot.now }
 {
-    match look {
-        Some(session) => session.active,
+    match slot {
+        Some(session) => session.view().is_active,
         None => false,
     }
 }
 
-/// Whether the later look at a slot has a session that the earlier one hasn't.
-fn is_new(old: &Option<SessionSnapshot>, new: &Option<SessionSnapshot>) -> bool
+// Whether the later snapshot of a slot has a session that the earlier one hasn't.
+fn is_new(old: &Option<SlotSession>, new: &Option<SlotSession>) -> bool
     ensures { result ≡ is_new old.now new.now }
 {
     new.is_some() && !is_same(old, new)
 }
 
-/// The end of the session that was open in a slot.
-fn ended_at(
-    slot: usize,
-    old: &Option<SessionSnapshot>,
-    new: &Option<SessionSnapshot>,
-) -> Option<Change>
+// Returns the end of the session that was open in a slot.
+fn ended_at(slot: usize, old: &Option<SlotSession>, new: &Option<SlotSession>) -> Option<Change>
     ensures { result ≡ ended_at slot old.now new.now }
 {
     if !is_open(old) {
@@ -110,12 +115,8 @@ fn ended_at(
     }
 }
 
-/// The opening of a session in a slot.
-fn opened_at(
-    slot: usize,
-    old: &Option<SessionSnapshot>,
-    new: &Option<SessionSnapshot>,
-) -> Option<Change>
+// Returns the opening of a session in a slot.
+fn opened_at(slot: usize, old: &Option<SlotSession>, new: &Option<SlotSession>) -> Option<Change>
     ensures { result ≡ opened_at slot old.now new.now }
 {
     if is_new(old, new) {
@@ -125,11 +126,11 @@ fn opened_at(
     }
 }
 
-/// The end of a session that opened in a slot since the earlier look.
+// Returns the end of a session that opened in a slot since the earlier snapshot.
 fn ended_at_once(
     slot: usize,
-    old: &Option<SessionSnapshot>,
-    new: &Option<SessionSnapshot>,
+    old: &Option<SlotSession>,
+    new: &Option<SlotSession>,
 ) -> Option<Change>
     ensures { result ≡ ended_at_once slot old.now new.now }
 {
@@ -143,12 +144,8 @@ fn ended_at_once(
     }
 }
 
-/// The take-over by the publisher of a slot.
-fn took_over_at(
-    slot: usize,
-    old: &Option<SessionSnapshot>,
-    new: &Option<SessionSnapshot>,
-) -> Option<Change>
+// Returns the take-over by the publisher of a slot.
+fn took_over_at(slot: usize, old: &Option<SlotSession>, new: &Option<SlotSession>) -> Option<Change>
     ensures { result ≡ took_over_at slot old.now new.now }
 {
     if !is_same(old, new) {
@@ -160,28 +157,49 @@ fn took_over_at(
     Some(Change::TookOver { slot })
 }
 
-/// How often this was wrong.
-fn count_of(trouble: Trouble, troubles: &Troubles) -> u64
-    ensures { result ≡ count_of trouble troubles.now }
+// Returns how often this was wrong with a publisher's stream. Packets that arrived after their place was passed are too late
+// if as many numbers were given up. Otherwise they were sent again though they had arrived.
+fn received_trouble(trouble: Trouble, counts: &srt_pub::Counts) -> u64
+    ensures { result ≡ received_trouble trouble counts.now.full_windows counts.now.late counts.now.given_up }
 {
     match trouble {
-        Trouble::Misdirected => troubles.misdirected,
-        Trouble::FullWindow => troubles.full_window,
-        Trouble::LatePackets => troubles.late,
+        Trouble::Misdirected => 0,
+        Trouble::FullWindow => counts.full_windows,
+        Trouble::LatePackets => counts.late.min(counts.given_up),
     }
 }
 
-/// Whether this was wrong with the session of a slot.
-fn has_trouble(trouble: Trouble, look: &Option<SessionSnapshot>) -> bool
-    ensures { result ≡ has_trouble trouble look.now }
+// Returns how often this was wrong with a subscriber's stream.
+fn sent_trouble(trouble: Trouble, misdirected: u64) -> u64
+    ensures { result ≡ sent_trouble trouble misdirected }
 {
-    match look {
-        Some(session) => count_of(trouble, &session.troubles) != 0,
+    match trouble {
+        Trouble::Misdirected => misdirected,
+        Trouble::FullWindow | Trouble::LatePackets => 0,
+    }
+}
+
+// Returns how often this was wrong with a session's stream since its opening. Never decreases.
+fn count_of(trouble: Trouble, traffic: &Traffic) -> u64
+    ensures { result ≡ count_of trouble traffic.now }
+{
+    match traffic {
+        Traffic::Received(statistics) => received_trouble(trouble, &statistics.counts),
+        Traffic::Sent(statistics) => sent_trouble(trouble, statistics.counts.misdirected),
+    }
+}
+
+// Whether this was wrong with the session of a slot.
+fn has_trouble(trouble: Trouble, slot: &Option<SlotSession>) -> bool
+    ensures { result ≡ has_trouble trouble slot.now }
+{
+    match slot {
+        Some(session) => count_of(trouble, &session.view().traffic) != 0,
         None => false,
     }
 }
 
-/// What a step of those for troubles asks for: each slot has three.
+// Returns the trouble of a step: each slot has three such steps.
 fn trouble_at(step: usize) -> Trouble
     ensures { result ≡ trouble_at step }
 {
@@ -192,12 +210,12 @@ fn trouble_at(step: usize) -> Trouble
     }
 }
 
-/// The first time that this is wrong with the session of a slot.
+// Returns the first time that this is wrong with the session of a slot.
 fn troubled_at(
     slot: usize,
     trouble: Trouble,
-    old: &Option<SessionSnapshot>,
-    new: &Option<SessionSnapshot>,
+    old: &Option<SlotSession>,
+    new: &Option<SlotSession>,
 ) -> Option<Change>
     ensures { result ≡ troubled_at slot trouble old.now new.now }
 {
@@ -210,7 +228,7 @@ fn troubled_at(
     Some(Change::Troubled { slot, trouble })
 }
 
-/// How many slots have a new session.
+// Returns how many slots have a new session.
 #[tactic(auto, using(crate::proofs::Slots::no_slots, crate::proofs::Slots::next_slot))]
 fn opened_in(old: &RouteSnapshot, new: &RouteSnapshot) -> u64
     ensures { result ≡ opened_below 17 old.now.slots new.now.slots }
@@ -224,7 +242,7 @@ fn opened_in(old: &RouteSnapshot, new: &RouteSnapshot) -> u64
     opened
 }
 
-/// How many sessions opened and ended between the looks, if there were any.
+// Returns how many sessions opened and ended between the snapshots, if there were any.
 #[tactic(auto, unfolding(crate::specs::Changes::unseen))]
 fn unseen(old: &RouteSnapshot, new: &RouteSnapshot) -> Option<Change>
     ensures { result ≡ unseen old.now new.now }
@@ -239,10 +257,11 @@ fn unseen(old: &RouteSnapshot, new: &RouteSnapshot) -> Option<Change>
     Some(Change::Unseen { opened })
 }
 
-/// What changed at a route between two looks, in this one of the [`STEPS`] steps; None if nothing did, or if there is no
-/// such step. Taken in order, the steps give what a log tells: the ends of sessions that the earlier look had open,
-/// slots upwards; for each slot the session that opened there, and its end if it has ended again; the publisher that
-/// took over; for each slot what is wrong for the first time with its session's stream; how many sessions no look saw.
+/// Returns what changed at a route between two snapshots in this one of the [`STEPS`] steps. None if nothing did, or if there
+/// is no such step. Taken in order, the steps are the order of the log: the ends of sessions that the earlier snapshot had
+/// open, slots upwards; for each slot the session that opened there, and its end if it has ended again; the publisher that
+/// took over; for each slot what is wrong for the first time with its session's stream; the number of sessions that no
+/// snapshot has.
 pub fn change_at(old: &RouteSnapshot, new: &RouteSnapshot, step: usize) -> Option<Change>
     ensures { result ≡ change_at old.now new.now step }
 {

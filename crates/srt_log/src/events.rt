@@ -1,4 +1,4 @@
-//! What a line of the log says.
+//! The events of the log.
 
 use crate::config_events::ConfigEvent;
 use srt_seq::{NotAdmitted, Peer, Role};
@@ -16,7 +16,7 @@ pub struct Caller<'a> {
     pub id: u32,
 }
 
-/// What a session took and gave.
+/// The counts of a session.
 #[derive(Clone, Copy)]
 pub struct SessionCounts {
     /// Data packets, each counted once.
@@ -25,7 +25,7 @@ pub struct SessionCounts {
     pub bytes: u64,
     /// Packets that were lost: those that a publisher's session dropped as missing, or a subscriber's as too late.
     pub lost: u64,
-    /// Packets that were sent again; of a publisher's session those that arrived beside the ones that are counted.
+    /// Packets that were sent again; of a publisher's session, those that arrived in addition to the ones counted.
     pub resent: u64,
 }
 
@@ -34,7 +34,7 @@ pub struct SessionCounts {
 pub enum Trouble {
     /// Data packets arrived from a caller that didn't ask to publish. They are ignored.
     Misdirected,
-    /// Full ACKs said that no place of a publisher's window was available, so that its encoder waits or loses packets.
+    /// Full ACKs reported that no place of a publisher's window was available, so that its encoder waits or loses packets.
     FullWindow,
     /// Packets of a publisher arrived after their place was passed. They are ignored.
     LatePackets,
@@ -51,28 +51,28 @@ pub enum EndReason {
     Silence,
     /// Its window moved past packets that were neither received nor given up.
     WindowLost,
-    /// The end of the stream was told: all of it was delivered.
+    /// The stream has ended, and all of it was delivered.
     StreamEnd,
     /// Its route was closed.
     RouteClosed,
     /// The gateway stops.
     GatewayStops,
-    /// It isn't known: another session stands in its slot.
+    /// It isn't known: another session is in its slot.
     Unknown,
 }
 
-/// Why the gateway was asked to stop.
+/// Why the gateway stops.
 #[derive(Clone, Copy)]
 pub enum StopCause {
     /// A signal: SIGINT or SIGTERM.
     Signal,
-    /// The time of `--for` is over.
+    /// The time of `--for` has expired.
     Duration,
     /// All rounds were made.
     Rounds,
 }
 
-/// What a line of the log says.
+/// An event of the log: the content of one line.
 #[derive(Clone, Copy)]
 pub enum LogEvent<'a> {
     /// The gateway serves callers.
@@ -85,7 +85,7 @@ pub enum LogEvent<'a> {
         routes: u32,
         /// The number of worker threads.
         workers: u32,
-        /// The memory that it has taken, in bytes.
+        /// The memory of the process, in bytes.
         memory: u64,
     },
     /// A session opened.
@@ -105,7 +105,7 @@ pub enum LogEvent<'a> {
         reason: EndReason,
         /// How long it was open, in milliseconds.
         lasted_ms: u64,
-        /// What it took and gave.
+        /// Its counts.
         counts: SessionCounts,
     },
     /// A publisher that stood by is the active one now.
@@ -117,7 +117,7 @@ pub enum LogEvent<'a> {
     Troubled {
         /// The session.
         caller: Caller<'a>,
-        /// What it is.
+        /// What is wrong.
         trouble: Trouble,
     },
     /// A conclusion was refused.
@@ -126,42 +126,42 @@ pub enum LogEvent<'a> {
         code: u32,
         /// The caller's address and port.
         peer: Peer,
-        /// The name that it asked for, as it was received.
-        asked: &'a [u8],
-        /// What stood against it, if that is known.
+        /// The name that it requested, as it was received.
+        name: &'a [u8],
+        /// The reason for the rejection, if that is known.
         by: Option<NotAdmitted>,
     },
-    /// A limit of a route refused conclusions with 1003 between two looks, of which each has a line of its own.
+    /// The limits of a route refused conclusions with 1003 between two snapshots. Each of these has its own line.
     Limited {
         /// The route's name.
         route: &'a [u8],
         /// Those that found no slot free.
         full: u64,
-        /// Those that asked for a subscriber's session while the free slots were reserved for publishers.
+        /// Those that requested a subscriber's session while the free slots were reserved for publishers.
         reserved: u64,
         /// Those whose address had as many open sessions as `sessions_per_address` allows.
         per_address: u64,
     },
-    /// Sessions opened and ended on a route between two looks: only their number is known.
+    /// Sessions opened and ended on a route between two snapshots. Only their number is known.
     Unseen {
         /// The route's name.
         route: &'a [u8],
         /// Their number.
         opened: u64,
     },
-    /// Something that concerns a configuration that was changed while the gateway runs.
+    /// An event of a configuration that was changed while the gateway runs.
     Config {
         /// What it is.
         event: ConfigEvent<'a>,
     },
     /// SIGINT and SIGTERM aren't blocked, so that either ends the gateway at once.
     Unblocked,
-    /// The configuration has something that is allowed, and unwise.
+    /// A warning of the configuration.
     Warned {
-        /// What it is.
+        /// Its text.
         warning: &'a [u8],
     },
-    /// The socket gave errors since the last such line.
+    /// Errors of the socket since the last such line.
     SocketFaults {
         /// Their number.
         count: u64,
@@ -176,8 +176,8 @@ pub enum LogEvent<'a> {
         /// Their number.
         count: u64,
     },
-    /// The gateway was asked to stop.
-    StopAsked {
+    /// A stop was requested.
+    StopRequested {
         /// Why.
         by: StopCause,
     },

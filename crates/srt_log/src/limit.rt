@@ -1,4 +1,4 @@
-//! How many lines a second may have.
+//! The limit of lines in a second.
 
 ghost use Rattle.std.specs.Prelude.{◌≡◌, [], ◌∷◌, List, true, false};
 
@@ -8,18 +8,18 @@ const MAX_LINES: u64 = 50;
 /// The microseconds of a second.
 const SECOND: u64 = 1_000_000;
 
-/// What a limit says of one line.
+/// The decision of a limit about one line.
 #[derive(Clone, Copy)]
 pub struct LineAllowance {
     /// Whether the line may be written.
     pub written: bool,
-    /// How many lines were left out in the second before, to be told ahead of this one; 0 for none.
+    /// How many lines were left out in the second before, to be logged ahead of this one; 0 for none.
     pub left_out: u64,
 }
 
-/// A limit of lines: at most 50 in each second. What is left out is counted, and told once, as soon as a new second has
-/// begun. Seconds are those of the moments that it is given, in microseconds; a moment before the latest one counts as
-/// that second's.
+/// A limit of lines: at most 50 in each second. The number of lines left out is returned once, as soon as a new second has
+/// begun. Seconds are computed from the times passed in, in microseconds. A time before the latest one belongs to the latest
+/// second.
 #[derive(Clone, Copy)]
 pub struct LineLimit {
     second: u64,
@@ -27,9 +27,9 @@ pub struct LineLimit {
 }
 
 impl LineLimit {
-    ghost use Rattle.srt_log.specs.LineLimit.{Asked, StandsFor, left_out_in, is_written, told_at};
+    ghost use Rattle.srt_log.specs.LineLimit.{LimitCall, StandsFor, left_out_in, is_written, omitted_at};
 
-    /// A limit that was asked nothing so far.
+    /// Returns a limit before its first line.
     pub fn new() -> LineLimit
         ensures { StandsFor result [] }
     {
@@ -39,20 +39,20 @@ impl LineLimit {
         }
     }
 
-    /// How many lines of the present second are left out so far.
+    /// Returns how many lines of the current second are left out so far.
     pub fn left_out(&self) -> u64
-        ensures { (asked : List Asked) → StandsFor self.now asked → result ≡ left_out_in asked }
+        ensures { (calls : List LimitCall) → StandsFor self.now calls → result ≡ left_out_in calls }
     {
         self.lines.saturating_sub(MAX_LINES)
     }
 
-    /// Whether one more line may be written at this moment.
+    /// Whether one more line may be written at this time.
     pub fn line(&mut self, moment: u64) -> LineAllowance
-        ensures stands { (asked : List Asked) → StandsFor self.old asked → StandsFor self.new (record { is_line = true; moment = moment } ∷ asked) }
-        ensures written { (asked : List Asked) → StandsFor self.old asked → result.written ≡ is_written asked moment }
-        ensures left_out { (asked : List Asked) → StandsFor self.old asked → result.left_out ≡ told_at asked moment }
+        ensures stands { (calls : List LimitCall) → StandsFor self.old calls → StandsFor self.new (record { is_line = true; moment = moment } ∷ calls) }
+        ensures written { (calls : List LimitCall) → StandsFor self.old calls → result.written ≡ is_written calls moment }
+        ensures left_out { (calls : List LimitCall) → StandsFor self.old calls → result.left_out ≡ omitted_at calls moment }
     {
-        let left_out = self.look(moment);
+        let left_out = self.poll(moment);
         self.lines = self.lines.saturating_add(1);
         LineAllowance {
             written: self.lines <= MAX_LINES,
@@ -60,11 +60,11 @@ impl LineLimit {
         }
     }
 
-    /// How many lines were left out in the second before, if a new one has begun by this moment; else 0. It is told
-    /// once.
-    pub fn look(&mut self, moment: u64) -> u64
-        ensures stands { (asked : List Asked) → StandsFor self.old asked → StandsFor self.new (record { is_line = false; moment = moment } ∷ asked) }
-        ensures left_out { (asked : List Asked) → StandsFor self.old asked → result ≡ told_at asked moment }
+    /// Returns how many lines were left out in the second before, if a new one has begun by this time, and 0 otherwise.
+    /// Returns the number once.
+    pub fn poll(&mut self, moment: u64) -> u64
+        ensures stands { (calls : List LimitCall) → StandsFor self.old calls → StandsFor self.new (record { is_line = false; moment = moment } ∷ calls) }
+        ensures left_out { (calls : List LimitCall) → StandsFor self.old calls → result ≡ omitted_at calls moment }
     {
         let second = moment / SECOND;
         if second <= self.second {

@@ -1,59 +1,54 @@
-//! The sessions of a route at one moment.
+//! The sessions of a route at one time.
 
-use crate::events::{EndReason, SessionCounts};
+ghost use Rattle.std.specs.Prelude.{◌≡◌};
+ghost use Rattle.srt_log.specs.Snapshots.{view_of, slot_of};
+
+use srt_route::{EndedSession, SessionView};
 use srt_seq::limits::MAX_SESSIONS;
-use srt_seq::{Peer, Role};
 
-/// How a session ended.
+/// The session of a slot.
 #[derive(Clone, Copy)]
-pub struct SessionEnd {
-    /// Why.
-    pub reason: EndReason,
-    /// The moment, in microseconds.
-    pub moment: u64,
+pub enum SlotSession {
+    /// It is open.
+    Open(SessionView),
+    /// It has ended.
+    Ended(EndedSession),
 }
 
-/// How often something was wrong with a session's stream since its opening. None of these goes back.
-#[derive(Clone, Copy, Default)]
-pub struct Troubles {
-    /// Data packets from a caller that didn't ask to publish.
-    pub misdirected: u64,
-    /// Full ACKs that said that no place of a publisher's window was available.
-    pub full_window: u64,
-    /// Packets of a publisher that arrived too late.
-    pub late: u64,
+impl SlotSession {
+    /// Returns its state: at the time of the snapshot, or at its end.
+    pub fn view(&self) -> &SessionView
+        ensures { result.now ≡ view_of self.now }
+    {
+        match self {
+            SlotSession::Open(view) => view,
+            SlotSession::Ended(ended) => &ended.view,
+        }
+    }
 }
 
-/// A session, as it stood at a moment.
-#[derive(Clone, Copy)]
-pub struct SessionSnapshot {
-    /// Its socket ID here.
-    pub id: u32,
-    /// The moment of its opening, in microseconds. No other session of its slot has both the same.
-    pub opened_at: u64,
-    /// The side of the stream.
-    pub role: Role,
-    /// Whether it is the publisher whose payloads are delivered.
-    pub active: bool,
-    /// The caller's address and port.
-    pub peer: Peer,
-    /// Its delay in milliseconds; `None` in buffer mode.
-    pub latency_ms: Option<u32>,
-    /// How it ended; `None` while it is open.
-    pub end: Option<SessionEnd>,
-    /// What it took and gave.
-    pub counts: SessionCounts,
-    /// What was wrong with its stream.
-    pub troubles: Troubles,
+/// Returns the session of a slot: the one that is open there, or otherwise the one that ended there last.
+pub fn slot_of(current: Option<SessionView>, ended: Option<EndedSession>) -> Option<SlotSession>
+    ensures { result ≡ slot_of current ended }
+{
+    match current {
+        Some(view) => Some(SlotSession::Open(view)),
+        None => match ended {
+            Some(session) => Some(SlotSession::Ended(session)),
+            None => None,
+        },
+    }
 }
 
-/// The sessions of a route at a moment, and the route's counts so far.
+/// The sessions of a route at one time, and the number of them so far.
 #[derive(Clone, Copy)]
 pub struct RouteSnapshot {
-    /// The moment, in microseconds.
+    /// The time, in microseconds.
     pub moment: u64,
-    /// In each slot the session that was opened there last; `None` if there was none.
-    pub slots: [Option<SessionSnapshot>; MAX_SESSIONS],
-    /// The sessions that were opened so far.
+    /// Whether the gateway is about to end. That closes the route.
+    pub stops: bool,
+    /// In each slot the session that opened there last; `None` if there was none.
+    pub slots: [Option<SlotSession>; MAX_SESSIONS],
+    /// The sessions that opened so far.
     pub opened: u64,
 }

@@ -1,99 +1,160 @@
-//! What the log says of a change.
+//! What the log states of a change.
 
 ghost use Rattle.std.specs.Prelude.{◌≡◌};
+ghost use Rattle.srt_log.specs.Snapshots.{counts_of, reason_of, latency_of};
 ghost use Rattle.srt_log.specs.Telling.{session_at, caller_of, stands_by, opened_event, ended_event, gone_event, took_over_event, troubled_event, event_of};
 
 use crate::changes::Change;
-use crate::events::{Caller, EndReason, LogEvent, Trouble};
-use crate::snapshots::{RouteSnapshot, SessionSnapshot};
-use srt_seq::limits::MAX_SESSIONS;
+use crate::events::{Caller, EndReason, LogEvent, SessionCounts, Trouble};
+use crate::snapshots::{RouteSnapshot, SlotSession};
+use srt_route::{EndCause, SessionView, Traffic};
 use srt_seq::Role;
+use srt_seq::limits::MAX_SESSIONS;
 
-/// The session in a slot; None if there is none.
-fn session_at(look: &RouteSnapshot, slot: usize) -> Option<SessionSnapshot>
-    ensures { result ≡ session_at look.now slot }
+// Returns why a session ended. `stops`: the gateway is about to end.
+fn reason_of(stops: bool, cause: EndCause) -> EndReason
+    ensures { result ≡ reason_of stops cause }
 {
-    if slot < MAX_SESSIONS { look.slots[slot] } else { None }
-}
-
-/// A session as a line names it.
-fn caller_of<'a>(route: &'a [u8], session: &SessionSnapshot) -> Caller<'a>
-    ensures { result ≡ caller_of route.entry session.now }
-{
-    Caller {
-        route,
-        role: session.role,
-        peer: session.peer,
-        id: session.id,
+    match cause {
+        EndCause::Shutdown | EndCause::Drained => EndReason::Shutdown,
+        EndCause::DrainedTooLong => EndReason::DrainedTooLong,
+        EndCause::Silence => EndReason::Silence,
+        EndCause::WindowLost => EndReason::WindowLost,
+        EndCause::FileEnded => EndReason::StreamEnd,
+        EndCause::Closed => {
+            if stops {
+                EndReason::GatewayStops
+            } else {
+                EndReason::RouteClosed
+            }
+        }
     }
 }
 
-/// Whether a session is a publisher that isn't the active one.
-fn stands_by(session: &SessionSnapshot) -> bool
-    ensures { result ≡ stands_by session.now }
+// Returns the counts of a session. Of a publisher's, `resent` counts packets that arrived in addition to those received:
+// again, too late, or too far ahead.
+fn counts_of(traffic: &Traffic) -> SessionCounts
+    ensures { result ≡ counts_of traffic.now }
 {
-    match session.role {
-        Role::Publish => !session.active,
+    match traffic {
+        Traffic::Received(statistics) => SessionCounts {
+            packets: statistics.counts.received,
+            bytes: statistics.counts.bytes,
+            lost: statistics.counts.given_up,
+            resent: statistics
+                .counts
+                .came
+                .saturating_sub(statistics.counts.received),
+        },
+        Traffic::Sent(statistics) => SessionCounts {
+            packets: statistics.sendings.fresh,
+            bytes: statistics.counts.bytes,
+            lost: statistics.counts.given_up,
+            resent: statistics.sendings.again,
+        },
+    }
+}
+
+// Returns a latency in milliseconds; `None` for 0, which only a session in buffer mode has.
+fn latency_of(latency_ms: u16) -> Option<u32>
+    ensures { result ≡ latency_of latency_ms }
+{
+    if latency_ms == 0 {
+        None
+    } else {
+        Some(u32::from(latency_ms))
+    }
+}
+
+// Returns the session in a slot.
+fn session_at(snapshot: &RouteSnapshot, slot: usize) -> Option<SlotSession>
+    ensures { result ≡ session_at snapshot.now slot }
+{
+    if slot < MAX_SESSIONS {
+        snapshot.slots[slot]
+    } else {
+        None
+    }
+}
+
+// Returns a session as a line names it.
+fn caller_of<'a>(route: &'a [u8], view: &SessionView) -> Caller<'a>
+    ensures { result ≡ caller_of route.entry view.now }
+{
+    Caller {
+        route,
+        role: view.role,
+        peer: view.peer,
+        id: view.id,
+    }
+}
+
+// Whether a session is a publisher that isn't the active one.
+fn stands_by(view: &SessionView) -> bool
+    ensures { result ≡ stands_by view.now }
+{
+    match view.role {
+        Role::Publish => !view.is_active,
         Role::Request => false,
     }
 }
 
-fn opened_event<'a>(route: &'a [u8], session: &SessionSnapshot) -> LogEvent<'a>
-    ensures { result ≡ opened_event route.entry session.now }
+fn opened_event<'a>(route: &'a [u8], view: &SessionView) -> LogEvent<'a>
+    ensures { result ≡ opened_event route.entry view.now }
 {
     LogEvent::Opened {
-        caller: caller_of(route, session),
-        standby: stands_by(session),
-        latency_ms: session.latency_ms,
+        caller: caller_of(route, view),
+        standby: stands_by(view),
+        latency_ms: latency_of(view.latency_ms),
     }
 }
 
-fn ended_event<'a>(route: &'a [u8], session: &SessionSnapshot) -> Option<LogEvent<'a>>
-    ensures { result ≡ ended_event route.entry session.now }
+fn ended_event<'a>(route: &'a [u8], stops: bool, session: &SlotSession) -> Option<LogEvent<'a>>
+    ensures { result ≡ ended_event route.entry stops session.now }
 {
-    match session.end {
-        Some(end) => Some(LogEvent::Ended {
-            caller: caller_of(route, session),
-            reason: end.reason,
-            lasted_ms: end.moment.saturating_sub(session.opened_at) / 1000,
-            counts: session.counts,
+    match session {
+        SlotSession::Open(_) => None,
+        SlotSession::Ended(ended) => Some(LogEvent::Ended {
+            caller: caller_of(route, &ended.view),
+            reason: reason_of(stops, ended.cause),
+            lasted_ms: ended.moment.saturating_sub(ended.view.opened) / 1000,
+            counts: counts_of(&ended.view.traffic),
         }),
-        None => None,
     }
 }
 
-/// The event of a session that is gone: it lasted at least to this moment.
-fn gone_event<'a>(route: &'a [u8], session: &SessionSnapshot, moment: u64) -> LogEvent<'a>
-    ensures { result ≡ gone_event route.entry session.now moment }
+// Returns the event of a session that is gone. It lasted at least to this time.
+fn gone_event<'a>(route: &'a [u8], view: &SessionView, moment: u64) -> LogEvent<'a>
+    ensures { result ≡ gone_event route.entry view.now moment }
 {
     LogEvent::Ended {
-        caller: caller_of(route, session),
+        caller: caller_of(route, view),
         reason: EndReason::Unknown,
-        lasted_ms: moment.saturating_sub(session.opened_at) / 1000,
-        counts: session.counts,
+        lasted_ms: moment.saturating_sub(view.opened) / 1000,
+        counts: counts_of(&view.traffic),
     }
 }
 
-fn took_over_event<'a>(route: &'a [u8], session: &SessionSnapshot) -> LogEvent<'a>
-    ensures { result ≡ took_over_event route.entry session.now }
+fn took_over_event<'a>(route: &'a [u8], view: &SessionView) -> LogEvent<'a>
+    ensures { result ≡ took_over_event route.entry view.now }
 {
     LogEvent::TookOver {
-        caller: caller_of(route, session),
+        caller: caller_of(route, view),
     }
 }
 
-fn troubled_event<'a>(route: &'a [u8], session: &SessionSnapshot, trouble: Trouble) -> LogEvent<'a>
-    ensures { result ≡ troubled_event route.entry session.now trouble }
+fn troubled_event<'a>(route: &'a [u8], view: &SessionView, trouble: Trouble) -> LogEvent<'a>
+    ensures { result ≡ troubled_event route.entry view.now trouble }
 {
     LogEvent::Troubled {
-        caller: caller_of(route, session),
+        caller: caller_of(route, view),
         trouble,
     }
 }
 
-/// What the log says of a change between two looks at the route of this name. None for a change of a slot that has no
-/// such session, which [`change_at`](crate::change_at) doesn't give for these looks. Of a session whose slot was taken
-/// again the line has what the earlier look knew.
+/// Returns the event of a change between two snapshots of the route of this name. `None` for a change of a slot that has
+/// no such session, which [`change_at`](crate::change_at) doesn't return for these snapshots. The event of a session whose
+/// slot has another session since has the counts of the earlier snapshot.
 pub fn event_of<'a>(
     route: &'a [u8],
     old: &RouteSnapshot,
@@ -105,23 +166,23 @@ pub fn event_of<'a>(
     match change {
         Change::Gone { slot } => {
             let session = session_at(old, slot)?;
-            Some(gone_event(route, &session, old.moment))
+            Some(gone_event(route, session.view(), old.moment))
         }
         Change::Ended { slot } => {
             let session = session_at(new, slot)?;
-            ended_event(route, &session)
+            ended_event(route, new.stops, &session)
         }
         Change::Opened { slot } => {
             let session = session_at(new, slot)?;
-            Some(opened_event(route, &session))
+            Some(opened_event(route, session.view()))
         }
         Change::TookOver { slot } => {
             let session = session_at(new, slot)?;
-            Some(took_over_event(route, &session))
+            Some(took_over_event(route, session.view()))
         }
         Change::Troubled { slot, trouble } => {
             let session = session_at(new, slot)?;
-            Some(troubled_event(route, &session, trouble))
+            Some(troubled_event(route, session.view(), trouble))
         }
         Change::Unseen { opened } => Some(LogEvent::Unseen { route, opened }),
     }

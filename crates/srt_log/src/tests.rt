@@ -2,10 +2,11 @@
 
 use crate::{
     Caller, Change, ChangeSummary, CloseCause, ConfigEvent, EndReason, LineLimit, LogEvent,
-    RouteSnapshot, STEPS, SessionCounts, SessionEnd, SessionSnapshot, StopCause, Trouble, Troubles,
-    change_at, event_of, write_line,
+    RouteSnapshot, STEPS, SessionCounts, SlotSession, StopCause, Trouble, change_at, event_of,
+    slot_of, write_line,
 };
 use srt_config::FixedKeys;
+use srt_route::{EndCause, EndedSession, SessionView, Traffic};
 use srt_seq::limits::MAX_SESSIONS;
 use srt_seq::{NotAdmitted, Peer, Role};
 use std::process::Abort;
@@ -162,7 +163,7 @@ fn bytes_that_callers_chose_are_escaped(rt: HostRuntime) -> Result<(), Fail> {
         LogEvent::Refused {
             code: 1002,
             peer: near(40000),
-            asked: b"a \"b\\\n\x00\x1b[31m\x7f\xc3\xa9",
+            name: b"a \"b\\\n\x00\x1b[31m\x7f\xc3\xa9",
             by: None,
         },
         "192.0.2.7:40000 refused, 1002 PEER, asked for \"a \\x22b\\x5c\\x0a\\x00\\x1b[31m\\x7f\\xc3\\xa9\"\n",
@@ -173,7 +174,7 @@ fn bytes_that_callers_chose_are_escaped(rt: HostRuntime) -> Result<(), Fail> {
         LogEvent::Refused {
             code: 1016,
             peer: near(0),
-            asked: b"",
+            name: b"",
             by: None,
         },
         "192.0.2.7:0 refused, 1016 UNKNOWN, asked for \"\"\n",
@@ -192,7 +193,7 @@ fn assert_refused_by<R: Abort + AllocGlobal>(
         LogEvent::Refused {
             code: 1002,
             peer: near(7),
-            asked: b"studio",
+            name: b"studio",
             by: Some(by),
         },
         line,
@@ -265,7 +266,7 @@ fn lines_of_a_start_and_a_stop(rt: HostRuntime) -> Result<(), Fail> {
     assert_line(
         &rt,
         None,
-        LogEvent::StopAsked {
+        LogEvent::StopRequested {
             by: StopCause::Signal,
         },
         "stopping, by a signal\n",
@@ -459,7 +460,7 @@ fn a_long_line_is_cut_off(rt: HostRuntime) -> Result<(), Fail> {
         LogEvent::Refused {
             code: 1002,
             peer: near(1),
-            asked: &asked,
+            name: &asked,
             by: None,
         },
     )?;
@@ -485,11 +486,11 @@ fn fifty_lines_of_a_second(rt: HostRuntime) {
     assert!(rt; !limit.line(5_000_000).written);
     assert!(rt; !limit.line(4_000_000).written);
     assert_eq!(rt; limit.left_out(), 2);
-    assert_eq!(rt; limit.look(5_999_999), 0);
+    assert_eq!(rt; limit.poll(5_999_999), 0);
     let next = limit.line(6_000_000);
     assert!(rt; next.written);
     assert_eq!(rt; next.left_out, 2);
-    assert_eq!(rt; limit.look(7_000_000), 0);
+    assert_eq!(rt; limit.poll(7_000_000), 0);
 }
 
 #[test]
@@ -498,56 +499,90 @@ fn lines_left_out_are_told_by_a_look(rt: HostRuntime) {
     for _ in 0..60u32 {
         let _ = limit.line(0);
     }
-    assert_eq!(rt; limit.look(1_000_000), 10);
-    assert_eq!(rt; limit.look(2_000_000), 0);
+    assert_eq!(rt; limit.poll(1_000_000), 10);
+    assert_eq!(rt; limit.poll(2_000_000), 0);
     assert_eq!(rt; limit.left_out(), 0);
 }
 
-/// An open session with this socket ID.
-fn session(id: u32, active: bool) -> SessionSnapshot {
-    SessionSnapshot {
-        id,
-        opened_at: 7,
-        role: Role::Publish,
-        active,
-        peer: near(50123),
-        latency_ms: Some(120),
-        end: None,
-        counts: SessionCounts {
-            packets: 0,
+/// What a publisher's session counts whose window was full this often, and of whose packets as many were late as given up.
+fn received(full_windows: u64, late: u64) -> Traffic {
+    Traffic::Received(srt_pub::Statistics {
+        counts: srt_pub::Counts {
+            came: 0,
+            late,
+            ahead: 0,
+            received: 0,
             bytes: 0,
-            lost: 0,
-            resent: 0,
+            delivered: 0,
+            given_up: late,
+            naks: 0,
+            reported_lost: 0,
+            full_windows,
         },
-        troubles: Troubles {
-            misdirected: 0,
-            full_window: 0,
-            late: 0,
+        in_use: 0,
+        available: 32,
+        rtt: 100_000,
+        variance: 50_000,
+    })
+}
+
+/// What a subscriber's session counts whose caller sent this many data packets.
+fn sent(misdirected: u64) -> Traffic {
+    Traffic::Sent(srt_sub::Statistics {
+        counts: srt_sub::Counts {
+            queued: 0,
+            bytes: 0,
+            naks: 0,
+            given_up: 0,
+            misdirected,
         },
+        sendings: srt_sub::Sendings { fresh: 0, again: 0 },
+        room: 32,
+        in_flight: 0,
+        flow_window: 32,
+        rtt: 100_000,
+        variance: 50_000,
+    })
+}
+
+/// The state of a publisher's session with this socket ID.
+fn view(id: u32, is_active: bool) -> SessionView {
+    SessionView {
+        peer: near(50123),
+        caller: 1,
+        id,
+        role: Role::Publish,
+        is_active,
+        is_draining: false,
+        opened: 7,
+        heard: 7,
+        latency_ms: 120,
+        traffic: received(0, 0),
     }
 }
 
+/// An open session of this publisher.
+fn session(id: u32, is_active: bool) -> SlotSession {
+    SlotSession::Open(view(id, is_active))
+}
+
 /// The same, ended.
-fn ended(id: u32) -> SessionSnapshot {
-    let mut look = session(id, false);
-    look.end = Some(SessionEnd {
-        reason: EndReason::Shutdown,
+fn ended(id: u32) -> SlotSession {
+    SlotSession::Ended(EndedSession {
+        view: view(id, false),
+        cause: EndCause::Shutdown,
         moment: 12_007,
-    });
-    look
+    })
 }
 
 /// A route with these sessions in its slots 0 and 16.
-fn route(
-    first: Option<SessionSnapshot>,
-    last: Option<SessionSnapshot>,
-    opened: u64,
-) -> RouteSnapshot {
+fn route(first: Option<SlotSession>, last: Option<SlotSession>, opened: u64) -> RouteSnapshot {
     let mut slots = [None; MAX_SESSIONS];
     slots[0] = first;
     slots[16] = last;
     RouteSnapshot {
         moment: 4_000_007,
+        stops: false,
         slots,
         opened,
     }
@@ -582,26 +617,30 @@ fn openings_ends_and_a_take_over(rt: HostRuntime) {
     assert_changes(&rt, &over, &over, &[]);
 }
 
-/// The same, open, with these troubles.
-fn troubled(misdirected: u64, full_window: u64, late: u64) -> SessionSnapshot {
-    let mut look = session(1, true);
-    look.troubles = Troubles {
-        misdirected,
-        full_window,
-        late,
+/// A route with an active publisher whose window was full this often and of whose packets this many were late, and a
+/// subscriber that sent this many data packets.
+fn troubled(full_windows: u64, late: u64, misdirected: u64) -> RouteSnapshot {
+    let publisher = SessionView {
+        traffic: received(full_windows, late),
+        ..view(1, true)
     };
-    look
+    let subscriber = SessionView {
+        role: Role::Request,
+        traffic: sent(misdirected),
+        ..view(2, false)
+    };
+    route(
+        Some(SlotSession::Open(publisher)),
+        Some(SlotSession::Open(subscriber)),
+        2,
+    )
 }
 
 #[test]
 fn a_trouble_is_told_the_first_time(rt: HostRuntime) {
-    let none = route(Some(troubled(0, 0, 0)), None, 1);
-    let some = route(Some(troubled(9, 0, 1)), None, 1);
-    let more = route(Some(troubled(10, 2, 1)), None, 1);
-    let misdirected = Change::Troubled {
-        slot: 0,
-        trouble: Trouble::Misdirected,
-    };
+    let none = troubled(0, 0, 0);
+    let some = troubled(0, 1, 9);
+    let more = troubled(2, 1, 10);
     let late = Change::Troubled {
         slot: 0,
         trouble: Trouble::LatePackets,
@@ -610,31 +649,65 @@ fn a_trouble_is_told_the_first_time(rt: HostRuntime) {
         slot: 0,
         trouble: Trouble::FullWindow,
     };
-    assert_changes(&rt, &none, &some, &[misdirected, late]);
+    let misdirected = Change::Troubled {
+        slot: 16,
+        trouble: Trouble::Misdirected,
+    };
+    assert_changes(&rt, &none, &some, &[late, misdirected]);
     assert_changes(&rt, &some, &more, &[full]);
     assert_changes(&rt, &more, &more, &[]);
 }
 
 #[test]
 fn lines_of_troubles(rt: HostRuntime) -> Result<(), Fail> {
-    let none = route(Some(troubled(0, 0, 0)), None, 1);
+    let none = troubled(0, 0, 0);
     assert_told(
         &rt,
         &none,
-        &route(Some(troubled(1, 0, 0)), None, 1),
-        "studio: publisher 192.0.2.7:50123 sends data, but has not asked to publish (m=publish), socket 0x00000001\n",
+        &troubled(0, 0, 1),
+        "studio: subscriber 192.0.2.7:50123 sends data, but has not asked to publish (m=publish), socket 0x00000002\n",
     )?;
     assert_told(
         &rt,
         &none,
-        &route(Some(troubled(0, 1, 0)), None, 1),
+        &troubled(1, 0, 0),
         "studio: publisher 192.0.2.7:50123 fills its window and waits, buffer is too small, socket 0x00000001\n",
     )?;
     assert_told(
         &rt,
         &none,
-        &route(Some(troubled(0, 0, 1)), None, 1),
+        &troubled(0, 1, 0),
         "studio: publisher 192.0.2.7:50123 sends packets that come too late, socket 0x00000001\n",
+    )
+}
+
+/// An end of the first session of a route that is closed, while the gateway stops or not.
+fn closed(stops: bool) -> RouteSnapshot {
+    let end = EndedSession {
+        view: view(1, true),
+        cause: EndCause::Closed,
+        moment: 12_007,
+    };
+    RouteSnapshot {
+        stops,
+        ..route(slot_of(None, Some(end)), None, 1)
+    }
+}
+
+#[test]
+fn a_closed_route_ends_its_sessions(rt: HostRuntime) -> Result<(), Fail> {
+    let open = route(slot_of(Some(view(1, true)), None), None, 1);
+    assert_told(
+        &rt,
+        &open,
+        &closed(false),
+        "studio: publisher 192.0.2.7:50123 ended, socket 0x00000001, its route was closed, after 12 ms, 0 packets, 0 bytes, 0 lost, 0 resent\n",
+    )?;
+    assert_told(
+        &rt,
+        &open,
+        &closed(true),
+        "studio: publisher 192.0.2.7:50123 ended, socket 0x00000001, the gateway stops, after 12 ms, 0 packets, 0 bytes, 0 lost, 0 resent\n",
     )
 }
 
@@ -663,10 +736,7 @@ fn what_came_and_went_is_counted(rt: HostRuntime) {
         &rt,
         &old,
         &new,
-        &[
-            Change::Opened { slot: 0 },
-            Change::Unseen { opened: 3 },
-        ],
+        &[Change::Opened { slot: 0 }, Change::Unseen { opened: 3 }],
     );
     assert!(rt; change_at(&old, &new, STEPS).is_none());
 }

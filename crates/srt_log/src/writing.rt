@@ -244,15 +244,15 @@ fn put_refused_by(line: &mut Line, by: Option<NotAdmitted>)
 }
 
 #[tactic(auto, using(crate::proofs::Puts::put_put))]
-fn put_refused(line: &mut Line, code: u32, peer: Peer, asked: &[u8], by: Option<NotAdmitted>)
-    ensures { line.new.text.items ≡ put line.old.text.items (refused_text code peer asked.now by) }
+fn put_refused(line: &mut Line, code: u32, peer: Peer, name: &[u8], by: Option<NotAdmitted>)
+    ensures { line.new.text.items ≡ put line.old.text.items (refused_text code peer name.now by) }
 {
     put_peer(line, peer);
     line.put(b" refused, ");
     line.put_small(code);
     put_code_name(line, code);
     line.put(b", asked for \"");
-    line.put_escaped(asked);
+    line.put_escaped(name);
     line.put(b"\"");
     put_refused_by(line, by);
 }
@@ -331,9 +331,9 @@ fn put_event(line: &mut Line, event: LogEvent<'_>)
         LogEvent::Refused {
             code,
             peer,
-            asked,
+            name,
             by,
-        } => put_refused(line, code, peer, asked, by),
+        } => put_refused(line, code, peer, name, by),
         LogEvent::Limited {
             route,
             full,
@@ -351,7 +351,7 @@ fn put_event(line: &mut Line, event: LogEvent<'_>)
             count,
         ),
         LogEvent::LeftOut { count } => put_count(line, b"lines left out ", count),
-        LogEvent::StopAsked { by } => put_cause(line, by),
+        LogEvent::StopRequested { by } => put_cause(line, by),
         LogEvent::Stopped => line.put(b"stopped"),
     }
 }

@@ -1,18 +1,17 @@
 -- The families of figures: their names, help and values.
-use Rattle.std.specs.Prelude.{ℕ, ◌-◌, ◌*◌, Bool, true, false, List, [], ◌∷◌, codes, Option, None, Some}
-use Rattle.srt_seq.specs.declared.shared.Role.{Role}
-use Rattle.srt_seq.specs.declared.shared.Role.TheVariants.{Publish, Request}
+use Rattle.std.specs.Prelude.{ℕ, ◌-◌, ◌*◌, ◌==◌, Bool, true, false, List, [], ◌∷◌, codes, Option, None, Some, if◌then◌else◌}
+use Rattle.srt_pub.specs.declared.counts.Counts.{Counts as ReceivedCounts}
+use Rattle.srt_pub.specs.declared.statistics.Statistics.{Statistics as PublisherStatistics}
+use Rattle.srt_sub.specs.declared.counts.Counts.{Counts as QueuedCounts}
+use Rattle.srt_sub.specs.declared.counts.Sendings.{Sendings}
+use Rattle.srt_sub.specs.declared.statistics.Statistics.{Statistics as SubscriberStatistics}
+use Rattle.srt_route.specs.declared.view.SessionView.{SessionView}
+use Rattle.srt_route.specs.declared.view.Traffic.{Traffic}
+use Rattle.srt_route.specs.declared.view.Traffic.TheVariants.{Received, Sent}
 use Rattle.srt_status.specs.declared.gateway.GatewayStatus.{GatewayStatus}
 use Rattle.srt_status.specs.declared.gateway.RefusalCounts.{RefusalCounts}
-use Rattle.srt_status.specs.declared.routes.PublisherCounts.{PublisherCounts}
-use Rattle.srt_status.specs.declared.routes.SubscriberCounts.{SubscriberCounts}
-use Rattle.srt_status.specs.declared.routes.PublisherStatus.{PublisherStatus}
-use Rattle.srt_status.specs.declared.routes.SubscriberStatus.{SubscriberStatus}
-use Rattle.srt_status.specs.declared.routes.SessionStatus.{SessionStatus}
 use Rattle.srt_status.specs.declared.routes.RouteStatus.{RouteStatus}
 use Rattle.srt_status.specs.declared.routes.LimitCounts.{LimitCounts}
-use Rattle.srt_status.specs.declared.routes.Flow.{Flow}
-use Rattle.srt_status.specs.declared.routes.Flow.TheVariants.{Publisher, Subscriber}
 use Rattle.srt_status.specs.declared.figures.Amount.{Amount}
 use Rattle.srt_status.specs.declared.figures.Amount.TheVariants.{Number, Micros}
 use Rattle.srt_status.specs.declared.figures.Count.{Count}
@@ -25,14 +24,6 @@ use Rattle.srt_status.specs.declared.figures.Reason.{Reason}
 use Rattle.srt_status.specs.declared.figures.Reason.TheVariants as reasons
 use Rattle.srt_status.specs.declared.figures.RouteFigure.{RouteFigure}
 use Rattle.srt_status.specs.declared.figures.RouteFigure.TheVariants as figures
-
--- the role of a session
-abbrev pub role_of_flow : Flow → Role
-role_of_flow (Publisher session) = Publish
-role_of_flow (Subscriber session) = Request
-
-abbrev pub role_of : SessionStatus → Role
-role_of session = role_of_flow session.flow
 
 -- a truth value as a number
 abbrev pub number_of : Bool → ℕ
@@ -77,17 +68,21 @@ count_help counts.ResentPackets = codes "Data packets sent to subscribers again.
 count_help counts.NaksTaken = codes "NAKs taken from subscribers."
 count_help counts.Misdirected = codes "Data packets from callers that did not ask to publish."
 
+-- the data packets that publishers' sessions count under nothing else: repeats of packets that were received before
+abbrev pub repeats_of : ReceivedCounts → ℕ
+repeats_of counts = counts.came - counts.received - counts.late - counts.ahead
+
 -- what publishers' sessions count of it
-abbrev pub publisher_count : Count → PublisherCounts → Option ℕ
+abbrev pub publisher_count : Count → ReceivedCounts → Option ℕ
 publisher_count counts.ReceivedPackets counts = Some counts.received
 publisher_count counts.ReceivedBytes counts = Some counts.bytes
 publisher_count counts.DeliveredPackets counts = Some counts.delivered
-publisher_count counts.RepeatedPackets counts = Some counts.repeats
+publisher_count counts.RepeatedPackets counts = Some (repeats_of counts)
 publisher_count counts.LatePackets counts = Some counts.late
 publisher_count counts.AheadPackets counts = Some counts.ahead
 publisher_count counts.ReportedLost counts = Some counts.reported_lost
 publisher_count counts.NaksSent counts = Some counts.naks
-publisher_count counts.FullWindowAcks counts = Some counts.full_window_acks
+publisher_count counts.FullWindowAcks counts = Some counts.full_windows
 publisher_count counts.GivenUp counts = Some counts.given_up
 publisher_count counts.QueuedPackets counts = None
 publisher_count counts.QueuedBytes counts = None
@@ -97,31 +92,31 @@ publisher_count counts.NaksTaken counts = None
 publisher_count counts.Misdirected counts = None
 
 -- what subscribers' sessions count of it
-abbrev pub subscriber_count : Count → SubscriberCounts → Option ℕ
-subscriber_count counts.ReceivedPackets counts = None
-subscriber_count counts.ReceivedBytes counts = None
-subscriber_count counts.DeliveredPackets counts = None
-subscriber_count counts.RepeatedPackets counts = None
-subscriber_count counts.LatePackets counts = None
-subscriber_count counts.AheadPackets counts = None
-subscriber_count counts.ReportedLost counts = None
-subscriber_count counts.NaksSent counts = None
-subscriber_count counts.FullWindowAcks counts = None
-subscriber_count counts.GivenUp counts = Some counts.given_up
-subscriber_count counts.QueuedPackets counts = Some counts.queued
-subscriber_count counts.QueuedBytes counts = Some counts.bytes
-subscriber_count counts.SentPackets counts = Some counts.sent
-subscriber_count counts.ResentPackets counts = Some counts.resent
-subscriber_count counts.NaksTaken counts = Some counts.naks
-subscriber_count counts.Misdirected counts = Some counts.misdirected
+abbrev pub subscriber_count : Count → QueuedCounts → Sendings → Option ℕ
+subscriber_count counts.ReceivedPackets counts sendings = None
+subscriber_count counts.ReceivedBytes counts sendings = None
+subscriber_count counts.DeliveredPackets counts sendings = None
+subscriber_count counts.RepeatedPackets counts sendings = None
+subscriber_count counts.LatePackets counts sendings = None
+subscriber_count counts.AheadPackets counts sendings = None
+subscriber_count counts.ReportedLost counts sendings = None
+subscriber_count counts.NaksSent counts sendings = None
+subscriber_count counts.FullWindowAcks counts sendings = None
+subscriber_count counts.GivenUp counts sendings = Some counts.given_up
+subscriber_count counts.QueuedPackets counts sendings = Some counts.queued
+subscriber_count counts.QueuedBytes counts sendings = Some counts.bytes
+subscriber_count counts.SentPackets counts sendings = Some sendings.fresh
+subscriber_count counts.ResentPackets counts sendings = Some sendings.again
+subscriber_count counts.NaksTaken counts sendings = Some counts.naks
+subscriber_count counts.Misdirected counts sendings = Some counts.misdirected
 
 -- the same of one session
-abbrev pub flow_count : Count → Flow → Option ℕ
-flow_count count (Publisher session) = publisher_count count session.counts
-flow_count count (Subscriber session) = subscriber_count count session.counts
+abbrev pub traffic_count : Count → Traffic → Option ℕ
+traffic_count count (Received x) = publisher_count count x.counts
+traffic_count count (Sent x) = subscriber_count count x.counts x.sendings
 
-abbrev pub session_count : Count → SessionStatus → Option ℕ
-session_count count session = flow_count count session.flow
+abbrev pub session_count : Count → SessionView → Option ℕ
+session_count count session = traffic_count count session.traffic
 
 -- the name of a state behind its prefix
 abbrev pub gauge_name : Gauge → List ℕ
@@ -152,54 +147,62 @@ gauge_help gauges.InFlight = codes "The packets of a subscriber in flight."
 gauge_help gauges.FlowWindow = codes "The flow window that a subscriber reported last."
 
 -- this of a publisher's session
-abbrev pub publisher_amount : Gauge → PublisherStatus → Option Amount
-publisher_amount gauges.Active session = Some (Number (number_of session.active))
-publisher_amount gauges.Open session = None
-publisher_amount gauges.Silent session = None
-publisher_amount gauges.Latency session = None
-publisher_amount gauges.RoundTrip session = None
-publisher_amount gauges.RoundTripVariance session = None
-publisher_amount gauges.WindowUsed session = Some (Number session.window_used)
-publisher_amount gauges.WindowAvailable session = Some (Number session.window_available)
-publisher_amount gauges.FreePlaces session = None
-publisher_amount gauges.InFlight session = None
-publisher_amount gauges.FlowWindow session = None
+abbrev pub publisher_amount : Gauge → (active : Bool) → PublisherStatistics → Option Amount
+publisher_amount gauges.Active active x = Some (Number (number_of active))
+publisher_amount gauges.Open active x = None
+publisher_amount gauges.Silent active x = None
+publisher_amount gauges.Latency active x = None
+publisher_amount gauges.RoundTrip active x = None
+publisher_amount gauges.RoundTripVariance active x = None
+publisher_amount gauges.WindowUsed active x = Some (Number x.in_use)
+publisher_amount gauges.WindowAvailable active x = Some (Number x.available)
+publisher_amount gauges.FreePlaces active x = None
+publisher_amount gauges.InFlight active x = None
+publisher_amount gauges.FlowWindow active x = None
 
 -- this of a subscriber's session
-abbrev pub subscriber_amount : Gauge → SubscriberStatus → Option Amount
-subscriber_amount gauges.Active session = None
-subscriber_amount gauges.Open session = None
-subscriber_amount gauges.Silent session = None
-subscriber_amount gauges.Latency session = None
-subscriber_amount gauges.RoundTrip session = None
-subscriber_amount gauges.RoundTripVariance session = None
-subscriber_amount gauges.WindowUsed session = None
-subscriber_amount gauges.WindowAvailable session = None
-subscriber_amount gauges.FreePlaces session = Some (Number session.free)
-subscriber_amount gauges.InFlight session = Some (Number session.in_flight)
-subscriber_amount gauges.FlowWindow session = Some (Number session.flow_window)
+abbrev pub subscriber_amount : Gauge → SubscriberStatistics → Option Amount
+subscriber_amount gauges.Active x = None
+subscriber_amount gauges.Open x = None
+subscriber_amount gauges.Silent x = None
+subscriber_amount gauges.Latency x = None
+subscriber_amount gauges.RoundTrip x = None
+subscriber_amount gauges.RoundTripVariance x = None
+subscriber_amount gauges.WindowUsed x = None
+subscriber_amount gauges.WindowAvailable x = None
+subscriber_amount gauges.FreePlaces x = Some (Number x.room)
+subscriber_amount gauges.InFlight x = Some (Number x.in_flight)
+subscriber_amount gauges.FlowWindow x = Some (Number x.flow_window)
 
-abbrev pub latency_amount : (latency_ms : Option ℕ) → Option Amount
-latency_amount None = None
-latency_amount (Some ms) = Some (Micros (ms * 1000))
+-- a latency; a session in buffer mode has 0, which isn't shown
+abbrev pub latency_amount : (latency_ms : ℕ) → Option Amount
+latency_amount latency_ms = if latency_ms == 0 then None else Some (Micros (latency_ms * 1000))
 
-abbrev pub flow_amount : Gauge → Flow → Option Amount
-flow_amount gauge (Publisher session) = publisher_amount gauge session
-flow_amount gauge (Subscriber session) = subscriber_amount gauge session
+abbrev pub round_trip_of : Traffic → ℕ
+round_trip_of (Received x) = x.rtt
+round_trip_of (Sent x) = x.rtt
 
--- this of a session at a moment
-abbrev pub gauge_amount : Gauge → (moment : ℕ) → SessionStatus → Option Amount
-gauge_amount gauges.Active moment session = flow_amount gauges.Active session.flow
-gauge_amount gauges.Open moment session = Some (Micros (moment - session.opened_at))
-gauge_amount gauges.Silent moment session = Some (Micros (moment - session.heard_at))
+abbrev pub variance_of : Traffic → ℕ
+variance_of (Received x) = x.variance
+variance_of (Sent x) = x.variance
+
+abbrev pub traffic_amount : Gauge → (active : Bool) → Traffic → Option Amount
+traffic_amount gauge active (Received x) = publisher_amount gauge active x
+traffic_amount gauge active (Sent x) = subscriber_amount gauge x
+
+-- this of a session at a time
+abbrev pub gauge_amount : Gauge → (moment : ℕ) → SessionView → Option Amount
+gauge_amount gauges.Active moment session = traffic_amount gauges.Active session.is_active session.traffic
+gauge_amount gauges.Open moment session = Some (Micros (moment - session.opened))
+gauge_amount gauges.Silent moment session = Some (Micros (moment - session.heard))
 gauge_amount gauges.Latency moment session = latency_amount session.latency_ms
-gauge_amount gauges.RoundTrip moment session = Some (Micros session.round_trip_us)
-gauge_amount gauges.RoundTripVariance moment session = Some (Micros session.variance_us)
-gauge_amount gauges.WindowUsed moment session = flow_amount gauges.WindowUsed session.flow
-gauge_amount gauges.WindowAvailable moment session = flow_amount gauges.WindowAvailable session.flow
-gauge_amount gauges.FreePlaces moment session = flow_amount gauges.FreePlaces session.flow
-gauge_amount gauges.InFlight moment session = flow_amount gauges.InFlight session.flow
-gauge_amount gauges.FlowWindow moment session = flow_amount gauges.FlowWindow session.flow
+gauge_amount gauges.RoundTrip moment session = Some (Micros (round_trip_of session.traffic))
+gauge_amount gauges.RoundTripVariance moment session = Some (Micros (variance_of session.traffic))
+gauge_amount gauges.WindowUsed moment session = traffic_amount gauges.WindowUsed session.is_active session.traffic
+gauge_amount gauges.WindowAvailable moment session = traffic_amount gauges.WindowAvailable session.is_active session.traffic
+gauge_amount gauges.FreePlaces moment session = traffic_amount gauges.FreePlaces session.is_active session.traffic
+gauge_amount gauges.InFlight moment session = traffic_amount gauges.InFlight session.is_active session.traffic
+gauge_amount gauges.FlowWindow moment session = traffic_amount gauges.FlowWindow session.is_active session.traffic
 
 -- the name of what is said of the gateway, behind its prefix
 abbrev pub total_name : Total → List ℕ

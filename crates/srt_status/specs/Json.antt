@@ -9,9 +9,8 @@ use Rattle.srt_seq.specs.declared.shared.Mode.TheVariants.{Live, Buffer}
 use Rattle.srt_status.specs.declared.gateway.GatewayStatus.{GatewayStatus}
 use Rattle.srt_status.specs.declared.gateway.RefusalCounts.{RefusalCounts}
 use Rattle.srt_status.specs.declared.routes.RouteStatus.{RouteStatus}
-use Rattle.srt_status.specs.declared.routes.SessionStatus.{SessionStatus}
-use Rattle.srt_status.specs.declared.routes.PublisherCounts.{PublisherCounts}
-use Rattle.srt_status.specs.declared.routes.SubscriberCounts.{SubscriberCounts}
+use Rattle.srt_route.specs.declared.view.SessionView.{SessionView}
+use Rattle.srt_route.specs.declared.totals.Totals.{Totals}
 use Rattle.srt_status.specs.declared.figures.Amount.{Amount}
 use Rattle.srt_status.specs.declared.figures.Count.{Count}
 use Rattle.srt_status.specs.declared.figures.Gauge.{Gauge}
@@ -20,7 +19,7 @@ use Rattle.srt_status.specs.declared.figures.Reason.{Reason}
 use Rattle.srt_status.specs.declared.figures.RouteFigure.{RouteFigure}
 use Rattle.srt_status.specs.Texts.{name_text, id_text, amount_text}
 use Rattle.srt_status.specs.Peers.{peer_text}
-use Rattle.srt_status.specs.Figures.{role_of, count_name, publisher_count, subscriber_count, session_count, gauge_name, gauge_amount}
+use Rattle.srt_status.specs.Figures.{count_name, publisher_count, subscriber_count, session_count, gauge_name, gauge_amount}
 use Rattle.srt_status.specs.Figures.{total_name, total_value, reason_name, refusal_count, figure_name, route_figure, all_counts, all_gauges}
 use Rattle.srt_status.specs.Figures.{all_totals, all_reasons, all_figures}
 use Rattle.srt_status.specs.Metrics.{if_some}
@@ -46,40 +45,40 @@ unfoldable pub refusals_json : RefusalCounts → List ℕ
 refusals_json counts = flat_map (refusal_json counts) all_reasons
 
 -- what sessions counted
-unfoldable pub publishers_json : PublisherCounts → Count → List ℕ
-publishers_json counts count = if_some (number_json (count_name count)) (publisher_count count counts)
+unfoldable pub publishers_json : Totals → Count → List ℕ
+publishers_json totals count = if_some (number_json (count_name count)) (publisher_count count totals.received)
 
-unfoldable pub subscribers_json : SubscriberCounts → Count → List ℕ
-subscribers_json counts count = if_some (number_json (count_name count)) (subscriber_count count counts)
+unfoldable pub subscribers_json : Totals → Count → List ℕ
+subscribers_json totals count = if_some (number_json (count_name count)) (subscriber_count count totals.queued totals.sent)
 
-unfoldable pub all_publishers_json : PublisherCounts → List ℕ
-all_publishers_json counts = flat_map (publishers_json counts) all_counts
+unfoldable pub all_publishers_json : Totals → List ℕ
+all_publishers_json totals = flat_map (publishers_json totals) all_counts
 
-unfoldable pub all_subscribers_json : SubscriberCounts → List ℕ
-all_subscribers_json counts = flat_map (subscribers_json counts) all_counts
+unfoldable pub all_subscribers_json : Totals → List ℕ
+all_subscribers_json totals = flat_map (subscribers_json totals) all_counts
 
 -- an open session
-unfoldable pub session_count_json : SessionStatus → Count → List ℕ
+unfoldable pub session_count_json : SessionView → Count → List ℕ
 session_count_json session count = if_some (number_json (count_name count)) (session_count count session)
 
-unfoldable pub gauge_json : (moment : ℕ) → SessionStatus → Gauge → List ℕ
+unfoldable pub gauge_json : (moment : ℕ) → SessionView → Gauge → List ℕ
 gauge_json moment session gauge = if_some (amount_json (gauge_name gauge)) (gauge_amount gauge moment session)
 
-unfoldable pub session_counts_json : SessionStatus → List ℕ
+unfoldable pub session_counts_json : SessionView → List ℕ
 session_counts_json session = flat_map (session_count_json session) all_counts
 
-unfoldable pub gauges_json : (moment : ℕ) → SessionStatus → List ℕ
+unfoldable pub gauges_json : (moment : ℕ) → SessionView → List ℕ
 gauges_json moment session = flat_map (gauge_json moment session) all_gauges
 
 abbrev pub role_json : Role → List ℕ
 role_json Publish = codes "{\"role\":\"publisher\",\"session\":\""
 role_json Request = codes "{\"role\":\"subscriber\",\"session\":\""
 
-unfoldable pub session_start : SessionStatus → List ℕ
+unfoldable pub session_start : SessionView → List ℕ
 session_start session =
-    role_json (role_of session) ++ id_text session.id ++ codes "\",\"peer\":\"" ++ peer_text session.peer ++ codes "\""
+    role_json session.role ++ id_text session.id ++ codes "\",\"peer\":\"" ++ peer_text session.peer ++ codes "\""
 
-unfoldable pub session_json : (moment : ℕ) → SessionStatus → List ℕ
+unfoldable pub session_json : (moment : ℕ) → SessionView → List ℕ
 session_json moment session = session_start session ++ gauges_json moment session ++ session_counts_json session ++ codes "}"
 
 -- open sessions with commas between them
@@ -87,11 +86,11 @@ abbrev pub comma : (first : Bool) → List ℕ
 comma true = []
 comma false = codes ","
 
-unfoldable pub slot_json : (moment : ℕ) → (first : Bool) → Option SessionStatus → List ℕ
+unfoldable pub slot_json : (moment : ℕ) → (first : Bool) → Option SessionView → List ℕ
 slot_json moment first None = []
 slot_json moment first (Some session) = comma first ++ session_json moment session
 
-unfoldable pub slots_json : (moment : ℕ) → (first : Bool) → List (Option SessionStatus) → List ℕ
+unfoldable pub slots_json : (moment : ℕ) → (first : Bool) → List (Option SessionView) → List ℕ
 slots_json moment first [] = []
 slots_json moment first (slot ∷ slots) = slot_json moment first slot ++ slots_json moment (first && is_none slot) slots
 
@@ -121,8 +120,8 @@ subscribers_start = codes "},\"subscribers\":{\"role\":\"subscriber\""
 
 unfoldable pub route_counts : RouteStatus → List ℕ
 route_counts route =
-    publishers_start ++ all_publishers_json route.publishers
-    ++ subscribers_start ++ all_subscribers_json route.subscribers ++ codes "}"
+    publishers_start ++ all_publishers_json route.totals
+    ++ subscribers_start ++ all_subscribers_json route.totals ++ codes "}"
 
 unfoldable pub route_json : (moment : ℕ) → RouteStatus → List ℕ
 route_json moment route =

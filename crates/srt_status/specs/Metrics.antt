@@ -6,7 +6,7 @@ use Rattle.srt_seq.specs.declared.shared.Role.TheVariants.{Publish, Request}
 use Rattle.srt_status.specs.declared.gateway.GatewayStatus.{GatewayStatus}
 use Rattle.srt_status.specs.declared.gateway.RefusalCounts.{RefusalCounts}
 use Rattle.srt_status.specs.declared.routes.RouteStatus.{RouteStatus}
-use Rattle.srt_status.specs.declared.routes.SessionStatus.{SessionStatus}
+use Rattle.srt_route.specs.declared.view.SessionView.{SessionView}
 use Rattle.srt_status.specs.declared.figures.Amount.{Amount}
 use Rattle.srt_status.specs.declared.figures.Count.{Count}
 use Rattle.srt_status.specs.declared.figures.Gauge.{Gauge}
@@ -15,7 +15,7 @@ use Rattle.srt_status.specs.declared.figures.Reason.{Reason}
 use Rattle.srt_status.specs.declared.figures.RouteFigure.{RouteFigure}
 use Rattle.srt_status.specs.Texts.{name_text, id_text, amount_text}
 use Rattle.srt_status.specs.Peers.{peer_text}
-use Rattle.srt_status.specs.Figures.{role_of, count_name, count_help, publisher_count, subscriber_count, session_count, gauge_name}
+use Rattle.srt_status.specs.Figures.{count_name, count_help, publisher_count, subscriber_count, session_count, gauge_name}
 use Rattle.srt_status.specs.Figures.{gauge_help, gauge_amount, total_name, total_help, total_kind, total_value, reason_labels}
 use Rattle.srt_status.specs.Figures.{refusal_count, figure_name, figure_help, figure_kind, route_figure, all_counts, all_gauges, all_totals}
 use Rattle.srt_status.specs.Figures.{all_reasons, all_figures}
@@ -112,9 +112,9 @@ plays Publish Request = false
 plays Request Publish = false
 plays Request Request = true
 
-abbrev pub has_role : Role → Option SessionStatus → Bool
+abbrev pub has_role : Role → Option SessionView → Bool
 has_role role None = false
-has_role role (Some session) = plays role (role_of session)
+has_role role (Some session) = plays role session.role
 
 -- how many open sessions of a route have it
 abbrev pub open_sessions : Role → RouteStatus → ℕ
@@ -141,8 +141,8 @@ count_sample name role count value =
 
 unfoldable pub route_count : Count → RouteStatus → List ℕ
 route_count count route =
-    if_some (count_sample (string_bytes route.name) Publish count) (publisher_count count route.publishers)
-    ++ if_some (count_sample (string_bytes route.name) Request count) (subscriber_count count route.subscribers)
+    if_some (count_sample (string_bytes route.name) Publish count) (publisher_count count route.totals.received)
+    ++ if_some (count_sample (string_bytes route.name) Request count) (subscriber_count count route.totals.queued route.totals.sent)
 
 unfoldable pub count_family : List RouteStatus → Count → List ℕ
 count_family routes count =
@@ -152,23 +152,23 @@ unfoldable pub counts_text : List RouteStatus → List ℕ
 counts_text routes = flat_map (count_family routes) all_counts
 
 -- an open session as labels
-unfoldable pub session_labels : (name : List ℕ) → SessionStatus → List ℕ
+unfoldable pub session_labels : (name : List ℕ) → SessionView → List ℕ
 session_labels name session =
-    route_label name ++ role_label (role_of session) ++ codes ",session=\"" ++ id_text session.id ++ codes "\",peer=\"" ++ peer_text session.peer
+    route_label name ++ role_label session.role ++ codes ",session=\"" ++ id_text session.id ++ codes "\",peer=\"" ++ peer_text session.peer
     ++ codes "\"} "
 
 -- what an open session counts
 unfoldable pub session_prefix : List ℕ
 session_prefix = codes "srtgw_session_"
 
-unfoldable pub session_count_sample : (name : List ℕ) → SessionStatus → Count → (value : ℕ) → List ℕ
+unfoldable pub session_count_sample : (name : List ℕ) → SessionView → Count → (value : ℕ) → List ℕ
 session_count_sample name session count value =
     session_prefix ++ count_name count ++ session_labels name session ++ decimal value ++ codes "\n"
 
-abbrev pub session_count_text : (name : List ℕ) → Count → SessionStatus → List ℕ
+abbrev pub session_count_text : (name : List ℕ) → Count → SessionView → List ℕ
 session_count_text name count session = if_some (session_count_sample name session count) (session_count count session)
 
-unfoldable pub slot_count : (name : List ℕ) → Count → Option SessionStatus → List ℕ
+unfoldable pub slot_count : (name : List ℕ) → Count → Option SessionView → List ℕ
 slot_count name count slot = if_some (session_count_text name count) slot
 
 unfoldable pub route_session_counts : Count → RouteStatus → List ℕ
@@ -182,14 +182,14 @@ unfoldable pub session_counts_text : List RouteStatus → List ℕ
 session_counts_text routes = flat_map (session_count_family routes) all_counts
 
 -- the state of an open session at a moment
-unfoldable pub gauge_sample : (name : List ℕ) → SessionStatus → Gauge → Amount → List ℕ
+unfoldable pub gauge_sample : (name : List ℕ) → SessionView → Gauge → Amount → List ℕ
 gauge_sample name session gauge amount =
     session_prefix ++ gauge_name gauge ++ session_labels name session ++ amount_text amount ++ codes "\n"
 
-abbrev pub session_gauge_text : (name : List ℕ) → (moment : ℕ) → Gauge → SessionStatus → List ℕ
+abbrev pub session_gauge_text : (name : List ℕ) → (moment : ℕ) → Gauge → SessionView → List ℕ
 session_gauge_text name moment gauge session = if_some (gauge_sample name session gauge) (gauge_amount gauge moment session)
 
-unfoldable pub slot_gauge : (name : List ℕ) → (moment : ℕ) → Gauge → Option SessionStatus → List ℕ
+unfoldable pub slot_gauge : (name : List ℕ) → (moment : ℕ) → Gauge → Option SessionView → List ℕ
 slot_gauge name moment gauge slot = if_some (session_gauge_text name moment gauge) slot
 
 unfoldable pub route_gauges : (moment : ℕ) → Gauge → RouteStatus → List ℕ

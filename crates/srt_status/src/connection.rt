@@ -7,14 +7,14 @@ use crate::request::MAX_REQUEST;
 use std::alloc::{AllocError, Global};
 use std::marker::Model;
 
-/// How long a request may take to come, and its response to go, in microseconds.
+/// The longest time for a request to arrive, and for its response to be sent, in microseconds.
 pub const PATIENCE: u64 = 2_000_000;
 
-/// One connection, which serves one request: what was received, and what is left of the response. Whoever owns its
-/// socket hands over what was read ([`receive`](Connection::receive)), asks what the bytes so far say
-/// ([`request_in`](crate::request_in) of [`received`](Connection::received)), hands over the response
-/// ([`answer`](Connection::answer)), writes what is left of it ([`left`](Connection::left)), says how much of that was
-/// taken ([`sent`](Connection::sent)), and closes the connection once it is over ([`is_over`](Connection::is_over)).
+/// One connection, which serves one request: the bytes received, and the rest of the response. The owner of its socket
+/// passes in the bytes read ([`receive`](Connection::receive)), reads the request in them
+/// ([`request_in`](crate::request_in) of [`received`](Connection::received)), passes in the response
+/// ([`answer`](Connection::answer)), writes the rest of it ([`left`](Connection::left)), notes how many bytes were sent
+/// ([`sent`](Connection::sent)), and closes the connection once it has expired ([`is_over`](Connection::is_over)).
 #[derive(Drop)]
 pub struct Connection {
     received: Vec<u8>,
@@ -44,7 +44,7 @@ impl Model for Connection {
 }
 
 impl Connection {
-    /// A connection that was accepted at this moment, in microseconds. Doesn't allocate.
+    /// Returns a connection that was accepted at this time, in microseconds. Doesn't allocate.
     pub fn new(alloc: Global, moment: u64) -> Connection
         ensures { result ≡ record { received = []; left = []; answered = false; since = moment } }
     {
@@ -59,8 +59,8 @@ impl Connection {
         }
     }
 
-    /// Takes bytes that were read from the socket, of which those behind the first [`MAX_REQUEST`] are left out. An
-    /// error means that memory was refused; then nothing changed.
+    /// Appends bytes that were read from the socket. Bytes after the first [`MAX_REQUEST`] are ignored. The only error is
+    /// out of memory; then nothing has changed.
     #[tactic(auto, using(crate::proofs::Pieces::taken_whole, crate::proofs::Pieces::taken_front))]
     pub fn receive(&mut self, bytes: &[u8]) -> Result<(), AllocError>
         ensures ok { OnOk result (self.new ≡ record self.old { received = take 4096 (self.old.received ++ bytes.now) }) }

@@ -2,15 +2,15 @@
 
 ghost use Rattle.std.specs.Prelude.{◌≡◌};
 ghost use Rattle.srt_status.specs.Figures.{count_name, count_help, publisher_count, subscriber_count, gauge_name, gauge_help, gauge_amount};
-ghost use Rattle.srt_status.specs.Figures.{publisher_amount, subscriber_amount, latency_amount, flow_amount, session_count, total_name};
+ghost use Rattle.srt_status.specs.Figures.{publisher_amount, subscriber_amount, latency_amount, round_trip_of, variance_of, traffic_amount};
+ghost use Rattle.srt_status.specs.Figures.{repeats_of, session_count, total_name};
 ghost use Rattle.srt_status.specs.Figures.{total_help, total_kind, total_value, reason_labels, reason_name, refusal_count, figure_name};
 ghost use Rattle.srt_status.specs.Figures.{figure_help, figure_kind, limit_figure, route_figure};
 
 use crate::gateway::{GatewayStatus, RefusalCounts};
-use crate::routes::{
-    Flow, LimitCounts, PublisherCounts, PublisherStatus, RouteStatus, SessionStatus,
-    SubscriberCounts, SubscriberStatus,
-};
+use crate::routes::{LimitCounts, RouteStatus};
+use srt_route::{SessionView, Traffic};
+use srt_sub::Sendings;
 
 /// A value with its unit.
 #[derive(Clone, Copy)]
@@ -196,20 +196,31 @@ pub(crate) fn count_help(count: Count) -> &'static str
     }
 }
 
-/// What publishers' sessions count of this; None if they don't count it.
-pub(crate) fn publisher_count(count: Count, counts: &PublisherCounts) -> Option<u64>
+// The data packets that publishers' sessions count under nothing else: repeats of packets that were received before.
+fn repeats_of(counts: &srt_pub::Counts) -> u64
+    ensures { result ≡ repeats_of counts.now }
+{
+    counts
+        .came
+        .saturating_sub(counts.received)
+        .saturating_sub(counts.late)
+        .saturating_sub(counts.ahead)
+}
+
+/// Returns this count of publishers' sessions; None if they don't count it.
+pub(crate) fn publisher_count(count: Count, counts: &srt_pub::Counts) -> Option<u64>
     ensures { result ≡ publisher_count count counts.now }
 {
     match count {
         Count::ReceivedPackets => Some(counts.received),
         Count::ReceivedBytes => Some(counts.bytes),
         Count::DeliveredPackets => Some(counts.delivered),
-        Count::RepeatedPackets => Some(counts.repeats),
+        Count::RepeatedPackets => Some(repeats_of(counts)),
         Count::LatePackets => Some(counts.late),
         Count::AheadPackets => Some(counts.ahead),
         Count::ReportedLost => Some(counts.reported_lost),
         Count::NaksSent => Some(counts.naks),
-        Count::FullWindowAcks => Some(counts.full_window_acks),
+        Count::FullWindowAcks => Some(counts.full_windows),
         Count::GivenUp => Some(counts.given_up),
         Count::QueuedPackets
         | Count::QueuedBytes
@@ -220,16 +231,20 @@ pub(crate) fn publisher_count(count: Count, counts: &PublisherCounts) -> Option<
     }
 }
 
-/// What subscribers' sessions count of this; None if they don't count it.
-pub(crate) fn subscriber_count(count: Count, counts: &SubscriberCounts) -> Option<u64>
-    ensures { result ≡ subscriber_count count counts.now }
+/// Returns this count of subscribers' sessions; None if they don't count it.
+pub(crate) fn subscriber_count(
+    count: Count,
+    counts: &srt_sub::Counts,
+    sendings: &Sendings,
+) -> Option<u64>
+    ensures { result ≡ subscriber_count count counts.now sendings.now }
 {
     match count {
         Count::GivenUp => Some(counts.given_up),
         Count::QueuedPackets => Some(counts.queued),
         Count::QueuedBytes => Some(counts.bytes),
-        Count::SentPackets => Some(counts.sent),
-        Count::ResentPackets => Some(counts.resent),
+        Count::SentPackets => Some(sendings.fresh),
+        Count::ResentPackets => Some(sendings.again),
         Count::NaksTaken => Some(counts.naks),
         Count::Misdirected => Some(counts.misdirected),
         Count::ReceivedPackets
@@ -280,71 +295,91 @@ pub(crate) fn gauge_help(gauge: Gauge) -> &'static str
     }
 }
 
-/// This of a publisher's session; None if it is nothing of one.
-fn publisher_amount(gauge: Gauge, session: &PublisherStatus) -> Option<Amount>
-    ensures { result ≡ publisher_amount gauge session.now }
+/// Returns this state of a publisher's session; None if it is none of one.
+fn publisher_amount(gauge: Gauge, active: bool, session: &srt_pub::Statistics) -> Option<Amount>
+    ensures { result ≡ publisher_amount gauge active session.now }
 {
     match gauge {
-        Gauge::Active => Some(Amount::Number(u64::from(session.active))),
-        Gauge::WindowUsed => Some(Amount::Number(u64::from(session.window_used))),
-        Gauge::WindowAvailable => Some(Amount::Number(u64::from(session.window_available))),
+        Gauge::Active => Some(Amount::Number(u64::from(active))),
+        Gauge::WindowUsed => Some(Amount::Number(u64::from(session.in_use))),
+        Gauge::WindowAvailable => Some(Amount::Number(u64::from(session.available))),
         _ => None,
     }
 }
 
-/// This of a subscriber's session; None if it is nothing of one.
-fn subscriber_amount(gauge: Gauge, session: &SubscriberStatus) -> Option<Amount>
+/// Returns this state of a subscriber's session; None if it is none of one.
+fn subscriber_amount(gauge: Gauge, session: &srt_sub::Statistics) -> Option<Amount>
     ensures { result ≡ subscriber_amount gauge session.now }
 {
     match gauge {
-        Gauge::FreePlaces => Some(Amount::Number(u64::from(session.free))),
+        Gauge::FreePlaces => Some(Amount::Number(u64::from(session.room))),
         Gauge::InFlight => Some(Amount::Number(u64::from(session.in_flight))),
         Gauge::FlowWindow => Some(Amount::Number(u64::from(session.flow_window))),
         _ => None,
     }
 }
 
-/// A latency, if there is one.
-fn latency_amount(latency_ms: Option<u32>) -> Option<Amount>
+/// Returns a latency; None for the 0 of a session in buffer mode.
+fn latency_amount(latency_ms: u16) -> Option<Amount>
     ensures { result ≡ latency_amount latency_ms }
 {
-    match latency_ms {
-        Some(ms) => Some(Amount::Micros(u64::from(ms) * 1000)),
-        None => None,
+    if latency_ms == 0 {
+        return None;
     }
+    Some(Amount::Micros(u64::from(latency_ms) * 1000))
 }
 
-/// This of a session, by its role.
-fn flow_amount(gauge: Gauge, flow: &Flow) -> Option<Amount>
-    ensures { result ≡ flow_amount gauge flow.now }
+fn round_trip_of(traffic: &Traffic) -> u32
+    ensures { result ≡ round_trip_of traffic.now }
 {
-    match flow {
-        Flow::Publisher(session) => publisher_amount(gauge, session),
-        Flow::Subscriber(session) => subscriber_amount(gauge, session),
+    match traffic {
+        Traffic::Received(statistics) => statistics.rtt,
+        Traffic::Sent(statistics) => statistics.rtt,
     }
 }
 
-/// This of a session at a moment; None if it is nothing of this session.
-pub(crate) fn gauge_amount(gauge: Gauge, moment: u64, session: &SessionStatus) -> Option<Amount>
+fn variance_of(traffic: &Traffic) -> u32
+    ensures { result ≡ variance_of traffic.now }
+{
+    match traffic {
+        Traffic::Received(statistics) => statistics.variance,
+        Traffic::Sent(statistics) => statistics.variance,
+    }
+}
+
+/// Returns this state of a session by its role.
+fn traffic_amount(gauge: Gauge, active: bool, traffic: &Traffic) -> Option<Amount>
+    ensures { result ≡ traffic_amount gauge active traffic.now }
+{
+    match traffic {
+        Traffic::Received(statistics) => publisher_amount(gauge, active, statistics),
+        Traffic::Sent(statistics) => subscriber_amount(gauge, statistics),
+    }
+}
+
+/// Returns this state of a session at this time; None if it is none of this session.
+pub(crate) fn gauge_amount(gauge: Gauge, moment: u64, session: &SessionView) -> Option<Amount>
     ensures { result ≡ gauge_amount gauge moment session.now }
 {
     match gauge {
-        Gauge::Open => Some(Amount::Micros(moment.saturating_sub(session.opened_at))),
-        Gauge::Silent => Some(Amount::Micros(moment.saturating_sub(session.heard_at))),
+        Gauge::Open => Some(Amount::Micros(moment.saturating_sub(session.opened))),
+        Gauge::Silent => Some(Amount::Micros(moment.saturating_sub(session.heard))),
         Gauge::Latency => latency_amount(session.latency_ms),
-        Gauge::RoundTrip => Some(Amount::Micros(u64::from(session.round_trip_us))),
-        Gauge::RoundTripVariance => Some(Amount::Micros(u64::from(session.variance_us))),
-        _ => flow_amount(gauge, &session.flow),
+        Gauge::RoundTrip => Some(Amount::Micros(u64::from(round_trip_of(&session.traffic)))),
+        Gauge::RoundTripVariance => Some(Amount::Micros(u64::from(variance_of(&session.traffic)))),
+        _ => traffic_amount(gauge, session.is_active, &session.traffic),
     }
 }
 
-/// This count of a session; None if sessions of its role don't count it.
-pub(crate) fn session_count(count: Count, session: &SessionStatus) -> Option<u64>
+/// Returns this count of a session; None if sessions of its role don't count it.
+pub(crate) fn session_count(count: Count, session: &SessionView) -> Option<u64>
     ensures { result ≡ session_count count session.now }
 {
-    match &session.flow {
-        Flow::Publisher(publisher) => publisher_count(count, &publisher.counts),
-        Flow::Subscriber(subscriber) => subscriber_count(count, &subscriber.counts),
+    match &session.traffic {
+        Traffic::Received(statistics) => publisher_count(count, &statistics.counts),
+        Traffic::Sent(statistics) => {
+            subscriber_count(count, &statistics.counts, &statistics.sendings)
+        }
     }
 }
 
@@ -528,7 +563,7 @@ pub(crate) fn refusal_count(reason: Reason, counts: &RefusalCounts) -> u64
     }
 }
 
-/// What is shown of a route beside what its sessions count.
+/// The metrics of a route that aren't counted by its sessions.
 #[derive(Clone, Copy)]
 pub(crate) enum RouteFigure {
     Allowed,
@@ -539,7 +574,7 @@ pub(crate) enum RouteFigure {
     RefusedAddress,
 }
 
-/// All that is shown of a route beside what its sessions count, in its order.
+/// All metrics of a route that aren't counted by its sessions, in the order in which they are shown.
 pub(crate) const ROUTE_FIGURES: [RouteFigure; 6] = [
     RouteFigure::Allowed,
     RouteFigure::Opened,

@@ -1,32 +1,9 @@
-//! What is known of the gateway as a whole.
+//! The state of the gateway as a whole, as the page shows it.
 
-/// How many datagrams the gateway's poller counted since the start. Each count stops at 2^64 - 1.
-#[derive(Clone, Copy, Default)]
-pub struct PollerCounts {
-    /// Datagrams that were read.
-    pub read: u64,
-    /// Of these, those that the lobby answered.
-    pub answered: u64,
-    /// Of these, those that their route's inbox accepted.
-    pub accepted: u64,
-    /// Of these, those for a route whose inbox was full.
-    pub full: u64,
-    /// Of these, those that the lobby dropped.
-    pub dropped: u64,
-    /// Of those that were dropped, those to a route from an address in none of its lists.
-    pub not_allowed: u64,
-    /// Of these, those for a route for whose copy memory was refused.
-    pub memory: u64,
-    /// Answers and replies that the socket took.
-    pub sent: u64,
-    /// Answers and replies that it didn't take.
-    pub lost: u64,
-    /// Failed waits, reads and sends.
-    pub faults: u64,
-}
+use srt_supervision::Report;
 
-/// How many conclusions were refused, by the reason (draft-sharabayko-srt-01, section 4.3, table 7). The numbers and
-/// names are those of `srt_hs::RefusalCode`.
+/// The refused conclusions, by code (draft-sharabayko-srt-01, section 4.3, table 7). The numbers and names are those of
+/// `srt_hs::RefusalCode`.
 #[derive(Clone, Copy, Default)]
 pub struct RefusalCounts {
     /// 1002, `PEER`.
@@ -47,27 +24,27 @@ pub struct RefusalCounts {
     pub group: u64,
 }
 
-/// How many conclusions were refused with 1002 before they belonged to a route, by what stood against the caller.
+/// The conclusions that the lobby refused with 1002, by reason.
 #[derive(Clone, Copy, Default, PartialEq, Eq)]
 pub struct CauseCounts {
-    /// It brought no Stream ID, or one with a fault.
+    /// The Stream ID is missing, or has a fault.
     pub no_name: u64,
-    /// No route has the name that it asked for.
+    /// No route has the name.
     pub unknown_name: u64,
-    /// Its address isn't in the route's `publish_from`.
+    /// The address isn't in the route's `publish_from`.
     pub publish_from: u64,
-    /// Its address isn't in the route's `request_from`.
+    /// The address isn't in the route's `request_from`.
     pub request_from: u64,
-    /// It brought no `publish_key` or another one.
+    /// The `publish_key` is missing or wrong.
     pub publish_key: u64,
-    /// It brought no `request_key` or another one.
+    /// The `request_key` is missing or wrong.
     pub request_key: u64,
 }
 
-/// What became of the changes of the configuration while the gateway runs.
+/// The changes of the configuration while the gateway runs.
 #[derive(Clone, Copy, Default, PartialEq, Eq)]
 pub struct ChangeCounts {
-    /// Changed configurations that were taken, and asked for something.
+    /// Changed configurations that were taken, and by which a route opened or closed.
     pub taken: u64,
     /// Changed configurations that weren't taken.
     pub refused: u64,
@@ -75,26 +52,26 @@ pub struct ChangeCounts {
     pub indexes: u64,
 }
 
-/// The gateway at one moment.
+/// The gateway at one time.
 #[derive(Clone, Copy)]
 pub struct GatewayStatus<'a> {
     /// The version of the program, as `srtgw --version` prints it.
     pub version: &'a str,
     /// The whole seconds since the start.
     pub uptime_seconds: u64,
-    /// The moment of the look, in microseconds of the routes' clock.
+    /// The time, in microseconds of the routes' clock.
     pub moment: u64,
     /// The number of routes that the configuration in force names.
     pub routes: u32,
     /// Whether the poller made a round within the last two seconds.
     pub polling: bool,
-    /// What the poller counted.
-    pub poller: PollerCounts,
-    /// The conclusions that were refused before they belonged to a route.
+    /// The poller's counters.
+    pub poller: Report,
+    /// The conclusions that the lobby refused.
     pub refused: RefusalCounts,
-    /// Those of them that were refused with 1002.
+    /// The conclusions that the lobby refused with 1002.
     pub causes: CauseCounts,
-    /// What became of the changes of the configuration.
+    /// The changes of the configuration.
     pub changes: ChangeCounts,
     /// The datagrams that the kernel dropped at the socket, since its buffer was full; None if it isn't known.
     pub kernel_drops: Option<u64>,

@@ -18,8 +18,9 @@ use crate::figures::{
 };
 use crate::gateway::{GatewayStatus, RefusalCounts};
 use crate::peers::put_peer;
-use crate::routes::{PublisherCounts, RouteStatus, SessionStatus, SubscriberCounts};
+use crate::routes::RouteStatus;
 use crate::text::{put, put_amount, put_id, put_name, put_number};
+use srt_route::{SessionView, Totals};
 use srt_seq::{Mode, Role};
 use std::alloc::AllocError;
 
@@ -108,14 +109,10 @@ fn put_all_refusals(out: &mut Vec<u8>, counts: &RefusalCounts) -> Result<(), All
 }
 
 #[tactic(auto, unfolding(crate::specs::Json::publishers_json))]
-fn put_publishers_count(
-    out: &mut Vec<u8>,
-    counts: &PublisherCounts,
-    count: Count,
-) -> Result<(), AllocError>
-    ensures { OnOk result (out.new.items ≡ out.old.items ++ publishers_json counts.now count) }
+fn put_publishers_count(out: &mut Vec<u8>, totals: &Totals, count: Count) -> Result<(), AllocError>
+    ensures { OnOk result (out.new.items ≡ out.old.items ++ publishers_json totals.now count) }
 {
-    match publisher_count(count, counts) {
+    match publisher_count(count, &totals.received) {
         Some(value) => put_number_member(out, count_name(count), value),
         None => put(out, b""),
     }
@@ -123,35 +120,27 @@ fn put_publishers_count(
 
 /// Puts these of what all publishers' sessions counted.
 #[tactic(auto, using(crate::proofs::Puts::one_more))]
-fn put_publishers(
-    out: &mut Vec<u8>,
-    publishers: &PublisherCounts,
-    counts: &[Count],
-) -> Result<(), AllocError>
-    ensures { OnOk result (out.new.items ≡ out.old.items ++ flat_map (publishers_json publishers.now) counts.now) }
+fn put_publishers(out: &mut Vec<u8>, totals: &Totals, counts: &[Count]) -> Result<(), AllocError>
+    ensures { OnOk result (out.new.items ≡ out.old.items ++ flat_map (publishers_json totals.now) counts.now) }
 {
     for count in counts {
-        put_publishers_count(out, publishers, *count)?;
+        put_publishers_count(out, totals, *count)?;
     }
     Ok(())
 }
 
 #[tactic(auto, unfolding(crate::specs::Json::all_publishers_json))]
-fn put_all_publishers(out: &mut Vec<u8>, publishers: &PublisherCounts) -> Result<(), AllocError>
-    ensures { OnOk result (out.new.items ≡ out.old.items ++ all_publishers_json publishers.now) }
+fn put_all_publishers(out: &mut Vec<u8>, totals: &Totals) -> Result<(), AllocError>
+    ensures { OnOk result (out.new.items ≡ out.old.items ++ all_publishers_json totals.now) }
 {
-    put_publishers(out, publishers, &COUNTS)
+    put_publishers(out, totals, &COUNTS)
 }
 
 #[tactic(auto, unfolding(crate::specs::Json::subscribers_json))]
-fn put_subscribers_count(
-    out: &mut Vec<u8>,
-    counts: &SubscriberCounts,
-    count: Count,
-) -> Result<(), AllocError>
-    ensures { OnOk result (out.new.items ≡ out.old.items ++ subscribers_json counts.now count) }
+fn put_subscribers_count(out: &mut Vec<u8>, totals: &Totals, count: Count) -> Result<(), AllocError>
+    ensures { OnOk result (out.new.items ≡ out.old.items ++ subscribers_json totals.now count) }
 {
-    match subscriber_count(count, counts) {
+    match subscriber_count(count, &totals.queued, &totals.sent) {
         Some(value) => put_number_member(out, count_name(count), value),
         None => put(out, b""),
     }
@@ -159,30 +148,26 @@ fn put_subscribers_count(
 
 /// Puts these of what all subscribers' sessions counted.
 #[tactic(auto, using(crate::proofs::Puts::one_more))]
-fn put_subscribers(
-    out: &mut Vec<u8>,
-    subscribers: &SubscriberCounts,
-    counts: &[Count],
-) -> Result<(), AllocError>
-    ensures { OnOk result (out.new.items ≡ out.old.items ++ flat_map (subscribers_json subscribers.now) counts.now) }
+fn put_subscribers(out: &mut Vec<u8>, totals: &Totals, counts: &[Count]) -> Result<(), AllocError>
+    ensures { OnOk result (out.new.items ≡ out.old.items ++ flat_map (subscribers_json totals.now) counts.now) }
 {
     for count in counts {
-        put_subscribers_count(out, subscribers, *count)?;
+        put_subscribers_count(out, totals, *count)?;
     }
     Ok(())
 }
 
 #[tactic(auto, unfolding(crate::specs::Json::all_subscribers_json))]
-fn put_all_subscribers(out: &mut Vec<u8>, subscribers: &SubscriberCounts) -> Result<(), AllocError>
-    ensures { OnOk result (out.new.items ≡ out.old.items ++ all_subscribers_json subscribers.now) }
+fn put_all_subscribers(out: &mut Vec<u8>, totals: &Totals) -> Result<(), AllocError>
+    ensures { OnOk result (out.new.items ≡ out.old.items ++ all_subscribers_json totals.now) }
 {
-    put_subscribers(out, subscribers, &COUNTS)
+    put_subscribers(out, totals, &COUNTS)
 }
 
 #[tactic(auto, unfolding(crate::specs::Json::session_count_json))]
 fn put_session_count(
     out: &mut Vec<u8>,
-    session: &SessionStatus,
+    session: &SessionView,
     count: Count,
 ) -> Result<(), AllocError>
     ensures { OnOk result (out.new.items ≡ out.old.items ++ session_count_json session.now count) }
@@ -197,7 +182,7 @@ fn put_session_count(
 #[tactic(auto, using(crate::proofs::Puts::one_more))]
 fn put_session_counts(
     out: &mut Vec<u8>,
-    session: &SessionStatus,
+    session: &SessionView,
     counts: &[Count],
 ) -> Result<(), AllocError>
     ensures { OnOk result (out.new.items ≡ out.old.items ++ flat_map (session_count_json session.now) counts.now) }
@@ -209,7 +194,7 @@ fn put_session_counts(
 }
 
 #[tactic(auto, unfolding(crate::specs::Json::session_counts_json))]
-fn put_all_session_counts(out: &mut Vec<u8>, session: &SessionStatus) -> Result<(), AllocError>
+fn put_all_session_counts(out: &mut Vec<u8>, session: &SessionView) -> Result<(), AllocError>
     ensures { OnOk result (out.new.items ≡ out.old.items ++ session_counts_json session.now) }
 {
     put_session_counts(out, session, &COUNTS)
@@ -219,7 +204,7 @@ fn put_all_session_counts(out: &mut Vec<u8>, session: &SessionStatus) -> Result<
 fn put_gauge(
     out: &mut Vec<u8>,
     moment: u64,
-    session: &SessionStatus,
+    session: &SessionView,
     gauge: Gauge,
 ) -> Result<(), AllocError>
     ensures { OnOk result (out.new.items ≡ out.old.items ++ gauge_json moment session.now gauge) }
@@ -235,7 +220,7 @@ fn put_gauge(
 fn put_gauges(
     out: &mut Vec<u8>,
     moment: u64,
-    session: &SessionStatus,
+    session: &SessionView,
     gauges: &[Gauge],
 ) -> Result<(), AllocError>
     ensures { OnOk result (out.new.items ≡ out.old.items ++ flat_map (gauge_json moment session.now) gauges.now) }
@@ -247,7 +232,7 @@ fn put_gauges(
 }
 
 #[tactic(auto, unfolding(crate::specs::Json::gauges_json))]
-fn put_all_gauges(out: &mut Vec<u8>, moment: u64, session: &SessionStatus) -> Result<(), AllocError>
+fn put_all_gauges(out: &mut Vec<u8>, moment: u64, session: &SessionView) -> Result<(), AllocError>
     ensures { OnOk result (out.new.items ≡ out.old.items ++ gauges_json moment session.now) }
 {
     put_gauges(out, moment, session, &GAUGES)
@@ -265,10 +250,10 @@ fn put_role(out: &mut Vec<u8>, role: Role) -> Result<(), AllocError>
 
 /// Puts the beginning of an open session's object.
 #[tactic(auto, using(crate::proofs::Puts::joined), unfolding(crate::specs::Json::session_start))]
-fn put_session_start(out: &mut Vec<u8>, session: &SessionStatus) -> Result<(), AllocError>
+fn put_session_start(out: &mut Vec<u8>, session: &SessionView) -> Result<(), AllocError>
     ensures { OnOk result (out.new.items ≡ out.old.items ++ session_start session.now) }
 {
-    put_role(out, session.role())?;
+    put_role(out, session.role)?;
     put_id(out, session.id)?;
     put(out, b"\",\"peer\":\"")?;
     put_peer(out, &session.peer)?;
@@ -277,7 +262,7 @@ fn put_session_start(out: &mut Vec<u8>, session: &SessionStatus) -> Result<(), A
 
 /// Puts an open session.
 #[tactic(auto, using(crate::proofs::Puts::joined), unfolding(crate::specs::Json::session_json))]
-fn put_session(out: &mut Vec<u8>, moment: u64, session: &SessionStatus) -> Result<(), AllocError>
+fn put_session(out: &mut Vec<u8>, moment: u64, session: &SessionView) -> Result<(), AllocError>
     ensures { OnOk result (out.new.items ≡ out.old.items ++ session_json moment session.now) }
 {
     put_session_start(out, session)?;
@@ -286,7 +271,7 @@ fn put_session(out: &mut Vec<u8>, moment: u64, session: &SessionStatus) -> Resul
     put(out, b"}")
 }
 
-/// Puts a comma, unless nothing stands before.
+/// Puts a comma, unless the next item is the first one.
 fn put_comma(out: &mut Vec<u8>, first: bool) -> Result<(), AllocError>
     ensures { OnOk result (out.new.items ≡ out.old.items ++ comma first) }
 {
@@ -299,7 +284,7 @@ fn put_slot(
     out: &mut Vec<u8>,
     moment: u64,
     first: bool,
-    slot: &Option<SessionStatus>,
+    slot: &Option<SessionView>,
 ) -> Result<(), AllocError>
     ensures { OnOk result (out.new.items ≡ out.old.items ++ slot_json moment first slot.now) }
 {
@@ -312,8 +297,8 @@ fn put_slot(
     }
 }
 
-/// Whether nothing stands before the next slot either.
-fn stays_first(first: bool, slot: &Option<SessionStatus>) -> bool
+/// Whether the next session is the first one, after this slot.
+fn stays_first(first: bool, slot: &Option<SessionView>) -> bool
     ensures { result ≡ (first && is_none slot.now) }
 {
     first && slot.is_none()
@@ -324,7 +309,7 @@ fn stays_first(first: bool, slot: &Option<SessionStatus>) -> bool
 fn put_slots(
     out: &mut Vec<u8>,
     moment: u64,
-    slots: &[Option<SessionStatus>],
+    slots: &[Option<SessionView>],
 ) -> Result<(), AllocError>
     ensures { OnOk result (out.new.items ≡ out.old.items ++ slots_json moment true slots.now) }
 {
@@ -336,7 +321,7 @@ fn put_slots(
     Ok(())
 }
 
-/// Puts the mode of a route behind its name.
+/// Puts the mode of a route, after its name.
 fn put_mode(out: &mut Vec<u8>, mode: Mode) -> Result<(), AllocError>
     ensures { OnOk result (out.new.items ≡ out.old.items ++ mode_json mode) }
 {
@@ -416,9 +401,9 @@ fn put_route_counts(out: &mut Vec<u8>, route: &RouteStatus) -> Result<(), AllocE
     ensures { OnOk result (out.new.items ≡ out.old.items ++ route_counts route.now) }
 {
     put_publishers_start(out)?;
-    put_all_publishers(out, &route.publishers)?;
+    put_all_publishers(out, &route.totals)?;
     put_subscribers_start(out)?;
-    put_all_subscribers(out, &route.subscribers)?;
+    put_all_subscribers(out, &route.totals)?;
     put(out, b"}")
 }
 
@@ -434,7 +419,7 @@ fn put_route(out: &mut Vec<u8>, moment: u64, route: &RouteStatus) -> Result<(), 
     put(out, b"]}")
 }
 
-/// Puts a route behind another one.
+/// Puts a route that isn't the first one.
 #[tactic(auto, using(crate::proofs::Puts::joined), unfolding(crate::specs::Json::next_route_json))]
 fn put_next_route(out: &mut Vec<u8>, moment: u64, route: &RouteStatus) -> Result<(), AllocError>
     ensures { OnOk result (out.new.items ≡ out.old.items ++ next_route_json moment route.now) }
@@ -443,7 +428,7 @@ fn put_next_route(out: &mut Vec<u8>, moment: u64, route: &RouteStatus) -> Result
     put_route(out, moment, route)
 }
 
-/// Puts routes behind another one.
+/// Puts routes, none of which is the first one.
 #[tactic(auto, using(crate::proofs::Puts::one_more))]
 fn put_next_routes(out: &mut Vec<u8>, moment: u64, routes: &[RouteStatus]) -> Result<(), AllocError>
     ensures { OnOk result (out.new.items ≡ out.old.items ++ flat_map (next_route_json moment) routes.now) }

@@ -1,14 +1,15 @@
-//! The texts and the HTTP of the status page of a gateway that runs, with no socket and no thread: the figures for
+//! The texts and the HTTP of the status page of a gateway that runs, with no socket and no thread: the metrics for
 //! Prometheus, the status for programs, the page for people, and the requests and responses that carry them.
 //!
-//! It reads nothing of the gateway: its caller passes in what it saw. A body is allocated, which may be refused.
+//! It reads nothing of the gateway: its caller passes in snapshots. A body is allocated.
 //!
-//! Types: [`GatewayStatus`] (`gateway.rt`) and [`RouteStatus`] (`routes.rt`), what was seen; [`Request`]
-//! (`request.rt`), what a caller asks for; [`Connection`] (`connection.rt`), the state of one connection.
+//! Types: [`GatewayStatus`] (`gateway.rt`) and [`RouteStatus`] (`routes.rt`), the snapshots; [`Request`] (`request.rt`);
+//! [`Connection`] (`connection.rt`), the state of one connection. A session is an `srt_route::SessionView`, the poller's
+//! counters are an `srt_supervision::Report`.
 //!
-//! Calls: [`put_metrics`] (`metrics.rt`) and [`put_json`] (`json.rt`) put what was seen into a text, [`request_in`] reads
+//! Calls: [`put_metrics`] (`metrics.rt`) and [`put_json`] (`json.rt`) put the snapshots into a text, [`request_in`] reads
 //! a request, and [`respond`] (`response.rt`) makes the response to it. The names, the help and the values of all
-//! figures are in `figures.rt`, the parts of a text in `text.rt` and `peers.rt`, and [`OVERVIEW`], the page for people,
+//! metrics are in `figures.rt`, the parts of a text in `text.rt` and `peers.rt`, and [`OVERVIEW`], the page for people,
 //! in `overview.rt`.
 #![tactic(auto)]
 
@@ -25,16 +26,13 @@ mod routes;
 mod text;
 
 pub use connection::{Connection, PATIENCE};
-pub use gateway::{CauseCounts, ChangeCounts, GatewayStatus, PollerCounts, RefusalCounts};
+pub use gateway::{CauseCounts, ChangeCounts, GatewayStatus, RefusalCounts};
 pub use json::put_json;
 pub use metrics::put_metrics;
 pub use overview::OVERVIEW;
 pub use request::{MAX_REQUEST, Method, Page, Request, request_in};
 pub use response::respond;
-pub use routes::{
-    Flow, LimitCounts, PublisherCounts, PublisherStatus, RouteStatus, SLOTS, SessionStatus,
-    SubscriberCounts, SubscriberStatus,
-};
+pub use routes::{LimitCounts, RouteStatus};
 
 #[cfg(test)]
 mod tests;

@@ -20,8 +20,9 @@ use crate::figures::{
 };
 use crate::gateway::{GatewayStatus, RefusalCounts};
 use crate::peers::put_peer;
-use crate::routes::{RouteStatus, SessionStatus};
+use crate::routes::RouteStatus;
 use crate::text::{put, put_amount, put_id, put_name, put_number};
+use srt_route::SessionView;
 use srt_seq::Role;
 use std::alloc::AllocError;
 
@@ -381,11 +382,11 @@ fn plays(wanted: Role, actual: Role) -> bool
 }
 
 /// Whether a slot has an open session of this role.
-fn has_role(role: Role, slot: &Option<SessionStatus>) -> bool
+fn has_role(role: Role, slot: &Option<SessionView>) -> bool
     ensures { result ≡ has_role role slot.now }
 {
     match slot {
-        Some(session) => plays(role, session.role()),
+        Some(session) => plays(role, session.role),
         None => false,
     }
 }
@@ -495,14 +496,14 @@ fn put_route_count(out: &mut Vec<u8>, count: Count, route: &RouteStatus) -> Resu
         route.name.as_str(),
         Role::Publish,
         count,
-        publisher_count(count, &route.publishers),
+        publisher_count(count, &route.totals.received),
     )?;
     put_count_if(
         out,
         route.name.as_str(),
         Role::Request,
         count,
-        subscriber_count(count, &route.subscribers),
+        subscriber_count(count, &route.totals.queued, &route.totals.sent),
     )
 }
 
@@ -561,12 +562,12 @@ fn put_all_counts(out: &mut Vec<u8>, routes: &[RouteStatus]) -> Result<(), Alloc
 fn put_session_labels(
     out: &mut Vec<u8>,
     name: &str,
-    session: &SessionStatus,
+    session: &SessionView,
 ) -> Result<(), AllocError>
     ensures { OnOk result (out.new.items ≡ out.old.items ++ session_labels name.now session.now) }
 {
     put_route_label(out, name)?;
-    put_role_label(out, session.role())?;
+    put_role_label(out, session.role)?;
     put(out, b",session=\"")?;
     put_id(out, session.id)?;
     put(out, b"\",peer=\"")?;
@@ -585,7 +586,7 @@ fn put_session_prefix(out: &mut Vec<u8>) -> Result<(), AllocError>
 fn put_session_count_sample(
     out: &mut Vec<u8>,
     name: &str,
-    session: &SessionStatus,
+    session: &SessionView,
     count: Count,
     value: u64,
 ) -> Result<(), AllocError>
@@ -602,7 +603,7 @@ fn put_session_count(
     out: &mut Vec<u8>,
     name: &str,
     count: Count,
-    session: &SessionStatus,
+    session: &SessionView,
 ) -> Result<(), AllocError>
     ensures { OnOk result (out.new.items ≡ out.old.items ++ session_count_text name.now count session.now) }
 {
@@ -617,7 +618,7 @@ fn put_slot_count(
     out: &mut Vec<u8>,
     name: &str,
     count: Count,
-    slot: &Option<SessionStatus>,
+    slot: &Option<SessionView>,
 ) -> Result<(), AllocError>
     ensures { OnOk result (out.new.items ≡ out.old.items ++ slot_count name.now count slot.now) }
 {
@@ -700,7 +701,7 @@ fn put_all_session_counts(out: &mut Vec<u8>, routes: &[RouteStatus]) -> Result<(
 fn put_gauge_sample(
     out: &mut Vec<u8>,
     name: &str,
-    session: &SessionStatus,
+    session: &SessionView,
     gauge: Gauge,
     amount: Amount,
 ) -> Result<(), AllocError>
@@ -718,7 +719,7 @@ fn put_session_gauge(
     name: &str,
     moment: u64,
     gauge: Gauge,
-    session: &SessionStatus,
+    session: &SessionView,
 ) -> Result<(), AllocError>
     ensures { OnOk result (out.new.items ≡ out.old.items ++ session_gauge_text name.now moment gauge session.now) }
 {
@@ -734,7 +735,7 @@ fn put_slot_gauge(
     name: &str,
     moment: u64,
     gauge: Gauge,
-    slot: &Option<SessionStatus>,
+    slot: &Option<SessionView>,
 ) -> Result<(), AllocError>
     ensures { OnOk result (out.new.items ≡ out.old.items ++ slot_gauge name.now moment gauge slot.now) }
 {

@@ -122,7 +122,8 @@ a { color: inherit; }
   <div id="routes"></div>
   <details id="idle"><summary></summary><div id="names"></div></details>
 </main>
-<footer>Bit rates are those of payloads, over the last minute. Also here: <a href="/metrics">metrics</a>, <a href="/status.json">status.json</a>, <a href="/healthz">healthz</a>.</footer>
+<footer>Bit rates are those of payloads, averaged over the last three seconds; the curves show the last minute.
+Also here: <a href="/metrics">metrics</a>, <a href="/status.json">status.json</a>, <a href="/healthz">healthz</a>.</footer>
 <script>
 "use strict";
 const SPAN = 60;

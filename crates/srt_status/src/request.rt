@@ -1,4 +1,4 @@
-//! What a caller of the status page asks for.
+//! Requests to the status page.
 
 ghost use Rattle.std.specs.Prelude.{◌≡◌, ◌≤◌, ◌<◌, ℕ, List, length, Some, None};
 ghost use Rattle.httparse.specs.Grammar.{RequestHead, ReadsRequest, HasNoRequest, NeverHasRequest};
@@ -36,7 +36,7 @@ pub enum Method {
     Head,
 }
 
-/// What a caller asks for.
+/// A request.
 #[derive(Clone, Copy, PartialEq, Eq)]
 pub enum Request {
     /// A page.
@@ -109,7 +109,7 @@ fn shown_in(method: Method, target: &[u8]) -> Request
     }
 }
 
-/// What a head with this method and this target asks for.
+/// Returns the request of a head with this method and this target.
 #[tactic(auto, unfolding(crate::specs::Requests::request_of))]
 fn request_of(method: &[u8], target: &[u8]) -> Request
     ensures { result ≡ request_of method.now target.now }
@@ -123,8 +123,8 @@ fn request_of(method: &[u8], target: &[u8]) -> Request
     Request::NotAllowed
 }
 
-/// What a caller asks for that has sent these bytes so far; None if its head isn't complete, and more may come. A query
-/// behind the path is passed over, and so is whatever follows the head. Linear in the number of bytes.
+/// Reads the request in the bytes received so far. None if its head isn't complete and more may arrive. A query after the
+/// path is ignored, and so is what follows the head. Linear in the number of bytes.
 pub fn request_in(bytes: &[u8]) -> Option<Request>
     ensures read { (head : RequestHead) (rest : List ℕ)
         → ReadsRequest bytes.now head rest → length head.fields ≤ 64 → result ≡ Some (request_of head.method head.target) }

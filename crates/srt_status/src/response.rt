@@ -1,4 +1,4 @@
-//! What is answered to a caller of the status page.
+//! Responses of the status page.
 
 ghost use Rattle.std.specs.Prelude.{◌≡◌, ◌++◌, OnOk, IfOk};
 ghost use Rattle.srt_status.specs.Responses.{common_fields, protocol_text, status_line, head_text, body_text, response_text, plain_text};
@@ -15,7 +15,7 @@ use std::alloc::{AllocError, Global};
 /// The fields of a response for people that isn't a page.
 const PLAIN: &str = "Content-Type: text/plain; charset=utf-8\r\n";
 
-/// The fields of the page of figures.
+/// The fields of the page of metrics.
 const FIGURES: &str = "Content-Type: text/plain; version=0.0.4; charset=utf-8\r\n";
 
 /// The fields of the status for programs.
@@ -170,8 +170,8 @@ fn page_response(
     }
 }
 
-/// The response to a request, head and body. The page for people is handed in: [`OVERVIEW`](crate::OVERVIEW). An error
-/// means that memory was refused. Linear in the number of routes for the status and the figures.
+/// Returns the response to a request, head and body. The page for people is passed in: [`OVERVIEW`](crate::OVERVIEW). The
+/// only error is out of memory. Linear in the number of routes for the status and the metrics.
 pub fn respond(
     alloc: Global,
     request: Request,

@@ -1,12 +1,15 @@
 //! Texts as programs and people read them, requests as callers send them, and a connection from its beginning to its end.
 
 use crate::{
-    CauseCounts, ChangeCounts, Connection, Flow, GatewayStatus, LimitCounts, MAX_REQUEST, Method,
-    OVERVIEW, PATIENCE, Page, PollerCounts, PublisherCounts, PublisherStatus, RefusalCounts,
-    Request, RouteStatus, SLOTS, SessionStatus, SubscriberCounts, SubscriberStatus, put_json,
-    put_metrics, request_in, respond,
+    CauseCounts, ChangeCounts, Connection, GatewayStatus, LimitCounts, MAX_REQUEST, Method,
+    OVERVIEW, PATIENCE, Page, RefusalCounts, Request, RouteStatus, put_json, put_metrics,
+    request_in, respond,
 };
-use srt_seq::{Mode, Peer};
+use srt_route::{SessionView, Totals, Traffic};
+use srt_seq::limits::MAX_SESSIONS;
+use srt_seq::{Mode, Peer, Role};
+use srt_sub::Sendings;
+use srt_supervision::Report;
 use std::process::Abort;
 use std::str;
 use std::test::Fail;
@@ -25,7 +28,7 @@ fn gateway() -> GatewayStatus<'static> {
         moment: 61_500_000,
         routes: 1,
         polling: true,
-        poller: PollerCounts {
+        poller: Report {
             read: 9,
             answered: 2,
             accepted: 3,
@@ -65,62 +68,71 @@ fn gateway() -> GatewayStatus<'static> {
     }
 }
 
-/// The active publisher at 192.0.2.7.
-fn publisher() -> SessionStatus {
-    SessionStatus {
+/// The active publisher at 192.0.2.7. Of the 109 packets that came, 2 are counted under nothing else.
+fn publisher() -> SessionView {
+    SessionView {
         peer: Peer {
             ip: NEAR,
             port: 5000,
         },
+        caller: 1,
         id: 0x0010_0000,
-        opened_at: 1_500_000,
-        heard_at: 61_499_000,
-        latency_ms: Some(120),
-        round_trip_us: 20_345,
-        variance_us: 7,
-        flow: Flow::Publisher(PublisherStatus {
-            active: true,
-            counts: PublisherCounts {
+        role: Role::Publish,
+        is_active: true,
+        is_draining: false,
+        opened: 1_500_000,
+        heard: 61_499_000,
+        latency_ms: 120,
+        traffic: Traffic::Received(srt_pub::Statistics {
+            counts: srt_pub::Counts {
+                came: 109,
                 received: 100,
                 bytes: 131_600,
                 delivered: 98,
-                repeats: 2,
                 late: 3,
                 ahead: 4,
                 given_up: 5,
                 reported_lost: 6,
                 naks: 7,
-                full_window_acks: 8,
+                full_windows: 8,
             },
-            window_used: 10,
-            window_available: 22,
+            in_use: 10,
+            available: 22,
+            rtt: 20_345,
+            variance: 7,
         }),
     }
 }
 
 /// A subscriber at an IPv6 address, in buffer mode.
-fn subscriber() -> SessionStatus {
-    SessionStatus {
+fn subscriber() -> SessionView {
+    SessionView {
         peer: Peer { ip: FAR, port: 9 },
+        caller: 2,
         id: 0xfedc_ba98,
-        opened_at: 0,
-        heard_at: 0,
-        latency_ms: None,
-        round_trip_us: 1_000_000,
-        variance_us: 0,
-        flow: Flow::Subscriber(SubscriberStatus {
-            counts: SubscriberCounts {
+        role: Role::Request,
+        is_active: false,
+        is_draining: false,
+        opened: 0,
+        heard: 0,
+        latency_ms: 0,
+        traffic: Traffic::Sent(srt_sub::Statistics {
+            counts: srt_sub::Counts {
                 queued: 11,
                 bytes: 12,
-                sent: 13,
-                resent: 14,
                 given_up: 15,
                 naks: 16,
                 misdirected: 17,
             },
-            free: 18,
+            sendings: Sendings {
+                fresh: 13,
+                again: 14,
+            },
+            room: 18,
             in_flight: 19,
             flow_window: 20,
+            rtt: 1_000_000,
+            variance: 0,
         }),
     }
 }
@@ -129,10 +141,10 @@ fn subscriber() -> SessionStatus {
 fn route<R: AllocGlobal>(
     rt: &R,
     name: &str,
-    first: Option<SessionStatus>,
-    last: Option<SessionStatus>,
+    first: Option<SessionView>,
+    last: Option<SessionView>,
 ) -> Result<RouteStatus, Fail> {
-    let mut sessions = [None; SLOTS];
+    let mut sessions = [None; MAX_SESSIONS];
     sessions[1] = first;
     sessions[16] = last;
     Ok(RouteStatus {
@@ -140,26 +152,30 @@ fn route<R: AllocGlobal>(
         mode: Mode::Live,
         sessions_allowed: 5,
         sessions,
-        publishers: PublisherCounts {
-            received: 1000,
-            bytes: 1_316_000,
-            delivered: 990,
-            repeats: 1,
-            late: 2,
-            ahead: 3,
-            given_up: 4,
-            reported_lost: 5,
-            naks: 6,
-            full_window_acks: 7,
-        },
-        subscribers: SubscriberCounts {
-            queued: 8,
-            bytes: 9,
-            sent: 10,
-            resent: 11,
-            given_up: 12,
-            naks: 13,
-            misdirected: 14,
+        totals: Totals {
+            received: srt_pub::Counts {
+                came: 1006,
+                received: 1000,
+                bytes: 1_316_000,
+                delivered: 990,
+                late: 2,
+                ahead: 3,
+                given_up: 4,
+                reported_lost: 5,
+                naks: 6,
+                full_windows: 7,
+            },
+            queued: srt_sub::Counts {
+                queued: 8,
+                bytes: 9,
+                given_up: 12,
+                naks: 13,
+                misdirected: 14,
+            },
+            sent: Sendings {
+                fresh: 10,
+                again: 11,
+            },
         },
         opened: 3,
         refused: RefusalCounts {

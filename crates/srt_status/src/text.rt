@@ -23,7 +23,7 @@ pub(crate) fn put_number(out: &mut Vec<u8>, number: u64) -> Result<(), AllocErro
     put(out, digits.format(number).as_bytes())
 }
 
-/// Puts a byte of a name as it stands between quotation marks: a quotation mark, a backslash and a line feed behind a
+/// Puts a byte of a name between quotation marks: a quotation mark, a backslash and a line feed after a
 /// backslash, and `?` in place of other control characters.
 fn put_shown(out: &mut Vec<u8>, byte: u8) -> Result<(), AllocError>
     ensures { OnOk result (out.new.items ≡ out.old.items ++ shown byte) }
@@ -37,7 +37,7 @@ fn put_shown(out: &mut Vec<u8>, byte: u8) -> Result<(), AllocError>
     }
 }
 
-/// Puts a name as it stands between quotation marks.
+/// Puts a name between quotation marks, without these.
 #[tactic(auto, using(crate::proofs::Puts::one_more))]
 pub(crate) fn put_name(out: &mut Vec<u8>, name: &str) -> Result<(), AllocError>
     ensures { OnOk result (out.new.items ≡ out.old.items ++ name_text name.now) }
@@ -79,7 +79,7 @@ pub(crate) fn put_id(out: &mut Vec<u8>, id: u32) -> Result<(), AllocError>
     )
 }
 
-/// Puts microseconds as seconds with six digits behind the point.
+/// Puts microseconds as seconds with six decimals.
 #[tactic(auto, using(crate::proofs::Puts::joined))]
 fn put_micros(out: &mut Vec<u8>, micros: u64) -> Result<(), AllocError>
     ensures { OnOk result (out.new.items ≡ out.old.items ++ micros_text micros) }

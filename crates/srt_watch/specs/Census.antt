@@ -1,95 +1,53 @@
--- What the status page shows of an open session, and what sessions counted.
-use Rattle.std.specs.Prelude.{ℕ, ◌+◌, ◌-◌, ◌^◌, ◌==◌, ◌&&◌, min, Bool, Option, None, Some, if◌then◌else◌}
+-- The refusals of a route and of the lobby, as the status page shows them.
+use Rattle.std.specs.Prelude.{ℕ, ◌+◌, ◌-◌, ◌^◌, ◌==◌, ◌&&◌, min, Option, None, Some, if◌then◌else◌}
 use Rattle.srt_seq.specs.declared.shared.Role.TheVariants.{Publish, Request}
 use Rattle.srt_seq.specs.declared.shared.NotAdmitted.{NotAdmitted}
 use Rattle.srt_seq.specs.declared.shared.NotAdmitted.TheVariants.{NoName, UnknownName, Address, Key}
-use Rattle.srt_pub.specs.declared.counts.Counts.{Counts as ReceivedCounts}
-use Rattle.srt_sub.specs.declared.counts.Counts.{Counts as QueuedCounts}
-use Rattle.srt_sub.specs.declared.counts.Sendings.{Sendings}
-use Rattle.srt_route.specs.declared.view.SessionView.{SessionView}
-use Rattle.srt_route.specs.declared.view.Traffic.{Traffic}
-use Rattle.srt_route.specs.declared.view.Traffic.TheVariants.{Received, Sent}
+use Rattle.srt_hs.specs.declared.refusals.RefusalCode.TheVariants as reasons
+use Rattle.srt_route.specs.declared.route.Route.{Route}
+use Rattle.srt_route.specs.declared.refusals.RefusalCause.TheVariants as causes
+use Rattle.srt_route.specs.Ledgers.{refused_in, refused_of}
+use Rattle.srt_status.specs.declared.gateway.RefusalCounts.{RefusalCounts}
 use Rattle.srt_status.specs.declared.gateway.CauseCounts.{CauseCounts}
 use Rattle.srt_status.specs.declared.routes.LimitCounts.{LimitCounts}
-use Rattle.srt_status.specs.declared.routes.PublisherCounts.{PublisherCounts}
-use Rattle.srt_status.specs.declared.routes.SubscriberCounts.{SubscriberCounts}
-use Rattle.srt_status.specs.declared.routes.Flow.{Flow}
-use Rattle.srt_status.specs.declared.routes.Flow.TheVariants.{Publisher, Subscriber}
-use Rattle.srt_status.specs.declared.routes.SessionStatus.{SessionStatus}
-use Rattle.srt_watch.specs.Showing.{latency_of}
 
--- what publishers' sessions counted; repeats are the data packets that are counted under nothing else
-abbrev pub publisher_counts : ReceivedCounts → PublisherCounts
-publisher_counts counts = record {
-  received = counts.received;
-  bytes = counts.bytes;
-  delivered = counts.delivered;
-  repeats = counts.came - counts.received - counts.late - counts.ahead;
-  late = counts.late;
-  ahead = counts.ahead;
-  given_up = counts.given_up;
-  reported_lost = counts.reported_lost;
-  naks = counts.naks;
-  full_window_acks = counts.full_windows;
+-- the conclusions that a route refused, by their codes, and by the limits of the route
+abbrev pub refusals_of : Route → RefusalCounts
+refusals_of route = record {
+  peer = refused_in reasons.Peer route;
+  resource = refused_in reasons.Resource route;
+  rogue = refused_in reasons.Rogue route;
+  version = refused_in reasons.Version route;
+  unsecure = refused_in reasons.Unsecure route;
+  message_api = refused_in reasons.MessageApi route;
+  filter = refused_in reasons.Filter route;
+  group = refused_in reasons.Group route;
 }
 
--- what subscribers' sessions counted
-abbrev pub subscriber_counts : QueuedCounts → Sendings → SubscriberCounts
-subscriber_counts counts sendings = record {
-  queued = counts.queued;
-  bytes = counts.bytes;
-  sent = sendings.fresh;
-  resent = sendings.again;
-  given_up = counts.given_up;
-  naks = counts.naks;
-  misdirected = counts.misdirected;
+abbrev pub limits_of : Route → LimitCounts
+limits_of route = record {
+  sessions = refused_of causes.Resource route;
+  reserved = refused_of causes.Reserved route;
+  sessions_per_address = refused_of causes.Address route;
 }
-
--- what a session does, by its role
-abbrev pub flow_of : (active : Bool) → Traffic → Flow
-flow_of active (Received x) = Publisher (record {
-  active = active;
-  counts = publisher_counts x.counts;
-  window_used = x.in_use;
-  window_available = x.available;
-})
-flow_of active (Sent x) = Subscriber (record {
-  counts = subscriber_counts x.counts x.sendings;
-  free = x.room;
-  in_flight = x.in_flight;
-  flow_window = x.flow_window;
-})
-
-abbrev pub round_trip_of : Traffic → ℕ
-round_trip_of (Received x) = x.rtt
-round_trip_of (Sent x) = x.rtt
-
-abbrev pub variance_of : Traffic → ℕ
-variance_of (Received x) = x.variance
-variance_of (Sent x) = x.variance
-
-abbrev pub session_status : SessionView → SessionStatus
-session_status view = record {
-  peer = view.peer;
-  id = view.id;
-  opened_at = view.opened;
-  heard_at = view.heard;
-  latency_ms = latency_of view.latency_ms;
-  round_trip_us = round_trip_of view.traffic;
-  variance_us = variance_of view.traffic;
-  flow = flow_of view.is_active view.traffic;
-}
-
--- a slot shows the session that is open in it
-abbrev pub slot_status : Option SessionView → Option SessionStatus
-slot_status None = None
-slot_status (Some view) = Some (session_status view)
 
 -- one more, or 2^64 - 1 if that is the count already
 abbrev pub one_more : ℕ → ℕ
 one_more n = min (n + 1) (2 ^ 64 - 1)
 
--- the counts after a caller was refused with 1002, by what stood against it
+-- the counts after a refusal with this code
+abbrev pub with_refusal : RefusalCounts → (code : ℕ) → RefusalCounts
+with_refusal n code =
+    if code == 1002 then record n { peer = one_more n.peer }
+    else (if code == 1003 then record n { resource = one_more n.resource }
+    else (if code == 1004 then record n { rogue = one_more n.rogue }
+    else (if code == 1008 then record n { version = one_more n.version }
+    else (if code == 1011 then record n { unsecure = one_more n.unsecure }
+    else (if code == 1012 then record n { message_api = one_more n.message_api }
+    else (if code == 1014 then record n { filter = one_more n.filter }
+    else (if code == 1015 then record n { group = one_more n.group } else n)))))))
+
+-- the counts after a refusal with 1002, by its reason
 abbrev pub with_cause : CauseCounts → Option NotAdmitted → CauseCounts
 with_cause n None = n
 with_cause n (Some NoName) = record n { no_name = one_more n.no_name }
@@ -99,7 +57,7 @@ with_cause n (Some (Address Request)) = record n { request_from = one_more n.req
 with_cause n (Some (Key Publish)) = record n { publish_key = one_more n.publish_key }
 with_cause n (Some (Key Request)) = record n { request_key = one_more n.request_key }
 
--- what the limits of a route refused between two looks, if `reserved` or `sessions_per_address` refused any
+-- what the limits of a route refused between two snapshots, if `reserved` or `sessions_per_address` refused any
 abbrev pub growth : (before now : LimitCounts) → LimitCounts
 growth before now = record {
   sessions = now.sessions - before.sessions;

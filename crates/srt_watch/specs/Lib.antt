@@ -1,5 +1,5 @@
-pub mod Showing
 pub mod Census
 pub mod ConfigFile
 pub mod Indexes
 pub mod Requests
+pub mod Overview

@@ -1,4 +1,4 @@
-//! The first lines of a log: where the gateway serves, and what is unwise in its configuration.
+//! The first lines of a log: the address of the gateway, and the warnings of its configuration.
 
 use crate::log::{LogWriter, When};
 use crate::machine::Machine;
@@ -10,7 +10,7 @@ use std::io::Write;
 /// The greatest length of a warning, in bytes.
 const MAX_WARNING: usize = 512;
 
-/// What the first line of a log says, and when the gateway stops by itself.
+/// The content of a log's first line, and when the gateway stops by itself.
 #[derive(Clone, Copy)]
 pub struct Start {
     /// The IPv4 address of the socket.
@@ -19,7 +19,7 @@ pub struct Start {
     pub port: u16,
     /// The number of worker threads.
     pub workers: u32,
-    /// Whether SIGINT and SIGTERM are blocked. Where they aren't, a line says what they do.
+    /// Whether SIGINT and SIGTERM are blocked. If not, a line states what they do.
     pub is_blocked: bool,
     /// How long the gateway serves callers, in microseconds; `None` if it doesn't stop by itself.
     pub lasts: Option<u64>,
@@ -27,12 +27,12 @@ pub struct Start {
     pub version: &'static str,
 }
 
-/// What the first lines say, until they are written.
+/// The content of the first lines, until they are written.
 #[derive(Drop)]
 pub(crate) struct FirstLines {
     // none once the first line is written
     start: Option<Start>,
-    // what is unwise in the configuration, until it was told
+    // the warnings of the configuration, until they are written
     warnings: Vec<InlineText<MAX_WARNING>>,
 }
 
@@ -44,7 +44,7 @@ impl FirstLines {
         }
     }
 
-    /// Notes something unwise in the configuration. Allocates; the only error is that it is refused.
+    /// Adds a warning of the configuration. Allocates; the only error is out of memory.
     pub(crate) fn warn<D: Display + Drop>(&mut self, warning: D) -> Result<(), AllocError> {
         match self.warnings.push(InlineText::of(warning)) {
             Ok(()) => Ok(()),
@@ -52,8 +52,8 @@ impl FirstLines {
         }
     }
 
-    // Writes the lines of what is unwise, once.
-    fn tell_warnings<W: Write + Drop>(&mut self, log: &mut LogWriter<W>, when: When) {
+    // Writes the warnings, once.
+    fn log_warnings<W: Write + Drop>(&mut self, log: &mut LogWriter<W>, when: When) {
         for warning in self.warnings.iter() {
             let warning = warning.as_str().as_bytes();
             log.append_always(when, LogEvent::Warned { warning });
@@ -61,9 +61,9 @@ impl FirstLines {
         self.warnings.clear();
     }
 
-    /// Writes the first lines, once all threads run and all memory is taken; returns how long the gateway serves callers
-    /// from now on, if it stops by itself. None if they are written.
-    pub(crate) fn tell<M: Machine, W: Write + Drop>(
+    /// Writes the first lines, once all threads run and all memory is allocated. Returns how long the gateway serves callers
+    /// from now on, if it stops by itself. None if the lines were written before.
+    pub(crate) fn log<M: Machine, W: Write + Drop>(
         &mut self,
         machine: &M,
         log: &mut LogWriter<W>,
@@ -76,12 +76,12 @@ impl FirstLines {
         if !start.is_blocked {
             log.append_always(when, LogEvent::Unblocked);
         }
-        self.tell_warnings(log, when);
+        self.log_warnings(log, when);
         start.lasts
     }
 }
 
-// That the gateway serves callers.
+// Returns the event that the gateway serves callers.
 fn started(start: Start, routes: u32, memory: u64) -> LogEvent<'static> {
     LogEvent::Started {
         ip: start.ip,

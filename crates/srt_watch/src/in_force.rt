@@ -11,15 +11,15 @@ use srt_explain::explain;
 use std::alloc::{AllocError, Global};
 use std::fmt::InlineText;
 
-/// A configuration that can be taken while the gateway runs.
+/// A valid configuration that differs from the one in force at no fixed key.
 #[derive(Drop)]
 pub(crate) struct Wanted {
     pub config: Config,
-    /// What it changes of the one in force.
+    /// What differs from the one in force.
     pub changes: Changes,
 }
 
-/// Why what the configuration's file says isn't taken.
+/// Why the content of the configuration's file isn't taken.
 #[derive(Clone, Copy)]
 pub(crate) enum NotTaken {
     /// It can't be read, for this reason.
@@ -33,9 +33,9 @@ pub(crate) enum NotTaken {
 /// The configuration in force.
 #[derive(Drop)]
 pub(crate) struct InForce<'a> {
-    // the one that the gateway was started with
+    // the one with which the gateway was started
     first: &'a Config,
-    // the index of each route of the one in force, in its order
+    // the indexes of the routes of the one in force, in its order
     indexes: Vec<usize>,
     // the one that was taken last, if one was
     later: Option<Config>,

@@ -12,7 +12,7 @@ use srt_log::ChangeSummary;
 use srt_seq::Entry;
 use std::alloc::{AllocError, Global};
 
-// The index of the route at a place; every place that is asked for is one of a route.
+// Returns the index of the route at a place. Callers pass places of routes alone.
 fn index_at(indexes: &[usize], place: usize) -> usize
     ensures { result ≡ index_at indexes.now place }
 {
@@ -65,8 +65,8 @@ fn append_reopened(
     Ok(())
 }
 
-/// The indexes of the routes that close: first those whose names the changed configuration doesn't have, then those that
-/// open again. `indexes` has those of the routes before. Allocates the list; an error if memory is refused.
+/// Returns the indexes of the routes that close: first those whose names the changed configuration doesn't have, then those
+/// that open again. `indexes` has the indexes of the routes before. Allocates the list; the only error is out of memory.
 #[tactic(auto, using(crate::proofs::Appended::joined), unfolding(crate::specs::Indexes::closing))]
 pub(crate) fn closing(
     alloc: Global,
@@ -81,7 +81,7 @@ pub(crate) fn closing(
     Ok(closes)
 }
 
-// The index of a route of a changed configuration, if the next one to be given is this.
+// Returns the index of a route of a changed configuration. `next` is the next index to be used.
 fn index_of(before: &[usize], next: usize, change: RouteChange) -> usize
     ensures { result ≡ index_of before.now next change }
 {
@@ -139,7 +139,7 @@ pub(crate) fn fill_indexes(
     indexes
 }
 
-// The numbers with one route more.
+// Counts one more route.
 fn counted(numbers: ChangeSummary, change: RouteChange) -> ChangeSummary
     ensures { result ≡ counted numbers change }
 {
@@ -159,7 +159,7 @@ fn counted(numbers: ChangeSummary, change: RouteChange) -> ChangeSummary
     }
 }
 
-// These numbers with all of these routes.
+// Counts all of these routes.
 #[tactic(auto, using(crate::proofs::Appended::counted_step, crate::proofs::Appended::counted_end))]
 fn counted_all(start: ChangeSummary, changes: &[RouteChange]) -> ChangeSummary
     ensures { result ≡ counted_all start changes.now }
@@ -173,7 +173,7 @@ fn counted_all(start: ChangeSummary, changes: &[RouteChange]) -> ChangeSummary
     numbers
 }
 
-/// How many routes of each kind a changed configuration has.
+/// Returns the number of routes of each kind in a changed configuration.
 pub(crate) fn numbers_of(changes: &Changes) -> ChangeSummary
     ensures { result ≡ numbers_of changes.now.gone.items changes.now.routes.items }
 {
@@ -198,7 +198,7 @@ const FIRST_MARK: usize = 400;
 
 const MARK_STEP: usize = 25;
 
-// The number of marks that so many used indexes have reached.
+// Returns the number of marks that this many used indexes have reached.
 fn mark_of(used: usize) -> usize
     ensures { result ≡ mark_of used }
 {
@@ -220,8 +220,8 @@ const PACKET_BYTES: u64 = 1536;
 
 const MEGABYTE: u64 = 1 << 20;
 
-/// What a route takes of memory, in megabytes of 1,048,576 bytes, to the nearest: the windows of its sessions and of two
-/// publishers' deliveries, replies and outbox, 1.5 KB for each packet.
+/// Returns the memory of a route, in megabytes of 1,048,576 bytes, to the nearest: the windows of its sessions and of two
+/// publishers' deliveries, its replies and its outbox, 1.5 KB for each packet.
 pub(crate) fn megabytes_of(entry: &Entry) -> u64
     ensures { result ≡ megabytes_of (terms_of entry.now) }
 {

@@ -1,25 +1,27 @@
-//! Who watches a gateway that runs: it tells a log what happens, asks for the routes that a changed configuration opens and
-//! closes, and says when the gateway stops.
+//! The watcher of a gateway: it logs what happens, shows the status page, requests the changes of a changed configuration, and
+//! stops the gateway.
 //!
-//! A watcher reads what `srt_serve` shows it: each route under its claim, twice a second, and each conclusion that was
-//! refused. Once a second it looks whether the configuration's file has changed, and asks the run for what it says. Nothing
-//! that a route does waits for it, and nothing here changes what a route does. It opens no file and reads no clock: its
-//! `Machine` and its `ConfigFile` do.
+//! A watcher gets from `srt_serve` each route under its claim, twice a second, and each refused conclusion. Once a second it
+//! polls the configuration's file, and requests its changes of the run. No route waits for it, and nothing here changes what a
+//! route does. It opens no file and reads no clock: its `Machine` and its `ConfigFile` do.
 //!
-//! Types: `Watcher`, the one that `srt_serve::run_until` is given; `Machine`, what it asks of the machine, and `ConfigFile`,
-//! the configuration's file; `StatusServer`, where it shows what it saw, `NoStatusServer` if nowhere; `Start`, what its
-//! first line says, and when it stops by itself.
+//! Types: `Watcher` implements `srt_supervision::Watch`. `Machine` and `ConfigFile` are what it needs of the machine and of the
+//! configuration's file, `StatusServer` is where it shows the status, and `NoStatusServer` shows none. `Start` is the content of
+//! its first line, and when the gateway stops by itself.
 //!
-//! Files: `watcher.rt` has its rests and looks, and hands each to the part that it is about: `course.rt` says when the routes
-//! are looked at and when the gateway stops, `page.rt` shows `overview.rt`'s gateway and `watched_routes.rt`'s routes, and
-//! `log.rt` writes lines, 50 a second at most: those of the start (`first_lines.rt`), of the socket's faults and lost datagrams
-//! (`losses.rt`), of sessions (`route_lines.rt`) and of a changed configuration (`config_lines.rt`). `showing.rt` turns sessions
-//! of a route into what the log has of them, `census.rt` into what the status page shows. `following.rt` asks the run for what
-//! a changed configuration says, and takes or forgets it: `watched_file.rt` says what is new in the file, and by `config_file.rt`
-//! when it is read; `in_force.rt` has the configuration in force and compares it with the file's; `requested_change.rt` has a change
-//! with all that it takes of memory; `indexes.rt` says which routes of the run close and which indexes the others have.
-//! `machine.rt`, `status_server.rt` and `config_file.rt` have the traits. The words of each line are `srt_log`'s, those of the
-//! page `srt_status`'s, what a changed configuration asks is `srt_config`'s, and when a stop is over is `srt_operate`'s.
+//! Files: `watcher.rt` has the calls of `Watch`, and passes each to the part that it is about.
+//! - When: `course.rt` has the times of snapshots, and the stop.
+//! - Log: `log.rt` writes lines, at most 50 a second. Their events are of the start (`first_lines.rt`), of the socket's faults
+//!   and lost datagrams (`losses.rt`), of sessions (`route_lines.rt`) and of a changed configuration (`change_log.rt`).
+//! - Page: `page.rt` shows the gateway (`overview.rt`) and its routes (`watched_routes.rt`). `showing.rt` takes the snapshots of
+//!   a route, `census.rt` counts refusals.
+//! - Reload: `following.rt` requests the change of a changed configuration, and puts it in force. `watched_file.rt` finds what
+//!   is new in the file, by the rule of `config_file.rt`. `in_force.rt` has the configuration in force and compares it with the
+//!   file's. `prepared_change.rt` is a change with all memory that it needs, and `indexes.rt` has which routes close and which
+//!   indexes the others get.
+//!
+//! `machine.rt`, `status_server.rt` and `config_file.rt` have the traits. The words of each line are in `srt_log`, those of the
+//! page in `srt_status`, the changes of a configuration in `srt_config`, and the steps of a stop in `srt_operate`.
 #![tactic(auto)]
 
 mod census;

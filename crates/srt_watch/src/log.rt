@@ -102,7 +102,7 @@ impl<W: Write + Drop> LogWriter<W> {
 
     /// Writes how many lines the last second left out, once, after its end.
     pub fn end_second(&mut self, when: When) {
-        let count = self.limit.look(when.moment);
+        let count = self.limit.poll(when.moment);
         let missed = self.missed_by(when.moment);
         self.append_left_out(when, count.saturating_add(missed));
     }

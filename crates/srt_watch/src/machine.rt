@@ -1,26 +1,25 @@
-//! What a watcher asks of the machine.
+//! The machine that a watcher runs on.
 
-/// What a watcher asks of the machine. No clause says what it answers.
+/// Clocks, signals and counters of the machine. No clause is about their values.
 pub trait Machine {
     /// Rests for some milliseconds.
     fn rest(&self);
 
     /// Rests for a millisecond.
-    fn nap(&self);
+    fn pause(&self);
 
-    /// The present moment, in microseconds of the clock that the routes have.
+    /// Reads the routes' clock, in microseconds.
     fn moment(&mut self) -> u64;
 
-    /// The present time, in microseconds since 1970.
+    /// Reads the system's clock, in microseconds since 1970.
     fn time(&self) -> u64;
 
-    /// Whether the gateway is asked to stop.
-    fn stop_asked(&self) -> bool;
+    /// Whether a signal to stop has arrived.
+    fn stop_requested(&self) -> bool;
 
-    /// The memory that the gateway has, in bytes; `None` if that isn't known.
+    /// Returns the memory of the process, in bytes; `None` if that isn't known.
     fn memory(&self) -> Option<u64>;
 
-    /// The number of datagrams so far that the kernel dropped at the gateway's socket; `None` if that isn't
-    /// known.
+    /// Returns the number of datagrams so far that the kernel dropped at the gateway's socket; `None` if that isn't known.
     fn drops(&self) -> Option<u64>;
 }

@@ -1,29 +1,47 @@
 //! The gateway as a whole, as the status page shows it.
 
+ghost use Rattle.std.specs.Prelude.{◌≡◌, ◌-◌, nat_lt};
+ghost use Rattle.srt_watch.specs.Census.{with_refusal, with_cause};
+ghost use Rattle.srt_watch.specs.Overview.{after_report, changes_with};
+
 use crate::census::{count_cause, count_refusal};
 use srt_seq::NotAdmitted;
-use srt_status::{CauseCounts, ChangeCounts, GatewayStatus, PollerCounts, RefusalCounts};
+use srt_status::{CauseCounts, ChangeCounts, GatewayStatus, RefusalCounts};
+use srt_supervision::{Report, RunStatus};
 
-/// The time without a round after which the poller is said not to run, in microseconds.
+/// The time without a report after which the poller counts as stalled, in microseconds.
 const ROUND_MISSED: u64 = 2_000_000;
 
-/// What the poller told last.
+/// The poller's last report.
 #[derive(Clone, Copy)]
 struct PollerReport {
-    counts: PollerCounts,
-    // how often it told its counts, and the moment at which it did so last
+    counts: Report,
+    // the number of reports, and the time of the last one
     reports: u64,
     reported_at: u64,
 }
 
-/// The gateway as a whole, as the last look had it.
+impl PollerReport {
+    // Notes the counters that a run has at this time.
+    fn note(&mut self, moment: u64, status: RunStatus)
+        ensures { self.new ≡ after_report self.old moment status }
+    {
+        self.counts = status.counts;
+        if status.reports != self.reports {
+            self.reports = status.reports;
+            self.reported_at = moment;
+        }
+    }
+}
+
+/// The gateway as a whole, at the last snapshot.
 #[derive(Clone, Copy)]
 pub(crate) struct Overview {
     /// The datagrams dropped by the kernel; `None` if that isn't known.
     pub drops: Option<u64>,
-    /// The memory that the gateway has, in bytes; `None` if that isn't known.
+    /// The memory of the process, in bytes; `None` if that isn't known.
     pub memory: Option<u64>,
-    /// What became of changes of the configuration. Its indexes are counted when they are shown.
+    /// The counts of changes of the configuration. `indexes` is set by `status`.
     pub changes: ChangeCounts,
     // the refusals of the lobby
     refused: RefusalCounts,
@@ -32,7 +50,7 @@ pub(crate) struct Overview {
 }
 
 impl Overview {
-    /// A gateway that did nothing yet.
+    /// Returns the one of a gateway that begins.
     pub(crate) fn new() -> Overview {
         Overview {
             drops: None,
@@ -41,36 +59,46 @@ impl Overview {
             refused: RefusalCounts::default(),
             causes: CauseCounts::default(),
             poller: PollerReport {
-                counts: PollerCounts::default(),
+                counts: Report::NOTHING,
                 reports: 0,
                 reported_at: 0,
             },
         }
     }
 
-    /// Notes what the poller counted, and how often it told that.
-    pub(crate) fn note_poller(&mut self, moment: u64, counts: PollerCounts, reports: u64) {
-        if reports != self.poller.reports {
-            self.poller.reports = reports;
-            self.poller.reported_at = moment;
-        }
-        self.poller.counts = counts;
+    /// Notes the poller's counters, and the time if they are of a new report.
+    pub(crate) fn note_poller(&mut self, moment: u64, status: RunStatus)
+        ensures { self.new.poller ≡ after_report self.old.poller moment status }
+    {
+        self.poller.note(moment, status);
     }
 
     /// Counts a refusal by the lobby.
-    pub(crate) fn count_refusal(&mut self, code: u32, cause: Option<NotAdmitted>) {
+    pub(crate) fn count_refusal(&mut self, code: u32, cause: Option<NotAdmitted>)
+        ensures refused { self.new.refused ≡ with_refusal self.old.refused code }
+        ensures causes { self.new.causes ≡ with_cause self.old.causes cause }
+    {
         count_refusal(&mut self.refused, code);
         count_cause(&mut self.causes, cause);
     }
 
-    /// What the page shows at this moment of a gateway that has so many routes, and has used so many indexes.
+    /// Returns the status at this time of a gateway that has this many routes, and has used this many indexes.
     pub(crate) fn status<'v>(
         &self,
         version: &'v str,
         moment: u64,
         routes: usize,
         indexes: usize,
-    ) -> GatewayStatus<'v> {
+    ) -> GatewayStatus<'v>
+        ensures polling { result.polling ≡ nat_lt (moment - self.now.poller.reported_at) 2_000_000 }
+        ensures poller { result.poller ≡ self.now.poller.counts }
+        ensures refused { result.refused ≡ self.now.refused }
+        ensures causes { result.causes ≡ self.now.causes }
+        ensures changes { result.changes ≡ changes_with indexes self.now.changes }
+        ensures moment { result.moment ≡ moment }
+        ensures kernel { result.kernel_drops ≡ self.now.drops }
+        ensures memory { result.resident_bytes ≡ self.now.memory }
+    {
         GatewayStatus {
             version,
             uptime_seconds: moment / 1_000_000,

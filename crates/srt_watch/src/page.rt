@@ -1,15 +1,15 @@
-//! The page that a watcher shows what it saw, and its rests, in which the page is served.
+//! The status page, and the rests of the watcher, in which the page is served.
 
 use crate::machine::Machine;
 use crate::overview::Overview;
 use crate::status_server::StatusServer;
 use crate::watched_routes::WatchedRoutes;
 
-/// The most naps in place of a rest, while somebody is connected to the page, and the time after which they end, in
-/// microseconds: a response may take longer than a nap.
-const MAX_NAPS: u32 = 20;
+/// The most pauses in place of a rest, while a client is connected to the page, and the time after which they end, in
+/// microseconds. A response may take longer than a pause.
+const MAX_PAUSES: u32 = 20;
 
-const MAX_NAPPING: u64 = 20_000;
+const MAX_PAUSING: u64 = 20_000;
 
 /// The status page of a program with this version.
 #[derive(Drop)]
@@ -23,14 +23,14 @@ impl<P: StatusServer + Drop> Page<P> {
         Page { server, version }
     }
 
-    /// Shows what the last look saw.
+    /// Serves the page, with the last snapshots.
     pub(crate) fn show(&mut self, moment: u64, overview: &Overview, routes: &WatchedRoutes) {
         let shown = routes.shown();
         let gateway = overview.status(self.version, moment, shown.len(), routes.used());
         self.server.serve(&gateway, shown);
     }
 
-    /// Rests; while somebody is connected to the page, by naps, and serves it after each.
+    /// Rests. While a client is connected to the page, rests by pauses, and serves the page after each.
     pub(crate) fn rest<M: Machine>(
         &mut self,
         machine: &mut M,
@@ -41,9 +41,9 @@ impl<P: StatusServer + Drop> Page<P> {
             machine.rest();
             return;
         }
-        let ends = machine.moment().saturating_add(MAX_NAPPING);
-        for _ in 0..MAX_NAPS {
-            machine.nap();
+        let ends = machine.moment().saturating_add(MAX_PAUSING);
+        for _ in 0..MAX_PAUSES {
+            machine.pause();
             self.show(machine.moment(), overview, routes);
             if machine.moment() >= ends {
                 return;

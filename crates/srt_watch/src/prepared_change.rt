@@ -83,7 +83,7 @@ impl Opens {
     }
 
     // The routes of a configuration that open by these changes. Allocates; the error names the route for which that failed.
-    #[tactic(auto, using(crate::proofs::Appended::opened_step, crate::proofs::Appended::opened_end, crate::proofs::Appended::opened_last, crate::proofs::Appended::joined))]
+    #[tactic(auto, using(crate::proofs::Appended::opened_step, crate::proofs::Appended::joined))]
     fn of(alloc: Global, config: &Config, changes: &Changes) -> Result<Opens, NoRoom>
         ensures { IfOk result (λ o. map terms_of o.entries.items ≡ opened_by changes.now.routes.items (map terms_of config.now.entries.items)) }
     {

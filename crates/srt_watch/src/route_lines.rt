@@ -1,4 +1,4 @@
-//! The lines of what two looks at a route tell apart.
+//! The lines of what changed between two snapshots of a route.
 
 use crate::log::{LogWriter, When};
 use crate::watched_routes::{SnapshotPair, WatchedRoutes};
@@ -7,38 +7,38 @@ use srt_status::LimitCounts;
 use std::io::Write;
 
 // Writes the line of a change.
-fn tell_change<W: Write + Drop>(
+fn log_change<W: Write + Drop>(
     log: &mut LogWriter<W>,
     when: When,
     name: &[u8],
-    looks: &SnapshotPair,
+    pair: &SnapshotPair,
     change: Change,
 ) {
-    if let Some(event) = event_of(name, &looks.old, &looks.new, change) {
+    if let Some(event) = event_of(name, &pair.old, &pair.new, change) {
         log.append(when, event);
     }
 }
 
-/// Writes the lines of what changed between two looks at the route with this index, and counts its take-overs.
-pub(crate) fn tell_changes<W: Write + Drop>(
+/// Writes the lines of what changed between two snapshots of the route with this index, and counts its take-overs.
+pub(crate) fn log_changes<W: Write + Drop>(
     log: &mut LogWriter<W>,
     when: When,
     routes: &mut WatchedRoutes,
     index: usize,
-    looks: &SnapshotPair,
+    pair: &SnapshotPair,
 ) {
     for step in 0..STEPS {
-        if let Some(change) = change_at(&looks.old, &looks.new, step) {
+        if let Some(change) = change_at(&pair.old, &pair.new, step) {
             if let Change::TookOver { .. } = change {
                 routes.count_take_over(index);
             }
-            tell_change(log, when, routes.name_of(index).as_bytes(), looks, change);
+            log_change(log, when, routes.name_of(index).as_bytes(), pair, change);
         }
     }
 }
 
-/// Tells how many conclusions each limit of the route with this name refused since the look before.
-pub(crate) fn tell_limits<W: Write + Drop>(
+/// Writes how many conclusions each limit of the route with this name refused since the last snapshot.
+pub(crate) fn log_limits<W: Write + Drop>(
     log: &mut LogWriter<W>,
     when: When,
     route: &[u8],

@@ -1,17 +1,17 @@
-//! Where a watcher shows what it saw.
+//! Where a watcher shows the status.
 
 use srt_status::{GatewayStatus, RouteStatus};
 
-/// Who shows others what a watcher saw: a status page. No clause says what it does.
+/// A server of the status page. No clause is about it.
 pub trait StatusServer {
-    /// Whether somebody is connected, so that the watcher rests for shorter times.
+    /// Whether a client is connected, so that the watcher rests for shorter times.
     fn is_awaited(&self) -> bool;
 
-    /// Answers those who have asked, and waits for nobody. Called after each rest of the watcher, with what it saw last.
+    /// Responds to pending requests, without waiting. Called after each rest of the watcher, with the last snapshots.
     fn serve(&mut self, gateway: &GatewayStatus<'_>, routes: &[RouteStatus]);
 }
 
-/// No page: nobody asks.
+/// No page.
 #[derive(Clone, Copy, Drop)]
 pub struct NoStatusServer;
 

@@ -1,16 +1,41 @@
 //! The routes of a run, by their indexes, and the status of those in the configuration in force.
 
 use crate::census::{grown_limits, note_route};
-use crate::showing::{look_at, look_at_none};
+use crate::showing::{first_snapshot, sessions_of, snapshot_of};
 use srt_config::RouteChange;
 use srt_log::RouteSnapshot;
-use srt_route::Route;
+use srt_route::{Route, Totals};
 use srt_seq::limits::MAX_SESSIONS;
 use srt_seq::{Entry, Mode};
-use srt_status::{LimitCounts, PublisherCounts, RefusalCounts, RouteStatus, SubscriberCounts};
+use srt_status::{LimitCounts, RefusalCounts, RouteStatus};
+use srt_sub::Sendings;
 use std::alloc::{AllocError, Global};
 use std::mem;
 use std::vec::IntoIter;
+
+// The totals of a route without sessions.
+const NO_TOTALS: Totals = Totals {
+    received: srt_pub::Counts {
+        came: 0,
+        late: 0,
+        ahead: 0,
+        received: 0,
+        bytes: 0,
+        delivered: 0,
+        given_up: 0,
+        naks: 0,
+        reported_lost: 0,
+        full_windows: 0,
+    },
+    queued: srt_sub::Counts {
+        queued: 0,
+        bytes: 0,
+        naks: 0,
+        given_up: 0,
+        misdirected: 0,
+    },
+    sent: Sendings { fresh: 0, again: 0 },
+};
 
 // A route of the run.
 #[derive(Drop)]
@@ -62,8 +87,7 @@ fn empty_status(alloc: Global, mode: Mode, sessions: u32) -> RouteStatus {
         mode,
         sessions_allowed: sessions,
         sessions: [None; MAX_SESSIONS],
-        publishers: PublisherCounts::default(),
-        subscribers: SubscriberCounts::default(),
+        totals: NO_TOTALS,
         opened: 0,
         refused: RefusalCounts::default(),
         limits: None,
@@ -162,12 +186,13 @@ impl WatchedRoutes {
         moment: u64,
         stops: bool,
     ) -> Option<SnapshotPair> {
-        let new = look_at(route, moment, stops);
+        let sessions = sessions_of(route);
+        let new = snapshot_of(route, &sessions, moment, stops);
         let old = self.replace_snapshot(index, new)?;
         let grown = match self.status_of(index) {
             Some(status) => {
                 let before = status.limits.unwrap_or(LimitCounts::default());
-                note_route(route, status);
+                note_route(route, &sessions, status);
                 grown_limits(before, status.limits)
             }
             None => None,
@@ -203,7 +228,7 @@ impl WatchedRoutes {
         let _ = self.routes.push(WatchedRoute {
             index,
             name,
-            snapshot: look_at_none(),
+            snapshot: first_snapshot(),
             place: None,
         });
         status

@@ -1,4 +1,4 @@
-//! A watcher: its rests, its looks, what it asks of the run when the configuration changes, and how it stops the gateway.
+//! A watcher: its rests and snapshots, the changes that it requests of the run, and how it stops the gateway.
 
 use crate::change_log::ChangeLog;
 use crate::config_file::ConfigFile;
@@ -10,7 +10,7 @@ use crate::losses::Losses;
 use crate::machine::Machine;
 use crate::overview::Overview;
 use crate::page::Page;
-use crate::route_lines::{tell_changes, tell_limits};
+use crate::route_lines::{log_changes, log_limits};
 use crate::status_server::StatusServer;
 use crate::watched_routes::WatchedRoutes;
 use srt_config::Config;
@@ -18,38 +18,22 @@ use srt_log::{LogEvent, StopCause};
 use srt_operate::StopStep;
 use srt_route::Route;
 use srt_seq::Entry;
-use srt_status::PollerCounts;
-use srt_supervision::{ChangeRoutes, Order, Refusal, Report, RunStatus, Watch};
+use srt_supervision::{ChangeRoutes, Order, Refusal, RunStatus, Watch};
 use std::alloc::{AllocError, Global};
 use std::fmt::Display;
 use std::io::Write;
 use std::mem;
 
-fn counts_of_poller(report: &Report) -> PollerCounts {
-    PollerCounts {
-        read: report.read,
-        answered: report.answered,
-        accepted: report.accepted,
-        full: report.full,
-        dropped: report.dropped,
-        not_allowed: report.not_allowed,
-        memory: report.memory,
-        sent: report.sent,
-        lost: report.lost,
-        faults: report.faults,
-    }
-}
-
-/// The name that a refused conclusion asked for: of a route's, that of the route.
-fn name_asked<'v>(routes: &'v WatchedRoutes, refusal: &'v Refusal) -> &'v [u8] {
+// Returns the name that a refused conclusion requested. If a route refused it, that is the route's name.
+fn requested_name<'v>(routes: &'v WatchedRoutes, refusal: &'v Refusal) -> &'v [u8] {
     match refusal.route {
         Some(route) => routes.name_of(route).as_bytes(),
         None => refusal.name.as_slice(),
     }
 }
 
-/// Who watches a gateway: it tells a log of sessions, refusals and faults, shows a page what it saw, asks for the routes that
-/// a changed configuration opens and closes, and stops the gateway when the machine asks for that or its time is over.
+/// The watcher of a gateway. It logs sessions, refusals and faults, shows the status page, requests the changes of a changed
+/// configuration, and stops the gateway on a signal or after its time.
 #[derive(Drop)]
 pub struct Watcher<'a, M: Drop, W: Drop, P: Drop, F: Drop> {
     alloc: Global,
@@ -59,7 +43,7 @@ pub struct Watcher<'a, M: Drop, W: Drop, P: Drop, F: Drop> {
     first_lines: FirstLines,
     losses: Losses,
     page: Page<P>,
-    // the gateway as a whole, and the routes of the run, at the last look
+    // the gateway as a whole, and the routes of the run, at the last snapshot
     overview: Overview,
     routes: WatchedRoutes,
     // the configuration's file; none if it isn't followed
@@ -73,9 +57,9 @@ where
     P: StatusServer + Drop,
     F: ConfigFile + Drop,
 {
-    /// A watcher of the routes of these entries, which have the indexes from 0 on in their order. It writes its lines to
-    /// `out`, with the time in front of each if it `is_timed`, and shows what it saw to `page`. Allocates 7 KB for each
-    /// route; the only error is that memory is refused.
+    /// Returns a watcher of the routes of these entries, which have the indexes from 0 on in their order. It writes its lines
+    /// to `out`, each with its time in front if it `is_timed`, and shows the status to `page`. Allocates 7 KB for each
+    /// route; the only error is out of memory.
     pub fn open(
         alloc: Global,
         machine: M,
@@ -100,60 +84,58 @@ where
         })
     }
 
-    /// Follows the configuration's file from now on: `config` is the one that was read from it, and the watcher's routes
-    /// are its. Allocates 8 bytes for each route; the only error is that memory is refused.
+    /// Follows the configuration's file from now on. `config` is what was read from it, and has the watcher's routes.
+    /// Allocates 8 bytes for each route; the only error is out of memory.
     pub fn follow(&mut self, config: &'a Config, file: F) -> Result<(), AllocError> {
         let following = Following::new(self.alloc, config, file)?;
         mem::drop(self.following.replace(following));
         Ok(())
     }
 
-    /// The name of the route with this index, whether it was closed or not; empty if there is none.
+    /// Returns the name of the route with this index, closed or not; empty if there is none.
     pub fn name_of(&self, index: usize) -> &str {
         self.routes.name_of(index)
     }
 
-    /// Notes something unwise in the configuration, in 512 bytes at most, to be told behind the first line. Allocates;
-    /// the only error is that it is refused.
+    /// Adds a warning of the configuration, of at most 512 bytes, to be written after the first line. Allocates; the only
+    /// error is out of memory.
     pub fn warn<D: Display + Drop>(&mut self, warning: D) -> Result<(), AllocError> {
         self.first_lines.warn(warning)
     }
 
-    // Writes the first lines, once all threads run and all memory is taken.
+    // Writes the first lines, once all threads run and all memory is allocated.
     fn begin(&mut self, when: When) {
         let routes = u32::try_from(self.routes.shown().len()).unwrap_or(u32::MAX);
         let lasts = self
             .first_lines
-            .tell(&self.machine, &mut self.log, when, routes);
+            .log(&self.machine, &mut self.log, when, routes);
         if let Some(lasts) = lasts {
             self.course.end_after(when.moment, lasts);
         }
     }
 
-    // Takes in what is told: faults of the socket and the counts of the poller, for the next look, and refusals that nobody
-    // was told.
-    fn take_in(&mut self, moment: u64, told: RunStatus) {
-        self.overview
-            .note_poller(moment, counts_of_poller(&told.counts), told.reports);
-        self.log.miss(self.losses.note_missed(told.missed));
-        self.losses.note_faults(told.faults);
+    // Notes the state of the run: the poller's counters and the socket's faults, and refusals that weren't reported.
+    fn note_status(&mut self, moment: u64, status: RunStatus) {
+        self.overview.note_poller(moment, status);
+        self.log.miss(self.losses.note_missed(status.missed));
+        self.losses.note_faults(status.faults);
     }
 
-    // Tells how many faults the socket had since the last such line, and how many datagrams the kernel dropped.
-    fn tell_losses(&mut self, when: When) {
+    // Logs the socket's faults and the datagrams that the kernel dropped since the last such lines.
+    fn log_losses(&mut self, when: When) {
         let drops = self.machine.drops();
         self.overview.drops = drops;
-        self.losses.tell(&mut self.log, when, drops);
+        self.losses.log(&mut self.log, when, drops);
     }
 
-    // Notes that a stop is asked for, once.
-    fn look_for_stop(&mut self, when: When) {
+    // Logs a requested stop, once.
+    fn check_stop(&mut self, when: When) {
         if let Some(by) = self.course.stop(&self.machine, when.moment) {
-            self.log.append_always(when, LogEvent::StopAsked { by });
+            self.log.append_always(when, LogEvent::StopRequested { by });
         }
     }
 
-    // Shows the page what the last look saw.
+    // Serves the page, with the last snapshots.
     fn serve_page(&mut self) {
         let moment = self.machine.moment();
         self.page.show(moment, &self.overview, &self.routes);
@@ -164,9 +146,9 @@ where
         let when = When::now(&mut self.machine);
         if !self.course.is_stopping() {
             let by = StopCause::Rounds;
-            self.log.append_always(when, LogEvent::StopAsked { by });
+            self.log.append_always(when, LogEvent::StopRequested { by });
         }
-        self.tell_losses(when);
+        self.log_losses(when);
         self.log.end(when);
         self.log.append_always(when, LogEvent::Stopped);
     }
@@ -179,16 +161,16 @@ where
     P: StatusServer + Drop,
     F: ConfigFile + Drop,
 {
-    fn next(&mut self, told: RunStatus) -> Order {
+    fn next(&mut self, status: RunStatus) -> Order {
         self.page
             .rest(&mut self.machine, &self.overview, &self.routes);
         let when = When::now(&mut self.machine);
         self.begin(when);
-        self.take_in(when.moment, told);
+        self.note_status(when.moment, status);
         self.log.end_second(when);
-        self.look_for_stop(when);
+        self.check_stop(when);
         self.serve_page();
-        match self.course.step(when.moment, told.is_quiet) {
+        match self.course.step(when.moment, status.is_quiet) {
             StopStep::GoOn => Order::GoOn,
             StopStep::Close => Order::CloseAll,
             StopStep::End => Order::End,
@@ -197,10 +179,10 @@ where
 
     fn wants_routes(&mut self) -> bool {
         let when = When::now(&mut self.machine);
-        if !self.course.looks(when.moment) {
+        if !self.course.is_snapshot_due(when.moment) {
             return false;
         }
-        self.tell_losses(when);
+        self.log_losses(when);
         self.overview.memory = self.machine.memory();
         true
     }
@@ -208,10 +190,10 @@ where
     fn show_route(&mut self, index: usize, route: &Route) {
         let when = When::now(&mut self.machine);
         let stops = self.course.is_stopping();
-        if let Some(looks) = self.routes.observe(index, route, when.moment, stops) {
-            tell_changes(&mut self.log, when, &mut self.routes, index, &looks);
+        if let Some(pair) = self.routes.observe(index, route, when.moment, stops) {
+            log_changes(&mut self.log, when, &mut self.routes, index, &pair);
             let name = self.routes.name_of(index).as_bytes();
-            tell_limits(&mut self.log, when, name, looks.grown);
+            log_limits(&mut self.log, when, name, pair.grown);
         }
     }
 
@@ -225,7 +207,7 @@ where
             LogEvent::Refused {
                 code: refusal.code,
                 peer: refusal.peer,
-                asked: name_asked(&self.routes, refusal),
+                name: requested_name(&self.routes, refusal),
                 by: refusal.cause,
             },
         );

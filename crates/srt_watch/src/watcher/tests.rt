@@ -10,12 +10,9 @@ mod changing;
 use crate::{Machine, Start, StatusServer, Watcher};
 use arrayvec::ArrayVec;
 use changing::Written;
-use srt_route::{Reply, Route};
+use srt_route::{Reply, Route, SessionView, Totals, Traffic};
 use srt_seq::{Access, Entry, Item, Mode, NotAdmitted, Peer, Role, Rules};
-use srt_status::{
-    CauseCounts, ChangeCounts, Flow, GatewayStatus, PollerCounts, PublisherCounts, RefusalCounts,
-    RouteStatus, SessionStatus,
-};
+use srt_status::{CauseCounts, ChangeCounts, GatewayStatus, RefusalCounts, RouteStatus};
 use srt_supervision::{Order, Refusal, Report, RunStatus, Watch};
 use std::alloc::Global;
 use std::process::Abort;
@@ -59,7 +56,7 @@ struct Set {
 impl Machine for Set {
     fn rest(&self) {}
 
-    fn nap(&self) {}
+    fn pause(&self) {}
 
     fn moment(&mut self) -> u64 {
         self.moment
@@ -70,7 +67,7 @@ impl Machine for Set {
         self.moment.saturating_add(1_795_705_445_123_000)
     }
 
-    fn stop_asked(&self) -> bool {
+    fn stop_requested(&self) -> bool {
         self.stops
     }
 
@@ -87,14 +84,14 @@ impl Machine for Set {
 #[derive(Drop)]
 struct Shown {
     polling: bool,
-    poller: PollerCounts,
+    poller: Report,
     uptime_seconds: u64,
     kernel_drops: Option<u64>,
     resident_bytes: Option<u64>,
     refused: RefusalCounts,
     causes: CauseCounts,
-    publishers: PublisherCounts,
-    first: Option<SessionStatus>,
+    totals: Option<Totals>,
+    first: Option<SessionView>,
     opened: u64,
     take_overs: Option<u64>,
     changes: ChangeCounts,
@@ -107,13 +104,13 @@ impl Shown {
     fn nothing() -> Shown {
         Shown {
             polling: false,
-            poller: PollerCounts::default(),
+            poller: Report::NOTHING,
             uptime_seconds: 0,
             kernel_drops: None,
             resident_bytes: None,
             refused: RefusalCounts::default(),
             causes: CauseCounts::default(),
-            publishers: PublisherCounts::default(),
+            totals: None,
             first: None,
             opened: 0,
             take_overs: None,
@@ -146,7 +143,7 @@ impl StatusServer for Shown {
                 .try_extend_from_slice(route.name.as_bytes().first_chunk::<1>().unwrap_or(b"-"));
         }
         if let Some(route) = routes.first() {
-            self.publishers = route.publishers;
+            self.totals = Some(route.totals);
             self.first = route.sessions[0];
             self.opened = route.opened;
             self.take_overs = route.take_overs;
@@ -538,36 +535,48 @@ fn the_page_is_shown_sessions_and_totals(rt: HostRuntime) -> Result<(), Fail> {
     hear(rt.alloc(), &mut route, 1_004_000, DATA[1])?;
     watcher.show_route(0, &route);
     assert_eq!(rt; watcher.next(NOTHING), Order::GoOn);
-    let counts = PublisherCounts {
+    let counts = srt_pub::Counts {
+        came: 3,
+        late: 0,
+        ahead: 0,
         received: 2,
         bytes: 4,
-        repeats: 1,
-        ..PublisherCounts::default()
+        delivered: 0,
+        given_up: 0,
+        naks: 0,
+        reported_lost: 0,
+        full_windows: 0,
     };
-    assert!(rt; watcher.page.server.publishers == counts);
+    let Some(totals) = watcher.page.server.totals else {
+        return Err(Fail::from("totals"));
+    };
+    assert_eq!(rt; totals.received, counts);
     assert_eq!(rt; watcher.page.server.opened, 1);
     let Some(session) = watcher.page.server.first else {
         return Err(Fail::from("an open session"));
     };
     assert_eq!(rt; session.peer, CALLER);
     assert_eq!(rt; session.id, 0x0010_0000);
-    assert_eq!(rt; session.opened_at, 1_000_000);
-    assert_eq!(rt; session.heard_at, 1_004_000);
-    assert_eq!(rt; session.latency_ms, Some(120));
-    assert_eq!(rt; session.round_trip_us, 100_000);
-    assert_eq!(rt; session.variance_us, 50_000);
-    let Flow::Publisher(publisher) = session.flow else {
-        return Err(Fail::from("a publisher"));
+    assert_eq!(rt; session.opened, 1_000_000);
+    assert_eq!(rt; session.heard, 1_004_000);
+    assert_eq!(rt; session.latency_ms, 120);
+    assert!(rt; session.is_active);
+    let publisher = srt_pub::Statistics {
+        counts,
+        in_use: 2,
+        available: 30,
+        rtt: 100_000,
+        variance: 50_000,
     };
-    assert!(rt; publisher.active);
-    assert!(rt; publisher.counts == counts);
-    assert_eq!(rt; publisher.window_used, 2);
-    assert_eq!(rt; publisher.window_available, 30);
+    assert_eq!(rt; session.traffic, Traffic::Received(publisher));
     hear(rt.alloc(), &mut route, 1_005_000, SHUTDOWN)?;
     watcher.show_route(0, &route);
     assert_eq!(rt; watcher.next(NOTHING), Order::GoOn);
     assert!(rt; watcher.page.server.first.is_none());
-    assert_eq!(rt; watcher.page.server.publishers.received, 2);
+    let Some(totals) = watcher.page.server.totals else {
+        return Err(Fail::from("totals"));
+    };
+    assert_eq!(rt; totals.received.received, 2);
     Ok(())
 }
 

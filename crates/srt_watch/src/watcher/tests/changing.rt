@@ -1,10 +1,11 @@
 //! A watcher that follows a configuration's file, over a file in memory that says something else at each look.
 
-use super::{NOTHING, Watching, assert_lines, start, watcher};
+use super::{CALLER, NOTHING, Watching, assert_lines, start, watcher};
 use crate::config_file::LastPoll;
 use crate::indexes::{megabytes_of, reaches_mark};
 use crate::{ConfigFile, FileStamp, MAX_REASON};
 use srt_config::{Config, read_config};
+use srt_seq::Role;
 use srt_status::ChangeCounts;
 use srt_supervision::{ChangeFault, ChangeRoutes, Order, RouteChanges, Watch};
 use std::alloc::{AllocError, Global};
@@ -30,6 +31,9 @@ const SLOW_STUDIO: &str =
 
 const WRONG_STUDIO: &str =
     "[[route]]\nname = \"studio\"\nmode = \"live\"\nlatency_ms = 120\nbuffer = 1024\nsessions = 40\ninbox = 16\noutbox = 136\n";
+
+const GUARDED_STUDIO: &str =
+    "[[route]]\nname = \"studio\"\nmode = \"live\"\nlatency_ms = 120\nbuffer = 1024\nsessions = 2\ninbox = 16\noutbox = 136\npublish_from = [\"192.0.2.0/24\"]\npublish_key = \"put-a-key-of-your-own-here\"\n";
 
 const NEWS: &str =
     "[[route]]\nname = \"news\"\nmode = \"live\"\nlatency_ms = 120\nbuffer = 1024\nsessions = 2\ninbox = 16\noutbox = 136\n";
@@ -92,7 +96,7 @@ fn config(alloc: Global, parts: &[&'static str]) -> Result<Config, Fail> {
     };
     match read_config(alloc, text) {
         Ok(config) => Ok(config),
-        Err(_) => Err(Fail::from("a right configuration")),
+        Err(_) => Err(Fail::from("a valid configuration")),
     }
 }
 
@@ -251,6 +255,31 @@ fn indexes_are_those_that_the_run_returns(rt: HostRuntime) -> Result<(), Fail> {
     );
     let change = next_change(&mut watcher, Ok(8));
     assert_requests(&rt, change, &[7], 0, "")
+}
+
+#[test]
+fn a_route_that_opens_has_its_list_and_its_key(rt: HostRuntime) -> Result<(), Fail> {
+    let config = config(rt.alloc(), &[HEAD, STUDIO])?;
+    let mut watcher = follower(
+        rt.alloc(),
+        &config,
+        &[&[HEAD, STUDIO], &[HEAD, GUARDED_STUDIO]],
+    )?;
+    assert!(rt; next_change(&mut watcher, Ok(1)).is_none());
+    let Some(change) = next_change(&mut watcher, Ok(1)) else {
+        return Err(Fail::from("a change"));
+    };
+    assert_eq!(rt; change.closes.first().copied(), Some(0));
+    let Some(entry) = change.opens.first() else {
+        return Err(Fail::from("a route that opens"));
+    };
+    let publishers = entry.access.in_role(Role::Publish);
+    assert!(rt; !publishers.lists(CALLER));
+    assert!(rt; !publishers.is_right_key(None));
+    assert!(rt; publishers.is_right_key(Some(b"put-a-key-of-your-own-here")));
+    let subscribers = entry.access.in_role(Role::Request);
+    assert!(rt; subscribers.lists(CALLER) && subscribers.is_right_key(None));
+    Ok(())
 }
 
 #[test]

@@ -1,0 +1,62 @@
+-- The session of a slot, and what the log states of it.
+use Rattle.std.specs.Prelude.{ℕ, ◌-◌, ◌==◌, min, Bool, Option, None, Some, if◌then◌else◌}
+use Rattle.srt_route.specs.declared.ledger.EndCause.{EndCause}
+use Rattle.srt_route.specs.declared.ledger.EndCause.TheVariants as causes
+use Rattle.srt_route.specs.declared.ledger.EndedSession.{EndedSession}
+use Rattle.srt_route.specs.declared.view.SessionView.{SessionView}
+use Rattle.srt_route.specs.declared.view.Traffic.{Traffic}
+use Rattle.srt_route.specs.declared.view.Traffic.TheVariants.{Received, Sent}
+use Rattle.srt_log.specs.declared.events.EndReason.{EndReason}
+use Rattle.srt_log.specs.declared.events.EndReason.TheVariants as reasons
+use Rattle.srt_log.specs.declared.events.SessionCounts.{SessionCounts}
+use Rattle.srt_log.specs.declared.events.Trouble.{Trouble}
+use Rattle.srt_log.specs.declared.events.Trouble.TheVariants.{Misdirected, FullWindow, LatePackets}
+use Rattle.srt_log.specs.declared.snapshots.SlotSession.{SlotSession}
+use Rattle.srt_log.specs.declared.snapshots.SlotSession.TheVariants.{Open, Ended}
+
+-- its state, at the time of the snapshot or at its end
+abbrev pub view_of : SlotSession → SessionView
+view_of (Open view) = view
+view_of (Ended session) = session.view
+
+-- the session that is open in a slot; where none is, the one that ended there last
+abbrev pub slot_of : Option SessionView → Option EndedSession → Option SlotSession
+slot_of (Some view) ended = Some (Open view)
+slot_of None (Some session) = Some (Ended session)
+slot_of None None = None
+
+-- why a session ended; while the gateway stops, that closed the route
+abbrev pub reason_of : (stops : Bool) → EndCause → EndReason
+reason_of stops causes.Shutdown = reasons.Shutdown
+reason_of stops causes.Drained = reasons.Shutdown
+reason_of stops causes.DrainedTooLong = reasons.DrainedTooLong
+reason_of stops causes.Silence = reasons.Silence
+reason_of stops causes.WindowLost = reasons.WindowLost
+reason_of stops causes.FileEnded = reasons.StreamEnd
+reason_of stops causes.Closed = if stops then reasons.GatewayStops else reasons.RouteClosed
+
+-- the counts of a session: of a publisher's, what was received, given up, and arrived in addition; of a subscriber's, what was sent, given
+-- up, and sent again
+abbrev pub counts_of : Traffic → SessionCounts
+counts_of (Received x) =
+    record { packets = x.counts.received; bytes = x.counts.bytes; lost = x.counts.given_up; resent = x.counts.came - x.counts.received }
+counts_of (Sent x) = record { packets = x.sendings.fresh; bytes = x.counts.bytes; lost = x.counts.given_up; resent = x.sendings.again }
+
+-- how often something was wrong with a session's stream; of a publisher's, at most as many packets arrived too late as were given up
+abbrev pub received_trouble : Trouble → (full_windows late given_up : ℕ) → ℕ
+received_trouble Misdirected full_windows late given_up = 0
+received_trouble FullWindow full_windows late given_up = full_windows
+received_trouble LatePackets full_windows late given_up = min late given_up
+
+abbrev pub sent_trouble : Trouble → (misdirected : ℕ) → ℕ
+sent_trouble Misdirected misdirected = misdirected
+sent_trouble FullWindow misdirected = 0
+sent_trouble LatePackets misdirected = 0
+
+abbrev pub count_of : Trouble → Traffic → ℕ
+count_of trouble (Received x) = received_trouble trouble x.counts.full_windows x.counts.late x.counts.given_up
+count_of trouble (Sent x) = sent_trouble trouble x.counts.misdirected
+
+-- a latency, of which a session in buffer mode has none
+abbrev pub latency_of : (latency_ms : ℕ) → Option ℕ
+latency_of latency_ms = if latency_ms == 0 then None else Some latency_ms
