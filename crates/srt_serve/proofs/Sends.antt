@@ -6,19 +6,19 @@ use denote.Struct.Declared.{shape}
 use Rattle.srt_mailbox.specs.contracts.places.Place as place
 use Rattle.srt_serve.specs.contracts.arrivals.Named as named
 use Rattle.srt_serve.specs.contracts.arrivals.ClockArrivals as arrivals
-use Rattle.srt_serve.specs.contracts.arrivals.NamedCompanion.TheImpl as companion
+use Rattle.srt_serve.specs.contracts.arrivals.NamedAttachment.TheImpl as attachment
 use Rattle.srt_serve.proofs.arrivals.Named.TheSendSync as named_is
 use Rattle.srt_serve.specs.contracts.ticking.Clocks as clocks
 use Rattle.std.proofs.Crossing as heap
 use Rattle.srt_mailbox.proofs.SeatSyncs.{place_sync, reader_fields_send}
 
-pub places_sync : IsSync (place.the_row named.the_row companion.ghosts)
-places_sync = place_sync named.the_row companion.ghosts named_is.the_send named_is.the_sync
+pub places_sync : IsSync (place.the_row named.the_row attachment.ghosts)
+places_sync = place_sync named.the_row attachment.ghosts named_is.the_send named_is.the_sync
 
 pub arrivals_send : (a : NamedLft) → IsSend (arrivals.the_row a)
 arrivals_send a =
     recorded_send (arrivals.the_field a).row _ _ (arrivals.the_type a).to_one
-    (struct_send (shape (arrivals.the_type a)) (reader_fields_send named.the_row companion.ghosts named_is.the_send named_is.the_sync a, tt))
+    (struct_send (shape (arrivals.the_type a)) (reader_fields_send named.the_row attachment.ghosts named_is.the_send named_is.the_sync a, tt))
 
 pub clocks_send : (K E A : RattleType) → IsSend K → IsSend E → IsSend A → IsSend (clocks.the_row K E A)
 clocks_send K E A k e a =

@@ -37,7 +37,7 @@ mod watching;
 mod working;
 
 pub use running::{Gates, Ran, RunFault, Watched, run, run_until};
-pub use srt_supervision::{ChangeFault, Refusal, RouteChanges, RunStatus, Watch};
+pub use srt_supervision::{ChangeFault, ChangeRoutes, Refusal, RouteChanges, RunStatus, Watch};
 pub use ticking::Ticker;
 
 #[cfg(test)]

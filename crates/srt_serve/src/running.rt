@@ -548,9 +548,9 @@ where
 ///
 /// A further thread watches. It repeats these steps: it lets the watcher rest (`Watch::next`), tells it what was refused, and shows
 /// it the routes if it looks. After all threads have ended and before the routes are settled, each route is shown once
-/// more, and the refusals that are left are told. After each rest the watcher is asked for a change of the routes too
-/// (`Watch::change`): those that open get the next of the 511 indexes, and callers find them from one of the next rounds on, once
-/// no other shown route has their name; those that close are offered Close from then on. The threads end whatever the
+/// more, and the refusals that are left are told. After each rest the watcher may change the routes too
+/// (`Watch::change_routes`): those that open get the next of the 511 indexes, and callers find them from one of the next rounds
+/// on, once no other shown route has their name; those that close are offered Close from then on. The threads end whatever the
 /// watcher does; but one that rests for long delays that, as a ticker that waits does.
 ///
 /// The accounts are those of all routes, in the order of their indexes: of the entries, and of the routes that opened. One

@@ -7,7 +7,7 @@ use srt_mailbox::{Observer, Seat, Serve};
 use srt_route::Route;
 use srt_seq::Entry;
 use srt_seq::limits::MAX_SESSIONS;
-use srt_supervision::{ChangeFault, Order, Report, RouteChanges, RunStatus, Watch};
+use srt_supervision::{ChangeFault, ChangeRoutes, Order, Report, RouteChanges, RunStatus, Watch};
 use srt_wakeups::Wakeups;
 use std::alloc::Global;
 use std::sync::Wait;
@@ -20,7 +20,7 @@ const REFUSALS_PER_REST: u32 = 1024;
 // drained, so that one look alone may miss replies that are being sent.
 const QUIET_LOOKS: u32 = 2;
 
-/// Makes the changes that a watcher asks for.
+/// Makes the changes that a watcher requests.
 #[derive(Drop)]
 pub struct Changer<'a, C> {
     /// Allocates what the routes need that open.
@@ -62,8 +62,16 @@ impl<C: Host> Changer<'_, C> {
         }
     }
 
-    // Makes a change: first all memory is taken, then the routes get their places, and then the polling thread is told.
-    fn make(&mut self, changes: RouteChanges) -> Result<usize, ChangeFault> {
+    // The places that are taken.
+    fn taken(&self) -> &[C] {
+        let taken = self.routes.min(self.places.len());
+        &self.places[..taken]
+    }
+}
+
+impl<C: Host> ChangeRoutes for Changer<'_, C> {
+    // Allocates all memory first, then puts the routes into their places, and then notifies the polling thread.
+    fn change(&mut self, changes: RouteChanges) -> Result<usize, ChangeFault> {
         let seats = self.open_all(&changes.opens)?;
         let first = self.routes;
         self.host_all(seats);
@@ -74,20 +82,6 @@ impl<C: Host> Changer<'_, C> {
         }
         self.news.tell();
         Ok(first)
-    }
-
-    // Makes the change that the watcher asks for, if there is one.
-    fn change<T: Watch>(&mut self, watch: &mut T) {
-        if let Some(changes) = watch.change() {
-            let outcome = self.make(changes);
-            watch.changed(outcome);
-        }
-    }
-
-    // The places that are taken.
-    fn taken(&self) -> &[C] {
-        let taken = self.routes.min(self.places.len());
-        &self.places[..taken]
     }
 }
 
@@ -202,7 +196,7 @@ fn watch_once<R: Wait, C: Serve + Host, T: Watch>(
     let looks = watch.wants_routes();
     let closes = !matches!(asked, Order::GoOn);
     if !closes {
-        changer.change(watch);
+        watch.change_routes(changer);
     }
     let is_quiet = (looks || closes) && look_at_all(rt, changer.taken(), watch, looks);
     known.quiet = if is_quiet && closes && !wakeups.any_outbox_ready() {
