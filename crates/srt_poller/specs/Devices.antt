@@ -67,8 +67,8 @@ call_of_read Empty buffer = ReadEmpty
 call_of_read Failed buffer = ReadFailed
 
 -- the record of a device, the oldest first, with these added; None stays None
-abbrev pub joined : {A : Type 0} → (told : Option (List A)) → (more : List A) → Option (List A)
-joined told more = option_map (λ xs. xs ++ more) told
+abbrev pub joined : {A : Type 0} → (recorded : Option (List A)) → (more : List A) → Option (List A)
+joined recorded more = option_map (λ xs. xs ++ more) recorded
 
 -- what a source has recorded: the datagrams that it gave, and all calls
 pub record Heard : Type 0 where

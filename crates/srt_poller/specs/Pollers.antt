@@ -35,8 +35,8 @@ abbrev pub named_in : Classifier → List RouteName
 named_in lobby = names_of lobby.names.now
 
 -- a datagram whose bytes are at the front of the buffer
-abbrev pub came : Incoming → Poller → Arrival
-came incoming p = arrival incoming.peer (take incoming.len p.datagram) incoming.moment
+abbrev pub arrival_in : Incoming → Poller → Arrival
+arrival_in incoming p = arrival incoming.peer (take incoming.len p.datagram) incoming.moment
 
 -- the kept reply: its bytes are still in the buffer
 abbrev pub kept_in : Poller → Option Kept
@@ -85,8 +85,8 @@ WaitFailed old new =
     (new (round_state names (suc round) latest) (Sending 0 0) wire ends)
 
 -- this datagram was read with these names in force, as the first of a round or a later one, and what happened to it is what its class says
-abbrev pub Came : Sorting → List RouteName → Arrival → (old new : RoundState → Phase → Heard → World) → Type 0
-Came class names a old new =
+abbrev pub Arrived : Sorting → List RouteName → Arrival → (old new : RoundState → Phase → Heard → World) → Type 0
+Arrived class names a old new =
     (schedules : List Schedule) (round latest reads : ℕ) (source : Heard) →
     Went class schedules 1 0 1 (old (round_state names round latest) (Reading reads) source)
     (new (round_state names round (max latest a.moment)) (reading (reads + 1)) (heard_more source (a ∷ []) (ReadGave a)))

@@ -31,9 +31,9 @@ pub struct Plans {
 impl Plans {
     ghost use Rattle.std.specs.Prelude.{IfOk};
     ghost use Rattle.srt_poller.specs.Beginnings.{RestBetween, AreClosed};
-    ghost use Rattle.srt_poller.specs.Openings.{news};
+    ghost use Rattle.srt_poller.specs.Openings.{route_reports};
     ghost use Rattle.srt_poller.specs.Plans.{never, waiting, closed_from, update_at, AreTimely};
-    ghost use Rattle.srt_poller.specs.Changes.{plans_in, TookNewcomers, TookClosings, TookNews, OpensOne, Opens, BeganAfter};
+    ghost use Rattle.srt_poller.specs.Changes.{plans_in, TookNewcomers, TookClosings, TookChanges, OpensOne, Opens, BeganAfter};
 
     /// Allocates room for the plans of 511 routes.
     pub fn new(alloc: Global) -> Result<Plans, AllocError>
@@ -97,9 +97,9 @@ impl Plans {
         requires known { length (plans_in self.old) ≡ length (names_of names.old) }
         requires ends { length ends.old.items ≡ length (names_of names.old) }
         requires room { 511 ≤ vec_capacity ends.old }
-        ensures came { TookNewcomers (O.came openings.old) (O.came openings.new) (plans_in self.old) (plans_in self.new)
+        ensures added { TookNewcomers (O.added openings.old) (O.added openings.new) (plans_in self.old) (plans_in self.new)
             (names_of names.old) (names_of names.new) ends.old.items ends.new.items }
-        ensures asked { O.asked openings.new ≡ O.asked openings.old }
+        ensures requested { O.requested openings.new ≡ O.requested openings.old }
         ensures room { 511 ≤ vec_capacity ends.new }
         ensures latest { self.new.latest ≡ self.old.latest }
     {
@@ -122,8 +122,8 @@ impl Plans {
 
     // Closes the routes that are asked to close, at most 511, from this round on, which hasn't begun.
     fn take_closings<O: Openings>(&mut self, openings: &mut O, round: u64)
-        ensures asked { TookClosings round (O.asked openings.old) (O.asked openings.new) (plans_in self.old) (plans_in self.new) }
-        ensures came { O.came openings.new ≡ O.came openings.old }
+        ensures requested { TookClosings round (O.requested openings.old) (O.requested openings.new) (plans_in self.old) (plans_in self.new) }
+        ensures added { O.added openings.new ≡ O.added openings.old }
         ensures latest { self.new.latest ≡ self.old.latest }
     {
         for _ in 0..MAX_ROUTES {
@@ -136,7 +136,7 @@ impl Plans {
 
     // Takes what is new before a round begins.
     #[inline(always)]
-    fn take_news<O: Openings>(
+    fn take_changes<O: Openings>(
         &mut self,
         openings: &mut O,
         names: &mut Names,
@@ -147,13 +147,14 @@ impl Plans {
         requires ends { length ends.old.items ≡ length (names_of names.old) }
         requires room { 511 ≤ vec_capacity ends.old }
         requires rest { RestBetween round self.old.due (plans_in self.old) (names_of names.old) }
-        ensures took { TookNews round self.new.due (news (O.came openings.old) (O.asked openings.old)) (news (O.came openings.new) (O.asked openings.new))
+        ensures took { TookChanges round self.new.due (route_reports (O.added openings.old) (O.requested openings.old))
+            (route_reports (O.added openings.new) (O.requested openings.new))
             (plans_in self.old) (plans_in self.new) (names_of names.old) (names_of names.new) ends.old.items ends.new.items }
         ensures rest { RestBetween round self.new.due (plans_in self.new) (names_of names.new) }
         ensures room { 511 ≤ vec_capacity ends.new }
         ensures latest { self.new.latest ≡ self.old.latest }
     {
-        if !openings.has_news() {
+        if !openings.has_changes() {
             return;
         }
         self.take_newcomers(openings, names, ends);
@@ -227,7 +228,7 @@ impl Plans {
 
     /// Begins a round: takes the routes that come and those that are to close, and then does what the beginning of a
     /// round is without them. A route is shown only while no other shown route has its name; one that comes, or whose
-    /// round of opening comes, and can't be shown waits. Costs a call of `has_news` and two comparisons in a round with
+    /// round of opening comes, and can't be shown waits. Costs a call of `has_changes` and two comparisons in a round with
     /// nothing to do, else some for each route, in each round in which one waits.
     #[inline(always)]
     pub(crate) fn begin<R: Wait, G: Signals, O: Openings>(
@@ -245,14 +246,14 @@ impl Plans {
         requires room { 511 ≤ vec_capacity ends.old }
         requires rest { RestBetween round self.old.due (plans_in self.old) (names_of names.old) }
         requires fits { round < never }
-        ensures began { BeganAfter closes_all round self.old.latest.moment (news (O.came openings.old) (O.asked openings.old))
-            (news (O.came openings.new) (O.asked openings.new)) (plans_in self.old) (plans_in self.new)
+        ensures began { BeganAfter closes_all round self.old.latest.moment (route_reports (O.added openings.old) (O.requested openings.old))
+            (route_reports (O.added openings.new) (O.requested openings.new)) (plans_in self.old) (plans_in self.new)
             (names_of names.old) (names_of names.new) ends.old.items ends.new.items }
         ensures rest { RestBetween (round + 1) self.new.due (plans_in self.new) (names_of names.new) }
         ensures room { 511 ≤ vec_capacity ends.new }
         ensures latest { self.new.latest ≡ self.old.latest }
     {
-        self.take_news(openings, names, ends, round);
+        self.take_changes(openings, names, ends, round);
         if closes_all {
             self.close(rt, signals, names, ends, round, true);
             return;

@@ -7,7 +7,7 @@ ghost use Rattle.srt_poller.specs.Pollers.{sorting, round_state, listening};
 ghost use Rattle.srt_poller.specs.Devices.{heard, carried};
 ghost use Rattle.srt_poller.specs.Beginnings.{RestBetween};
 ghost use Rattle.srt_poller.specs.Pumped.{before, after};
-ghost use Rattle.srt_poller.specs.Openings.{news};
+ghost use Rattle.srt_poller.specs.Openings.{route_reports};
 ghost use Rattle.srt_poller.specs.Plans.{AreTimely};
 ghost use Rattle.srt_poller.specs.Changes.{plans_in, RoundsChanging, PumpedChanging};
 
@@ -55,7 +55,7 @@ pub fn pump_changing<R: Wait, S: Source, W: Wire, G: Signals, O: Openings>(
     requires room { 511 ≤ vec_capacity ends.old }
     requires few { rounds ≤ 2 ^ 48 }
     ensures pumped { PumpedChanging (G.goes signals.now) (G.closes signals.now) (sorting secret.now) schedules.now result.rounds
-        (news (O.came openings.old) (O.asked openings.old)) (news (O.came openings.new) (O.asked openings.new))
+        (route_reports (O.added openings.old) (O.requested openings.old)) (route_reports (O.added openings.new) (O.requested openings.new))
         (before (names_of names.old) (heard (S.gave source.old) (S.calls source.old)) (carried (W.handed wire.old) (W.attempts wire.old)) ends.old.items)
         (after (names_of names.new) (heard (S.gave source.new) (S.calls source.new)) (carried (W.handed wire.new) (W.attempts wire.new))
         ends.new.items result.report) }
@@ -111,7 +111,8 @@ pub(crate) fn pump_changing_from<R: Wait, S: Source, W: Wire, G: Signals, O: Ope
     requires rest { RestBetween first plans.old.due (plans_in plans.old) (names_of names.old) }
     requires fits { first + rounds < 2 ^ 64 }
     ensures made { RoundsChanging (G.goes signals.now) (G.closes signals.now) (sorting secret.now) first result (plans_in plans.old)
-        (news (O.came openings.old) (O.asked openings.old)) (news (O.came openings.new) (O.asked openings.new)) (names_of names.old) ends.old.items
+        (route_reports (O.added openings.old) (O.requested openings.old)) (route_reports (O.added openings.new) (O.requested openings.new))
+        (names_of names.old) ends.old.items
         (λ ns es. listening (heard (S.gave source.old) (S.calls source.old)) (carried (W.handed wire.old) (W.attempts wire.old)) es poller.old
         (round_state ns first plans.old.latest.moment))
         (listening (heard (S.gave source.new) (S.calls source.new)) (carried (W.handed wire.new) (W.attempts wire.new)) ends.new.items poller.new
@@ -121,7 +122,7 @@ pub(crate) fn pump_changing_from<R: Wait, S: Source, W: Wire, G: Signals, O: Ope
     ensures whole { (result ≡ rounds) ⊎ G.stops signals.now }
 {
     for made in 0..rounds {
-        poller.tell_report(signals);
+        poller.report_counts(signals);
         let Some(closes_all) = ask(signals) else {
             return made;
         };

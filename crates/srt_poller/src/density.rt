@@ -33,7 +33,7 @@ impl Density {
     }
 
     /// A datagram arrived at this moment, in microseconds.
-    pub(crate) fn came(&mut self, moment: u64)
+    pub(crate) fn arrived(&mut self, moment: u64)
         ensures { self.new ≡ counted moment self.old }
     {
         let passed = moment.saturating_sub(self.began);

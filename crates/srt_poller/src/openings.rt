@@ -19,29 +19,29 @@ pub struct Newcomer {
 pub trait Openings {
     ghost use Rattle.std.specs.Prelude.{◌≡◌, ◌<◌, ℕ, Option, List, map, IfSome};
     ghost use Rattle.srt_poller.specs.Devices.{joined};
-    ghost use Rattle.srt_poller.specs.Openings.{ToldRoute, told_route, comings, closings};
+    ghost use Rattle.srt_poller.specs.Openings.{ReportedRoute, reported_route, additions, closings};
 
     /// All routes that it gave, the oldest first, or `None` for openings that don't record them.
-    ghost came: { Self → Option (List ToldRoute) };
+    ghost added: { Self → Option (List ReportedRoute) };
 
     /// The indexes of all routes that it asked to close, the oldest first, or `None` for openings that don't record them.
-    ghost asked: { Self → Option (List ℕ) };
+    ghost requested: { Self → Option (List ℕ) };
 
     /// Whether there may be a route that comes or is to close. Order before each round, so it should cost no more than a
     /// load or two. If it is wrong, changes come in a later round.
-    fn has_news(&self) -> bool;
+    fn has_changes(&self) -> bool;
 
     /// The next route that comes, if there is one. It has the next index.
     fn next(&mut self) -> Option<Newcomer>
-        ensures came { came self.new ≡ joined (came self.old) (map told_route (comings result)) }
-        ensures asked { asked self.new ≡ asked self.old };
+        ensures added { added self.new ≡ joined (added self.old) (map reported_route (additions result)) }
+        ensures requested { requested self.new ≡ requested self.old };
 
     /// The index of the next route that is to close, if there is one. There are this many routes, those that came among
     /// them; an index beyond them isn't given.
     fn next_close(&mut self, routes: usize) -> Option<usize>
         ensures known { IfSome result (λ r. r < routes) }
-        ensures came { came self.new ≡ came self.old }
-        ensures asked { asked self.new ≡ joined (asked self.old) (closings result) };
+        ensures added { added self.new ≡ added self.old }
+        ensures requested { requested self.new ≡ joined (requested self.old) (closings result) };
 }
 
 /// No route comes, and none is asked to close.
@@ -51,11 +51,11 @@ pub struct Unchanged;
 impl Openings for Unchanged {
     ghost use Rattle.std.specs.Prelude.{Some, []};
 
-    ghost came = { λ o. Some [] };
+    ghost added = { λ o. Some [] };
 
-    ghost asked = { λ o. Some [] };
+    ghost requested = { λ o. Some [] };
 
-    fn has_news(&self) -> bool {
+    fn has_changes(&self) -> bool {
         false
     }
 

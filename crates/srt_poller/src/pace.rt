@@ -80,7 +80,7 @@ impl Pace {
     }
 
     /// A datagram arrived at this moment, in microseconds, so there may be more.
-    pub(crate) fn came(&mut self, moment: u64)
+    pub(crate) fn arrived(&mut self, moment: u64)
         ensures { self.new ≡ after_datagram moment self.old }
     {
         self.more = true;
@@ -88,7 +88,7 @@ impl Pace {
         if self.read < MANY {
             self.read += 1;
         }
-        self.density.came(moment);
+        self.density.arrived(moment);
     }
 
     /// A read found no datagram, or failed.

@@ -74,7 +74,7 @@ pub(crate) struct Poller {
 
 // Tells a send that failed.
 #[inline(always)]
-fn tell_failure<G: Signals>(signals: &G, sent: Sent) {
+fn report_failure<G: Signals>(signals: &G, sent: Sent) {
     match sent {
         Sent::Failed => signals.failed(),
         Sent::Taken | Sent::Later => {}
@@ -83,7 +83,7 @@ fn tell_failure<G: Signals>(signals: &G, sent: Sent) {
 
 // Tells a reply that is a handshake.
 #[inline(always)]
-fn tell_handshake<G: Signals>(signals: &G, route: usize, peer: Peer, reply: &[u8]) {
+fn report_handshake<G: Signals>(signals: &G, route: usize, peer: Peer, reply: &[u8]) {
     if let [0x80, 0, 0, 0, ..] = reply {
         signals.replied(route, peer, reply);
     }
@@ -94,8 +94,8 @@ impl Poller {
     ghost use Rattle.srt_poller.specs.declared.ends.Ends.{Ends as TheEnds};
     ghost use Rattle.srt_poller.specs.declared.poller.Drained.TheVariants.{Empty, Gone};
     ghost use Rattle.srt_poller.specs.Reports.{nothing, with_kept};
-    ghost use Rattle.srt_poller.specs.Pollers.{sorted_by, named_in, came, kept_in, begun_phase, waiting, sending, listening, Waited};
-    ghost use Rattle.srt_poller.specs.Pollers.{WaitFailed, Came, Listened, Resent, Replies};
+    ghost use Rattle.srt_poller.specs.Pollers.{sorted_by, named_in, arrival_in, kept_in, begun_phase, waiting, sending, listening, Waited};
+    ghost use Rattle.srt_poller.specs.Pollers.{WaitFailed, Arrived, Listened, Resent, Replies};
 
     /// A poller with no reply kept and all counts 0. Doesn't allocate.
     pub(crate) fn new(alloc: Global) -> Poller
@@ -113,13 +113,13 @@ impl Poller {
     }
 
     /// Whether the next round that takes replies looks at all outboxes.
-    pub(crate) fn looks_at_all(&self) -> bool {
+    pub(crate) fn checks_all(&self) -> bool {
         self.left
     }
 
     /// Tells the counts so far, in which a reply that is kept doesn't stand.
     #[inline(always)]
-    pub(crate) fn tell_report<G: Signals>(&self, signals: &G) {
+    pub(crate) fn report_counts<G: Signals>(&self, signals: &G) {
         signals.reported(&self.report);
     }
 
@@ -134,7 +134,7 @@ impl Poller {
             return;
         };
         let sent = wire.send(kept.peer, &self.reply_bytes[..kept.len]);
-        tell_failure(signals, sent);
+        report_failure(signals, sent);
         count_reply(&mut self.report, sent);
         match sent {
             Sent::Later => {}
@@ -171,9 +171,9 @@ impl Poller {
     )
         requires header { 16 ≤ incoming.len }
         requires route { route < length ends.old }
-        ensures { (class : Sorting) (names : List RouteName) (wire : Carried) → let arrival = came incoming self.old in
+        ensures { (class : Sorting) (names : List RouteName) (wire : Carried) → let arrival = arrival_in incoming self.old in
             class names arrival.datagram arrival.moment ≡ Route route →
-            Came class names arrival (sending wire ends.old self.old) (sending wire ends.new self.new) }
+            Arrived class names arrival (sending wire ends.old self.old) (sending wire ends.new self.new) }
     {
         let bytes = &self.datagram[..incoming.len];
         let Incoming { peer, moment, .. } = incoming;
@@ -197,7 +197,7 @@ impl Poller {
         incoming: Incoming,
     )
         requires { length ends.old ≡ length (named_in context.now.lobby) }
-        ensures { Came (sorted_by context.now.lobby) (named_in context.now.lobby) (came incoming self.old)
+        ensures { Arrived (sorted_by context.now.lobby) (named_in context.now.lobby) (arrival_in incoming self.old)
             (sending (carried (W.handed wire.old) (W.attempts wire.old)) ends.old self.old)
             (sending (carried (W.handed wire.new) (W.attempts wire.new)) ends.new self.new) }
     {
@@ -209,7 +209,7 @@ impl Poller {
                 context
                     .signals
                     .answered(names, incoming.peer, bytes, &answer);
-                tell_failure(context.signals, sent);
+                report_failure(context.signals, sent);
                 count_answer(&mut self.report, sent);
             }
             Class::Dropped(cause) => count_dropped(&mut self.report, cause),
@@ -237,7 +237,7 @@ impl Poller {
         if !self.wait(context.signals, source) {
             return;
         }
-        for came in 0..256u32 {
+        for reads in 0..256u32 {
             match source.next(&mut self.datagram) {
                 Read::Datagram(peer, len, moment) => {
                     let incoming = Incoming { peer, len, moment };
@@ -245,13 +245,13 @@ impl Poller {
                     latest.see(moment);
                 }
                 Read::Empty => {
-                    context.signals.read_ended(came);
+                    context.signals.read_ended(reads);
                     return;
                 }
                 Read::Failed => {
                     context.signals.failed();
                     count_fault(&mut self.report);
-                    context.signals.read_ended(came);
+                    context.signals.read_ended(reads);
                     return;
                 }
             }
@@ -284,8 +284,8 @@ impl Poller {
         let reply = end.drain.reply();
         let peer = reply.peer;
         let sent = wire.send(peer, reply.packet.bytes());
-        tell_handshake(context.signals, route, peer, reply.packet.bytes());
-        tell_failure(context.signals, sent);
+        report_handshake(context.signals, route, peer, reply.packet.bytes());
+        report_failure(context.signals, sent);
         count_reply(&mut self.report, sent);
         match sent {
             Sent::Taken | Sent::Failed => Drained::Gone,
@@ -333,7 +333,7 @@ impl Poller {
 
     /// Looks at the outboxes of all routes with a hint. Those of many routes are mostly out of the caches, and here the
     /// processor fetches several at the same time; the drain then finds them.
-    fn look_ahead<R, G: Signals>(context: &RoundContext<R, G>, ends: &mut [Ends])
+    fn prefetch<R, G: Signals>(context: &RoundContext<R, G>, ends: &mut [Ends])
         ensures { ends.new ≡ ends.old }
     {
         if ends.len() < 2 {
@@ -365,7 +365,7 @@ impl Poller {
         if self.kept.is_some() {
             return;
         }
-        Poller::look_ahead(context, ends);
+        Poller::prefetch(context, ends);
         self.left = false;
         let mut route = 0;
         while route < ends.len() {

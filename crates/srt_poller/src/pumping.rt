@@ -135,7 +135,7 @@ pub(crate) fn ask<G: Signals>(signals: &G) -> Option<bool>
     ensures round { IfSome result (λ closes_all. (closes_all ≡ false → G.goes signals.now) × (closes_all ≡ true → G.closes signals.now)) }
     ensures end { IfNone result (G.stops signals.now) }
 {
-    match signals.asked() {
+    match signals.order() {
         Order::GoOn => Some(false),
         Order::CloseAll => Some(true),
         Order::End => None,
@@ -169,7 +169,7 @@ pub(crate) fn make_round<R: Wait, S: Source, W: Wire, G: Signals>(
         alloc,
         lobby: Classifier { secret, names },
         signals,
-        all: due | poller.looks_at_all(),
+        all: due | poller.checks_all(),
     };
     poller.resend(signals, wire);
     poller.listen(&context, source, wire, ends, latest);
@@ -206,7 +206,7 @@ pub(crate) fn pump_from<R: Wait, S: Source, W: Wire, G: Signals>(
     ensures whole { (result ≡ rounds) ⊎ G.stops signals.now }
 {
     for made in 0..rounds {
-        poller.tell_report(signals);
+        poller.report_counts(signals);
         let Some(closes_all) = ask(signals) else {
             return made;
         };

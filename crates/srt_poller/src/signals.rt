@@ -13,22 +13,22 @@ pub trait Signals {
     ghost use Rattle.std.specs.Prelude.{◌≡◌};
     ghost use Rattle.srt_supervision.specs.declared.order.Order.TheVariants.{GoOn, CloseAll, End};
 
-    /// What is known once `asked` has returned `GoOn`. It may be nothing.
+    /// What is known once `order` has returned `GoOn`. It may be nothing.
     ghost goes: { Self → Type 0 };
 
-    /// What is known once `asked` has returned `CloseAll`. It may be nothing.
+    /// What is known once `order` has returned `CloseAll`. It may be nothing.
     ghost closes: { Self → Type 0 };
 
-    /// What is known once `asked` has returned `End`. It may be nothing.
+    /// What is known once `order` has returned `End`. It may be nothing.
     ghost stops: { Self → Type 0 };
 
     /// What is asked of the poller; called before each round, the first among them.
-    fn asked(&self) -> Order
+    fn order(&self) -> Order
         ensures goes { result ≡ GoOn → goes self.now }
         ensures closes { result ≡ CloseAll → closes self.now }
         ensures stops { result ≡ End → stops self.now };
 
-    /// The counts so far; called each time before `asked`. A reply that is kept counts neither as sent nor as lost.
+    /// The counts so far; called each time before `order`. A reply that is kept counts neither as sent nor as lost.
     fn reported(&self, report: &Report);
 
     /// The inbox of the route with this index accepted something from the poller: a datagram or Close.
@@ -68,7 +68,7 @@ impl Signals for Unsignalled {
 
     ghost stops = { λ s. ⊥ };
 
-    fn asked(&self) -> Order {
+    fn order(&self) -> Order {
         Order::GoOn
     }
 

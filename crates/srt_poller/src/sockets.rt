@@ -86,7 +86,7 @@ fn ask_for_room(socket: &UdpSocket) {
 
 /// Sleeps for a tenth of a millisecond, or until a signal.
 fn nap() {
-    let asked = timespec {
+    let requested = timespec {
         tv_sec: 0,
         tv_nsec: NAP_NS,
     };
@@ -94,7 +94,7 @@ fn nap() {
         tv_sec: 0,
         tv_nsec: 0,
     };
-    let _ = libc::nanosleep(&asked, &mut left);
+    let _ = libc::nanosleep(&requested, &mut left);
 }
 
 /// The peer with this IPv4 address, which becomes `::ffff:a.b.c.d`.
@@ -254,7 +254,7 @@ impl<C: Clock> Source for MioSource<C> {
         match self.shared.socket.recv_from(buffer.as_mut_slice()) {
             Ok((len, from)) => {
                 let moment = self.clock.next();
-                self.pace.came(moment);
+                self.pace.arrived(moment);
                 Read::Datagram(peer_of(from), len, moment)
             }
             Err(error) => {

@@ -16,8 +16,8 @@ use Rattle.srt_poller.specs.Changes.{PumpedChanging, with_routes}
 use Rattle.srt_poller.specs.Devices.{joined}
 use Rattle.srt_poller.specs.History.{Event, Begins, Waits, WaitFails, ReadsNothing, ReadFails, Answers, Accepts, Overflows, Refuses, Drops}
 use Rattle.srt_poller.specs.History.{Sends, Resends, State, IsOver, at_first, round_by, state_by, state_after, waits_by, waits_in, accepted, drained}
-use Rattle.srt_poller.specs.Openings.{NewRoute, ToldRoute, told_route, names_in, ends_in, News, news_more}
-use Rattle.srt_poller.specs.Plans.{never, texts_of, IsAlone, is_asked, IsNewPlan, IsPlanOf, ArePlans, waiting}
+use Rattle.srt_poller.specs.Openings.{NewRoute, ReportedRoute, reported_route, names_in, ends_in, RouteReports, route_reports_more}
+use Rattle.srt_poller.specs.Plans.{never, texts_of, IsAlone, is_requested, IsNewPlan, IsPlanOf, ArePlans, waiting}
 use Rattle.srt_poller.specs.Pollers.{sorting}
 use Rattle.srt_poller.specs.Pumped.{Before, After, PumpedUnder, after}
 use Rattle.srt_poller.specs.Rounds.{IsLater, AreLater}
@@ -107,10 +107,10 @@ plan_before k W A A' a (Some s) t f h =
     }
 
 plan_waits : (k : ℕ) (W A : Type 0) (a : Bool) (t : Schedule) → W → t ≡ waiting → (a ≡ true → ⊥) → IsNewPlan k W A a t
-plan_waits k W A a t w is unasked = record {
+plan_waits k W A a t w is unrequested = record {
   opens = λ alone no. inr (ap (λ (s : Schedule). s.open_round) is, w);
   kept = λ no. ap (λ (s : Schedule). s.close_round) is;
-  closes = λ asked. absurd (unasked asked);
+  closes = λ requested. absurd (unrequested requested);
 }
 
 all_wait : (more : List NewRoute) (i : ℕ) (t : Schedule) → slice_get (map (λ n. waiting) more) i ≡ Some t → t ≡ waiting
@@ -118,10 +118,10 @@ all_wait [] i t h = cc
 all_wait (n ∷ more) zero t h = let same : waiting ≡ t = cc in sym same
 all_wait (n ∷ more) (suc i) t h = all_wait more i t h
 
-plans_with : (k : ℕ) (W : Type 0) (schedules : List Schedule) (texts others : List (List ℕ)) (asked : List ℕ) (ps : List Schedule) (more : List NewRoute)
-    → W → length others ≡ length more → ArePlans k (λ r. W) schedules texts asked ps
-    → ArePlans k (λ r. W) schedules (texts ++ others) asked (ps ++ map (λ n. waiting) more)
-plans_with k W schedules texts others asked ps more w many h = record {
+plans_with : (k : ℕ) (W : Type 0) (schedules : List Schedule) (texts others : List (List ℕ)) (requested : List ℕ) (ps : List Schedule) (more : List NewRoute)
+    → W → length others ≡ length more → ArePlans k (λ r. W) schedules texts requested ps
+    → ArePlans k (λ r. W) schedules (texts ++ others) requested (ps ++ map (λ n. waiting) more)
+plans_with k W schedules texts others requested ps more w many h = record {
   as_many = let a = h.as_many in omega (arith, a, many, length-append ps ws, length-append texts others, length-map more (λ n. waiting));
   fewer = omega (arith, h.fewer, length-append ps ws);
   known = λ r is. omega (arith, h.known r is, length-append ps ws);
@@ -132,45 +132,46 @@ plans_with k W schedules texts others asked ps more w many h = record {
     ws = map (λ n. waiting) more
 
     new : (r n : ℕ) (t : Schedule) → r ≡ length ps + n → slice_get (ps ++ ws) r ≡ Some t →
-        IsPlanOf k W (IsAlone (texts ++ others) r) (is_asked asked r) (slice_get schedules r) t
+        IsPlanOf k W (IsAlone (texts ++ others) r) (is_requested requested r) (slice_get schedules r) t
     new r n t same at =
         let none : slice_get schedules r ≡ None = slice_get_past schedules r (omega (arith, same, h.fewer)) in
         let here : t ≡ waiting = all_wait more n t (sym (get_right ps ws n) ∙ ap (slice_get (ps ++ ws)) (sym same) ∙ at) in
-        let unasked : is_asked asked r ≡ true → ⊥ = λ is. let within = h.known r is in omega (arith, within, same) in
-        subst (λ (o : Option Schedule). IsPlanOf k W (IsAlone (texts ++ others) r) (is_asked asked r) o t) (sym none)
-        (plan_waits k W (IsAlone (texts ++ others) r) (is_asked asked r) t w here unasked)
+        let unrequested : is_requested requested r ≡ true → ⊥ = λ is. let within = h.known r is in omega (arith, within, same) in
+        subst (λ (o : Option Schedule). IsPlanOf k W (IsAlone (texts ++ others) r) (is_requested requested r) o t) (sym none)
+        (plan_waits k W (IsAlone (texts ++ others) r) (is_requested requested r) t w here unrequested)
 
     by : (r : ℕ) (t : Schedule) → slice_get (ps ++ ws) r ≡ Some t → (r < length ps) ⊎ (length ps ≤ r) →
-        IsPlanOf k W (IsAlone (texts ++ others) r) (is_asked asked r) (slice_get schedules r) t
+        IsPlanOf k W (IsAlone (texts ++ others) r) (is_requested requested r) (slice_get schedules r) t
     by r t at (inl within) =
-        plan_before k W (IsAlone texts r) (IsAlone (texts ++ others) r) (is_asked asked r) (slice_get schedules r) t (alone_before texts others r)
+        plan_before k W (IsAlone texts r) (IsAlone (texts ++ others) r) (is_requested requested r) (slice_get schedules r) t (alone_before texts others r)
         (h.each r t (sym (get_left ps ws r within) ∙ at))
     by r t at (inr past) = new r (r - length ps) t (omega (arith, past)) at
 
 -- what was told, and the names and ends of the routes, with further ones behind them
-told_with : (told : News) (came more : List NewRoute) (asked : List ℕ) → news_more (news_more told came asked) more [] ≡ news_more told (came ++ more) asked
-told_with told came more asked =
+reported_with : (reported : RouteReports) (added more : List NewRoute) (requested : List ℕ) →
+    route_reports_more (route_reports_more reported added requested) more [] ≡ route_reports_more reported (added ++ more) requested
+reported_with reported added more requested =
     λ i. record {
-      came = (joined_twice told.came (map told_route came) (map told_route more)
-          ∙ ap (λ (l : List ToldRoute). joined told.came l) (sym (map-append told_route came more))) i;
-      asked = joined_none (joined told.asked asked) i;
+      added = (joined_twice reported.added (map reported_route added) (map reported_route more)
+          ∙ ap (λ (l : List ReportedRoute). joined reported.added l) (sym (map-append reported_route added more))) i;
+      requested = joined_none (joined reported.requested requested) i;
     }
 
-told_same : (told : News) → news_more told [] [] ≡ told
-told_same told = λ i. record { came = joined_none told.came i; asked = joined_none told.asked i }
+reported_same : (reported : RouteReports) → route_reports_more reported [] [] ≡ reported
+reported_same reported = λ i. record { added = joined_none reported.added i; requested = joined_none reported.requested i }
 
-all_names : (names : List RouteName) (came more : List NewRoute) → (names ++ names_in came) ++ names_in more ≡ names ++ names_in (came ++ more)
-all_names names came more =
-    append_assoc names (names_in came) (names_in more)
-    ∙ ap (λ (l : List RouteName). names ++ l) (sym (map-append (λ (n : NewRoute). n.name) came more))
+all_names : (names : List RouteName) (added more : List NewRoute) → (names ++ names_in added) ++ names_in more ≡ names ++ names_in (added ++ more)
+all_names names added more =
+    append_assoc names (names_in added) (names_in more)
+    ∙ ap (λ (l : List RouteName). names ++ l) (sym (map-append (λ (n : NewRoute). n.name) added more))
 
-all_ends : (ends : List Ends) (came more : List NewRoute) → (ends ++ ends_in came) ++ ends_in more ≡ ends ++ ends_in (came ++ more)
-all_ends ends came more =
-    append_assoc ends (ends_in came) (ends_in more) ∙ ap (λ (l : List Ends). ends ++ l) (sym (map-append (λ (n : NewRoute). n.ends) came more))
+all_ends : (ends : List Ends) (added more : List NewRoute) → (ends ++ ends_in added) ++ ends_in more ≡ ends ++ ends_in (added ++ more)
+all_ends ends added more =
+    append_assoc ends (ends_in added) (ends_in more) ∙ ap (λ (l : List Ends). ends ++ l) (sym (map-append (λ (n : NewRoute). n.ends) added more))
 
-routes_with : (b : Before) (came more : List NewRoute) → with_routes more (with_routes came b) ≡ with_routes (came ++ more) b
-routes_with b came more =
-    λ i. record { names = all_names b.names came more i; source = b.source; wire = b.wire; ends = all_ends b.ends came more i }
+routes_with : (b : Before) (added more : List NewRoute) → with_routes more (with_routes added b) ≡ with_routes (added ++ more) b
+routes_with b added more =
+    λ i. record { names = all_names b.names added more i; source = b.source; wire = b.wire; ends = all_ends b.ends added more i }
 
 abbrev with_late : List NewRoute → After → After
 with_late more a = after (a.names ++ names_in more) a.source a.wire (a.ends ++ ends_in more) a.report
@@ -218,40 +219,40 @@ module _ {closes : Type 0} (secret : Secret) (made : ℕ) (more : List NewRoute)
         },
       )
 
-  changed_with : (schedules : List Schedule) (b : Before) (a : After) (told told' : News) → closes → made ≤ never
-      → PumpedChanging (Unit {0}) closes (sorting secret) schedules made told told' b a
-      → PumpedChanging (Unit {0}) closes (sorting secret) schedules made told (news_more told' more []) b (with_late more a)
-  changed_with schedules b a told told' known small changed =
-      let came = changed.0 in
-      let asked = changed.1 in
+  changed_with : (schedules : List Schedule) (b : Before) (a : After) (reported reported' : RouteReports) → closes → made ≤ never
+      → PumpedChanging (Unit {0}) closes (sorting secret) schedules made reported reported' b a
+      → PumpedChanging (Unit {0}) closes (sorting secret) schedules made reported (route_reports_more reported' more []) b (with_late more a)
+  changed_with schedules b a reported reported' known small changed =
+      let added = changed.0 in
+      let requested = changed.1 in
       let plans = changed.2 in
       let by = changed.3 in
-      let first = b.names ++ names_in came in
+      let first = b.names ++ names_in added in
       let later = plans ++ map (λ n. waiting) more in
       let many : length plans ≡ length first = by.planned.as_many ∙ length-map first (λ name. name.text) in
       let others : length (texts_of (names_in more)) ≡ length more = length-map (names_in more) (λ name. name.text) ∙ length-map more (λ n. n.name) in
-      let planned : ArePlans made (λ r. closes) schedules (texts_of first ++ texts_of (names_in more)) asked later =
-      plans_with made closes schedules (texts_of first) (texts_of (names_in more)) asked plans more known others by.planned in
-      let texts : texts_of first ++ texts_of (names_in more) ≡ texts_of (b.names ++ names_in (came ++ more)) =
-      sym (map-append (λ name. name.text) first (names_in more)) ∙ ap texts_of (all_names b.names came more) in (
-        came ++ more,
-        asked,
+      let planned : ArePlans made (λ r. closes) schedules (texts_of first ++ texts_of (names_in more)) requested later =
+      plans_with made closes schedules (texts_of first) (texts_of (names_in more)) requested plans more known others by.planned in
+      let texts : texts_of first ++ texts_of (names_in more) ≡ texts_of (b.names ++ names_in (added ++ more)) =
+      sym (map-append (λ name. name.text) first (names_in more)) ∙ ap texts_of (all_names b.names added more) in (
+        added ++ more,
+        requested,
         later,
         record {
-          news = ap (λ (n : News). news_more n more []) by.news ∙ told_with told came more asked;
-          planned = subst (λ (ts : List (List ℕ)). ArePlans made (λ r. closes) schedules ts asked later) texts planned;
+          reports = ap (λ (n : RouteReports). route_reports_more n more []) by.reports ∙ reported_with reported added more requested;
+          planned = subst (λ (ts : List (List ℕ)). ArePlans made (λ r. closes) schedules ts requested later) texts planned;
           pumped =
-              subst (λ (old : Before). PumpedUnder (Unit {0}) closes (sorting secret) later made old (with_late more a)) (routes_with b came more)
-              (pumped_with (with_routes came b) a plans small many by.pumped);
+              subst (λ (old : Before). PumpedUnder (Unit {0}) closes (sorting secret) later made old (with_late more a)) (routes_with b added more)
+              (pumped_with (with_routes added b) a plans small many by.pumped);
         },
       )
 
   -- the same of a poller that may not have been told of routes
-  polled_with : (schedules : List Schedule) (rounds : ℕ) (b : Before) (a : After) (told told' : News) → rounds ≤ 2 ^ 48 → (more ≡ []) ⊎ closes
-      → Polled closes (sorting secret) schedules rounds made told told' b a
-      → Polled closes (sorting secret) schedules rounds made told (news_more told' more []) b (with_late more a)
+  polled_with : (schedules : List Schedule) (rounds : ℕ) (b : Before) (a : After) (reported reported' : RouteReports) → rounds ≤ 2 ^ 48 → (more ≡ []) ⊎ closes
+      → Polled closes (sorting secret) schedules rounds made reported reported' b a
+      → Polled closes (sorting secret) schedules rounds made reported (route_reports_more reported' more []) b (with_late more a)
   unfolding Polled
-  polled_with schedules rounds b a told told' small may polled =
+  polled_with schedules rounds b a reported reported' small may polled =
       let within = polled.1 in
       let early : made ≤ never = omega (arith, small, within) in (
         elim polled.0 [
@@ -259,7 +260,7 @@ module _ {closes : Type 0} (secret : Secret) (made : ℕ) (more : List NewRoute)
             | inl nothing ↦
                 inl (
                   none.0,
-                  ap (λ (rs : List NewRoute). news_more told' rs []) nothing ∙ told_same told' ∙ none.1,
+                  ap (λ (rs : List NewRoute). route_reports_more reported' rs []) nothing ∙ reported_same reported' ∙ none.1,
                   subst (λ (new : After). PumpedUnder (Unit {0}) closes (sorting secret) schedules made b new)
                       (λ i. record {
                         names = (sym (append-nil a.names) ∙ ap (λ (rs : List NewRoute). a.names ++ names_in rs) (sym nothing)) i;
@@ -271,7 +272,7 @@ module _ {closes : Type 0} (secret : Secret) (made : ℕ) (more : List NewRoute)
                 )
             | inr known ↦ absurd (none.0 known)
           ]
-          | inr some ↦ inr (some.0, changed_with schedules b a told told' some.0 early some.1)
+          | inr some ↦ inr (some.0, changed_with schedules b a reported reported' some.0 early some.1)
         ],
         polled.1,
         polled.2,
@@ -279,44 +280,44 @@ module _ {closes : Type 0} (secret : Secret) (made : ℕ) (more : List NewRoute)
 
 -- What a poller did, after these routes were taken. They came only if `watched` is known
 pub polled_late : {closes watched : Type 0} (secret : Secret) (schedules : List Schedule) (rounds made : ℕ) (b : Before) (a : After) (ends : List Ends)
-    (told told' told'' : News)
+    (reported reported' reported'' : RouteReports)
     →
     rounds ≤ 2 ^ 48 → (watched → closes)
-    → (late : (more : List NewRoute) × ((more ≡ []) ⊎ watched) × AreHidden (names_in more) × (told'' ≡ news_more told' more [])
+    → (late : (more : List NewRoute) × ((more ≡ []) ⊎ watched) × AreHidden (names_in more) × (reported'' ≡ route_reports_more reported' more [])
     × (ends ≡ a.ends ++ ends_in more))
-    → Polled closes (sorting secret) schedules rounds made told told' b a
-    → Polled closes (sorting secret) schedules rounds made told told'' b (after (a.names ++ names_in late.0) a.source a.wire ends a.report)
-polled_late {closes} secret schedules rounds made b a ends told told' told'' small known late polled =
+    → Polled closes (sorting secret) schedules rounds made reported reported' b a
+    → Polled closes (sorting secret) schedules rounds made reported reported'' b (after (a.names ++ names_in late.0) a.source a.wire ends a.report)
+polled_late {closes} secret schedules rounds made b a ends reported reported' reported'' small known late polled =
     let may : (late.0 ≡ []) ⊎ closes = elim late.1 [
       | inl nothing ↦ inl nothing
       | inr some ↦ inr (known some)
     ] in
     subst
     (λ (es : List Ends).
-    Polled closes (sorting secret) schedules rounds made told told'' b (after (a.names ++ names_in late.0) a.source a.wire es a.report))
+    Polled closes (sorting secret) schedules rounds made reported reported'' b (after (a.names ++ names_in late.0) a.source a.wire es a.report))
     (sym late.4)
-    (subst (λ (news : News). Polled closes (sorting secret) schedules rounds made told news b (with_late late.0 a)) (sym late.3)
-    (polled_with secret made late.0 late.2 schedules rounds b a told told' small may polled))
+    (subst (λ (reports : RouteReports). Polled closes (sorting secret) schedules rounds made reported reports b (with_late late.0 a)) (sym late.3)
+    (polled_with secret made late.0 late.2 schedules rounds b a reported reported' small may polled))
 
 -- these routes were taken so far
-abbrev pub TakenLate : (told told' : News) → (ends ends' : List Ends) → Type 0
-TakenLate told told' ends ends' =
-    (more : List NewRoute) × AreHidden (names_in more) × (told' ≡ news_more told more []) × (ends' ≡ ends ++ ends_in more)
+abbrev pub TakenLate : (reported reported' : RouteReports) → (ends ends' : List Ends) → Type 0
+TakenLate reported reported' ends ends' =
+    (more : List NewRoute) × AreHidden (names_in more) × (reported' ≡ route_reports_more reported more []) × (ends' ≡ ends ++ ends_in more)
 
 hidden_then : (more : List NewRoute) (n : NewRoute) → AreHidden (names_in more) → n.name.is_shown ≡ false → AreHidden (names_in (more ++ n ∷ []))
 hidden_then [] n hidden this = (this, tt)
 hidden_then (m ∷ more) n hidden this = (hidden.0, hidden_then more n hidden.1 this)
 
 -- one route more
-pub late_more : (told told' told'' : News) (ends ends' ends'' : List Ends) (n : NewRoute) → n.name.is_shown ≡ false
-    → told''.came ≡ joined told'.came (told_route n ∷ []) → told''.asked ≡ told'.asked → ends'' ≡ ends' ++ n.ends ∷ []
-    → TakenLate told told' ends ends' → TakenLate told told'' ends ends''
-late_more told told' told'' ends ends' ends'' n hidden came asked grew late =
+pub late_more : (reported reported' reported'' : RouteReports) (ends ends' ends'' : List Ends) (n : NewRoute) → n.name.is_shown ≡ false
+    → reported''.added ≡ joined reported'.added (reported_route n ∷ []) → reported''.requested ≡ reported'.requested → ends'' ≡ ends' ++ n.ends ∷ []
+    → TakenLate reported reported' ends ends' → TakenLate reported reported'' ends ends''
+late_more reported reported' reported'' ends ends' ends'' n hidden added requested grew late =
     let more = late.0 in
-    let next : told'' ≡ news_more told' (n ∷ []) [] =
-    λ i. record { came = came i; asked = (asked ∙ sym (joined_none told'.asked)) i } in (
+    let next : reported'' ≡ route_reports_more reported' (n ∷ []) [] =
+    λ i. record { added = added i; requested = (requested ∙ sym (joined_none reported'.requested)) i } in (
       more ++ n ∷ [],
       hidden_then more n late.1 hidden,
-      next ∙ ap (λ (t : News). news_more t (n ∷ []) []) late.2 ∙ told_with told more (n ∷ []) [],
+      next ∙ ap (λ (t : RouteReports). route_reports_more t (n ∷ []) []) late.2 ∙ reported_with reported more (n ∷ []) [],
       grew ∙ ap (λ (es : List Ends). es ++ n.ends ∷ []) late.3 ∙ all_ends ends more (n ∷ []),
     )

@@ -28,7 +28,7 @@ use Rattle.srt_poller.specs.History.{Sorting, Event, handed, of_route, kept_of, 
 use Rattle.srt_poller.specs.Pumped.{HaveOrigins, PumpedUnder, before, after}
 use Rattle.srt_poller.specs.Rounds.{IsLater, AreLater}
 use Rattle.srt_serve.specs.Opened.{IsOpened, AreOpened, terms_in, new_clock, new_clocks}
-use Rattle.srt_serve.specs.Ran.{RouteRan, RanUnderFrom, told_by}
+use Rattle.srt_serve.specs.Ran.{RouteRan, RanUnderFrom, recorded_by}
 use Rattle.srt_serve.specs.Settled.{AreJoined, AreSettled}
 use Rattle.srt_serve.proofs.Callers.{callers_may_call}
 use Rattle.srt_serve.proofs.Moments.{HasTicks, HaveTicks}
@@ -178,7 +178,7 @@ pub all_ran : (goes closes : Type 0) (class : Sorting) (schedules : List Schedul
     → PumpedUnder goes closes class schedules rounds (before names gave to ends) (after names' gave' to' ends' report)
     → told_after ≡ joined told_before moments → HaveTicks moments (new_clocks (routes ++ more)) clocks → AreSettled accounts routes ends' clocks
     →
-    RanUnderFrom names closes class schedules entries rounds (told_by gave to told_before) (told_by gave' to' told_after) report accounts
+    RanUnderFrom names closes class schedules entries rounds (recorded_by gave to told_before) (recorded_by gave' to' told_after) report accounts
 all_ran goes closes class schedules entries rounds names names' gave gave' to to' told_before told_after routes more ends ends' clocks moments
     report accounts named whose small opened pumped told ticked settled =
     let p = pumped.1 in

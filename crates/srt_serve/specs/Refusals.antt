@@ -46,5 +46,5 @@ name_by_packet (Ok packet) = name_by_body packet.body
 name_by_packet (Err fault) = []
 
 -- the name that the Stream ID of a conclusion asks for, cut to 64 bytes; none where there is no such name
-abbrev pub name_asked : (datagram : List ℕ) → List ℕ
-name_asked datagram = name_by_packet (packet_in datagram)
+abbrev pub requested_name : (datagram : List ℕ) → List ℕ
+requested_name datagram = name_by_packet (packet_in datagram)

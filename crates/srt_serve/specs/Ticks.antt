@@ -37,7 +37,7 @@ WereTicked inbox tried moments (a ∷ more) (b ∷ bs) = WasTicked inbox tried m
 
 -- one tick: the ends that came before it, and its moment
 pub record TickOf (E : Type 0) : Type 0 where
-  pub came : List E
+  pub added : List E
   pub moment : ℕ
 
 -- the moments of these ticks, of which the last stands first, in their order
@@ -46,18 +46,18 @@ moments_of [] = []
 moments_of (t ∷ ticks) = moments_of ticks ++ t.moment ∷ []
 
 -- the ends that came before them, in their order
-abbrev pub came_in : {E : Type 0} → (ticks : List (TickOf E)) → List E
-came_in [] = []
-came_in (t ∷ ticks) = came_in ticks ++ t.came
+abbrev pub added_in : {E : Type 0} → (ticks : List (TickOf E)) → List E
+added_in [] = []
+added_in (t ∷ ticks) = added_in ticks ++ t.added
 
 -- each of the ends that were there was offered a tick of each of these, and so was each end that came, from the tick on before which it came
 abbrev pub WereTickedIn : {E : Type 0} → (inbox : E → Producer) → (tried : E → Option (List ℕ)) → (ticks : List (TickOf E)) → (old new : List E) → Type 0
 WereTickedIn inbox tried [] old new = new ≡ old
 WereTickedIn inbox tried (t ∷ ticks) old new =
-    (earlier : List _) × WereTickedIn inbox tried ticks old earlier × WereTicked inbox tried (t.moment ∷ []) (earlier ++ t.came) new
+    (earlier : List _) × WereTickedIn inbox tried ticks old earlier × WereTicked inbox tried (t.moment ∷ []) (earlier ++ t.added) new
 
 -- the ticker gave some moments, some ends came, and each end was offered a tick of each moment, or of each since it came
 abbrev pub Ticked : {E : Type 0} → (inbox : E → Producer) → (tried : E → Option (List ℕ)) → Option (List ℕ) → Option (List ℕ)
-    → (came came' : List E) → (old new : List E) → Type 0
-Ticked inbox tried gave given came came' old new =
-    (ticks : List (TickOf _)) × (given ≡ joined gave (moments_of ticks)) × (came' ≡ came ++ came_in ticks) × WereTickedIn inbox tried ticks old new
+    → (added added' : List E) → (old new : List E) → Type 0
+Ticked inbox tried gave given added added' old new =
+    (ticks : List (TickOf _)) × (given ≡ joined gave (moments_of ticks)) × (added' ≡ added ++ added_in ticks) × WereTickedIn inbox tried ticks old new

@@ -16,9 +16,9 @@ use Rattle.srt_poller.specs.Devices.{Arrival}
 use Rattle.srt_poller.specs.Schedules.{CloseOffer, begun}
 use Rattle.srt_poller.specs.History.{Sorting, Event, Begins, Accepts, Overflows, Refuses, State, at_first, state_by, Follow, calls, at_route, accepted}
 use Rattle.srt_poller.specs.History.{closes_all_in}
-use Rattle.srt_poller.specs.Plans.{IsAlone, is_asked, texts_of, ArePlans}
+use Rattle.srt_poller.specs.Plans.{IsAlone, is_requested, texts_of, ArePlans}
 use Rattle.srt_serve.specs.NamesAtStart.{until, first_names}
-use Rattle.srt_serve.specs.Ran.{RouteRan, Told, RanChanging, RanUntil, names_before}
+use Rattle.srt_serve.specs.Ran.{RouteRan, Recorded, RanChanging, RanUntil, names_before}
 use Rattle.srt_serve.specs.Isolation.{Trace, trace, IsTrace, sent_for, HasSentAll, places_of}
 
 -- no other shown route has the name of this one
@@ -170,10 +170,10 @@ AcceptedAreSorted =
 
 -- This run had routes with these schedules and entries at its beginning. Then those with the terms `came` came, and those with the indexes `asked` were
 -- asked to close
-pub record IsChanging (schedules : List Schedule) (entries came : List Terms) (asked : List ℕ) (t : Trace) : Type 0 where
-  pub names_are : t.names ≡ names_before schedules entries came
-  pub entries_are : t.entries ≡ entries ++ came
-  pub planned : ArePlans t.rounds (λ r. Unit {0}) schedules (texts_of t.names) asked t.schedules
+pub record IsChanging (schedules : List Schedule) (entries added : List Terms) (requested : List ℕ) (t : Trace) : Type 0 where
+  pub names_are : t.names ≡ names_before schedules entries added
+  pub entries_are : t.entries ≡ entries ++ added
+  pub planned : ArePlans t.rounds (λ r. Unit {0}) schedules (texts_of t.names) requested t.schedules
   pub ran : IsTrace t
 
 -- the same of a run to which none came and in which none was asked to close
@@ -186,16 +186,16 @@ pub record IsUnchanging (schedules : List Schedule) (entries : List Terms) (t : 
 -- a run to which routes may come is such a run
 abbrev pub ChangingRunsAreSo : Type 0
 ChangingRunsAreSo =
-    (class : Sorting) (schedules : List Schedule) (entries : List Terms) (rounds : ℕ) (old new : Told) (report : Report) (accounts : List Account)
+    (class : Sorting) (schedules : List Schedule) (entries : List Terms) (rounds : ℕ) (old new : Recorded) (report : Report) (accounts : List Account)
     → RanChanging class schedules entries rounds old new report accounts
-    → (came : List Terms) × (asked : List ℕ) × (later : List Schedule) × (events : List Event) × (moments : List ℕ)
-    × IsChanging schedules entries came asked
-    (trace (names_before schedules entries came) class later (entries ++ came) rounds old new report accounts events moments)
+    → (added : List Terms) × (requested : List ℕ) × (later : List Schedule) × (events : List Event) × (moments : List ℕ)
+    × IsChanging schedules entries added requested
+    (trace (names_before schedules entries added) class later (entries ++ added) rounds old new report accounts events moments)
 
 -- and one to which none may come is the other
 abbrev pub UnchangingRunsAreSo : Type 0
 UnchangingRunsAreSo =
-    (class : Sorting) (schedules : List Schedule) (entries : List Terms) (rounds : ℕ) (old new : Told) (report : Report) (accounts : List Account)
+    (class : Sorting) (schedules : List Schedule) (entries : List Terms) (rounds : ℕ) (old new : Recorded) (report : Report) (accounts : List Account)
     → RanUntil class schedules entries rounds old new report accounts
     → (events : List Event) × (moments : List ℕ)
     × IsUnchanging schedules entries (trace (first_names schedules entries) class schedules entries rounds old new report accounts events moments)
@@ -204,9 +204,9 @@ UnchangingRunsAreSo =
 -- others came and were asked to close
 abbrev pub LeftAsItWas : Type 0
 LeftAsItWas =
-    (schedules : List Schedule) (entries came : List Terms) (asked : List ℕ) (t : Trace) → IsChanging schedules entries came asked t
+    (schedules : List Schedule) (entries added : List Terms) (requested : List ℕ) (t : Trace) → IsChanging schedules entries added requested t
     → (r : ℕ) (terms : Terms) (s : Schedule) → slice_get entries r ≡ Some terms → slice_get schedules r ≡ Some s
-    → is_asked asked r ≡ false → IsAlone (texts_of t.names) r
+    → is_requested requested r ≡ false → IsAlone (texts_of t.names) r
     → IsRouteOf t r (until s.open_round (name_of terms)) s × (slice_get t.entries r ≡ Some terms)
 
 -- and so has it in a run without changes
@@ -232,10 +232,10 @@ RefusedChangesNothing =
 -- A run to which routes came and in which some were asked to close, and one without changes, of the same schedules and entries and the same secret, in
 -- which the source gave the same. This route wasn't asked to close, and no other one has its name. The same rounds close all, and its inbox accepts Close
 -- in the same rounds
-pub record AreAlike (secret : List ℕ) (schedules : List Schedule) (entries came : List Terms) (asked : List ℕ) (t u : Trace) (r : ℕ) (terms : Terms)
+pub record AreAlike (secret : List ℕ) (schedules : List Schedule) (entries added : List Terms) (requested : List ℕ) (t u : Trace) (r : ℕ) (terms : Terms)
     (s : Schedule) : Type 0 where
   pub sound : fault_of entries ≡ None
-  pub changing : IsChanging schedules entries came asked t
+  pub changing : IsChanging schedules entries added requested t
   pub unchanging : IsUnchanging schedules entries u
   pub sorts : t.class ≡ class_of secret
   pub sorts_there : u.class ≡ class_of secret
@@ -243,15 +243,15 @@ pub record AreAlike (secret : List ℕ) (schedules : List Schedule) (entries cam
   pub there : slice_get entries r ≡ Some terms
   pub scheduled : slice_get schedules r ≡ Some s
   pub alone : IsAlone (texts_of t.names) r
-  pub unasked : is_asked asked r ≡ false
+  pub unrequested : is_requested requested r ≡ false
   pub same_beginnings : beginnings r t.events ≡ beginnings r u.events
 
 -- As if nothing had happened: the same datagrams are sorted to the route in both runs, in the same order. If its inbox turns none of them away, it accepts
 -- the same datagrams; and if it accepts no Close, it accepts nothing else, and so the same items
 abbrev pub AsIfNothingHappened : Type 0
 AsIfNothingHappened =
-    (secret : List ℕ) (schedules : List Schedule) (entries came : List Terms) (asked : List ℕ) (t u : Trace) (r : ℕ) (terms : Terms) (s : Schedule)
-    → AreAlike secret schedules entries came asked t u r terms s
+    (secret : List ℕ) (schedules : List Schedule) (entries added : List Terms) (requested : List ℕ) (t u : Trace) (r : ℕ) (terms : Terms) (s : Schedule)
+    → AreAlike secret schedules entries added requested t u r terms s
     → (sorted_to r t.events ≡ sorted_to r u.events)
     × (missed r t.events ≡ [] → missed r u.events ≡ [] → received (accepted r t.events) ≡ received (accepted r u.events))
     × (missed r t.events ≡ [] → missed r u.events ≡ [] → is_closed_in (beginnings r t.events) ≡ false → accepted r t.events ≡ accepted r u.events)
@@ -266,8 +266,8 @@ pub record IsServed (t : Trace) (r : ℕ) (a : Account) : Type 0 where
 -- then the same datagrams are sent for the route, byte for byte, if it took the same ticks at the same places
 abbrev pub SentAsIfNothingHappened : Type 0
 SentAsIfNothingHappened =
-    (secret : List ℕ) (schedules : List Schedule) (entries came : List Terms) (asked : List ℕ) (t u : Trace) (r : ℕ) (terms : Terms) (s : Schedule)
-    → AreAlike secret schedules entries came asked t u r terms s
+    (secret : List ℕ) (schedules : List Schedule) (entries added : List Terms) (requested : List ℕ) (t u : Trace) (r : ℕ) (terms : Terms) (s : Schedule)
+    → AreAlike secret schedules entries added requested t u r terms s
     → (a b : Account) → (ran : RouteRan terms r t.events t.moments a) → (ran' : RouteRan terms r u.events u.moments b)
     → IsServed t r a → IsServed u r b
     → ticked_of ran.taken ≡ ticked_of ran'.taken → places_of ran.taken ≡ places_of ran'.taken

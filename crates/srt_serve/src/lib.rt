@@ -23,16 +23,16 @@
 #![tactic(auto)]
 
 mod arrivals;
-mod helping;
+mod inline_serving;
 pub mod laws;
 mod opening;
-mod post;
 mod refusals;
 mod running;
 mod serving;
 mod settling;
 mod shared_report;
 mod ticking;
+mod watcher_channel;
 mod watching;
 mod working;
 

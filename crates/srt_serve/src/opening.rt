@@ -9,7 +9,7 @@ ghost use Rattle.srt_mailbox.specs.Places.{came, locks_of};
 ghost use Rattle.srt_poller.specs.declared.ends.Ends.{Ends as TheEnds};
 ghost use Rattle.srt_serve.specs.Opened.{IsOpened, AreOpened, terms_in, new_clock, new_clocks};
 
-use crate::arrivals::{ClockArrivals, Named, seat_route};
+use crate::arrivals::{ClockArrivals, NameAttachment, seat_route};
 use srt_mailbox::{ClockEnd, Place, PollerEnds, Seat, SeatReader};
 use srt_poller::Ends;
 use srt_seq::Entry;
@@ -21,7 +21,7 @@ use std::sync::OnceToken;
 #[derive(Drop)]
 pub struct Opened<'a> {
     /// The polling thread's, which has come to all of them.
-    pub routes: SeatReader<'a, Named>,
+    pub routes: SeatReader<'a, NameAttachment>,
     /// The poller's ends: of the inbox and of the outbox.
     pub ends: Vec<Ends>,
     /// The ticking thread's, which has come to all of them.
@@ -29,16 +29,16 @@ pub struct Opened<'a> {
     /// The clock's ends of the inboxes.
     pub clocks: Vec<ClockEnd>,
     /// Of each place, which route it was given. No bytes.
-    pub put: Vec<OnceToken<'a, Seat<Named>>>,
+    pub put: Vec<OnceToken<'a, Seat<NameAttachment>>>,
 }
 
 // Puts a route into the next place, and takes the poller's ends from there. Returns the knowledge that it is there.
 fn take_first<'a>(
-    routes: &mut SeatReader<'a, Named>,
+    routes: &mut SeatReader<'a, NameAttachment>,
     ends: &mut Vec<Ends>,
-    places: &'a [Place<Named>],
-    seat: Seat<Named>,
-) -> Result<OnceToken<'a, Seat<Named>>, AllocError>
+    places: &'a [Place<NameAttachment>],
+    seat: Seat<NameAttachment>,
+) -> Result<OnceToken<'a, Seat<NameAttachment>>, AllocError>
     requires { locks_of routes.old ≡ map (λ p. p.seat.id) places.now }
     ensures put { IfOk result (λ t. (slice_get (locks_of routes.old) (length (came routes.old)) ≡ Some t.of)
         × (identity_in t.value.cell ≡ identity_in seat.cell)) }
@@ -85,7 +85,7 @@ fn take_first_clock(
 pub fn open_routes<'a>(
     alloc: Global,
     entries: &[Entry],
-    places: &'a [Place<Named>],
+    places: &'a [Place<NameAttachment>],
 ) -> Result<Opened<'a>, AllocError>
     ensures entries { IfOk result (λ o. terms_in (came o.routes) ≡ map terms_of entries.now) }
     ensures opened { IfOk result (λ o. AreOpened (came o.routes) o.ends.items) }

@@ -7,7 +7,7 @@ ghost use Rattle.srt_mailbox.specs.Identities.{identity_in};
 ghost use Rattle.srt_mailbox.specs.Places.{came, locks_of};
 ghost use Rattle.srt_serve.specs.Settled.{AreJoined, AreSettled};
 
-use crate::arrivals::Named;
+use crate::arrivals::NameAttachment;
 use srt_mailbox::{Account, ClockEnd, Seat, SeatReader};
 use srt_poller::Ends;
 use srt_seq::limits::MAX_ROUTES;
@@ -20,8 +20,8 @@ pub struct Busy;
 /// That the reader came at first to the routes that were put into these places before any thread ran. It may have come to
 /// more. If it hasn't come to all of these, or to more than 511, the routes can't be settled.
 pub fn began_with<'a>(
-    routes: &SeatReader<'a, Named>,
-    put: &Vec<OnceToken<'a, Seat<Named>>>,
+    routes: &SeatReader<'a, NameAttachment>,
+    put: &Vec<OnceToken<'a, Seat<NameAttachment>>>,
 ) -> Result<(), Busy>
     requires { map (λ t. t.of) put.now.items ≡ take (length put.now.items) (locks_of routes.now) }
     ensures began { OnOk result ((more : List CellIdentity) × (came routes.now ≡ map (λ t. identity_in t.value.cell) put.now.items ++ more)) }
@@ -42,8 +42,8 @@ pub fn began_with<'a>(
 /// That the ticking thread's reader came to all routes to which the polling thread's did, the same at each index. It may
 /// have come to more. If it hasn't come to all, the routes can't be settled.
 pub fn came_to_all<'a>(
-    routes: &SeatReader<'a, Named>,
-    arrivals: &SeatReader<'a, Named>,
+    routes: &SeatReader<'a, NameAttachment>,
+    arrivals: &SeatReader<'a, NameAttachment>,
 ) -> Result<(), Busy>
     requires { locks_of arrivals.now ≡ locks_of routes.now }
     ensures { OnOk result ((more : List CellIdentity) × (came arrivals.now ≡ came routes.now ++ more)) }
@@ -62,7 +62,7 @@ pub fn came_to_all<'a>(
 /// no memory is taken.
 pub fn settle_routes<R: Wait>(
     rt: &R,
-    routes: &SeatReader<'_, Named>,
+    routes: &SeatReader<'_, NameAttachment>,
     ends: Vec<Ends>,
     clocks: Vec<ClockEnd>,
     mut accounts: Vec<Account>,

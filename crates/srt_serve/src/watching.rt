@@ -1,8 +1,8 @@
 //! The watching thread of a run: it shows the routes to a watcher, tells it what was refused, and hands on to the poller
 //! what the watcher asks of it.
 
-use crate::arrivals::{Host, Named, News, seat_route};
-use crate::post::Post;
+use crate::arrivals::{NameAttachment, RouteHost, RouteNotices, seat_route};
+use crate::watcher_channel::WatcherChannel;
 use srt_mailbox::{Observer, Seat, Serve};
 use srt_route::Route;
 use srt_seq::Entry;
@@ -18,7 +18,7 @@ const REFUSALS_PER_REST: u32 = 1024;
 
 // The number of looks in a row that find all quiet before a watcher is told so. A hint is cleared before its outbox is
 // drained, so that one look alone may miss replies that are being sent.
-const QUIET_LOOKS: u32 = 2;
+const QUIET_CHECKS: u32 = 2;
 
 /// Makes the changes that a watcher requests.
 #[derive(Drop)]
@@ -28,14 +28,14 @@ pub struct Changer<'a, C> {
     /// The places of all routes, the taken ones first.
     pub places: &'a [C],
     /// Tells the polling thread.
-    pub news: &'a News,
+    pub notices: &'a RouteNotices,
     /// The number of places that are taken.
     pub routes: usize,
 }
 
-impl<C: Host> Changer<'_, C> {
+impl<C: RouteHost> Changer<'_, C> {
     // Opens all routes of a change, without a place.
-    fn open_all(&self, entries: &[Entry]) -> Result<Vec<Seat<Named>>, ChangeFault> {
+    fn open_all(&self, entries: &[Entry]) -> Result<Vec<Seat<NameAttachment>>, ChangeFault> {
         let left = self.places.len().saturating_sub(self.routes);
         if entries.len() > left {
             return Err(ChangeFault::NoIndexLeft(left));
@@ -53,7 +53,7 @@ impl<C: Host> Changer<'_, C> {
     }
 
     // Puts the routes of a change into their places.
-    fn host_all(&mut self, seats: Vec<Seat<Named>>) {
+    fn host_all(&mut self, seats: Vec<Seat<NameAttachment>>) {
         for seat in seats {
             if let Some(place) = self.places.get(self.routes) {
                 place.host(seat);
@@ -69,7 +69,7 @@ impl<C: Host> Changer<'_, C> {
     }
 }
 
-impl<C: Host> ChangeRoutes for Changer<'_, C> {
+impl<C: RouteHost> ChangeRoutes for Changer<'_, C> {
     // Allocates all memory first, then puts the routes into their places, and then notifies the polling thread.
     fn change(&mut self, changes: RouteChanges) -> Result<usize, ChangeFault> {
         let seats = self.open_all(&changes.opens)?;
@@ -77,10 +77,10 @@ impl<C: Host> ChangeRoutes for Changer<'_, C> {
         self.host_all(seats);
         for route in &changes.closes {
             if *route < first {
-                self.news.close(*route);
+                self.notices.close(*route);
             }
         }
-        self.news.tell();
+        self.notices.notify();
         Ok(first)
     }
 }
@@ -119,12 +119,7 @@ impl<T: Watch> Observer for Viewer<'_, T> {
 
 // Claims each route, and shows it to the watcher if that looks. Whether all were quiet; one that another thread has
 // isn't.
-fn look_at_all<R: Wait, C: Serve, T: Watch>(
-    rt: &R,
-    cells: &[C],
-    watch: &mut T,
-    looks: bool,
-) -> bool {
+fn show_all<R: Wait, C: Serve, T: Watch>(rt: &R, cells: &[C], watch: &mut T, looks: bool) -> bool {
     let mut all_quiet = true;
     for (index, cell) in cells.iter().enumerate() {
         let mut viewer = Viewer {
@@ -140,9 +135,9 @@ fn look_at_all<R: Wait, C: Serve, T: Watch>(
 }
 
 // Tells the watcher the refusals that wait.
-fn tell_refusals<R: Wait, T: Watch>(rt: &R, post: &Post, watch: &mut T) {
+fn report_refusals<R: Wait, T: Watch>(rt: &R, channel: &WatcherChannel, watch: &mut T) {
     for _ in 0..REFUSALS_PER_REST {
-        let Some(refusal) = post.take(rt) else {
+        let Some(refusal) = channel.take(rt) else {
             return;
         };
         watch.refused(&refusal);
@@ -161,19 +156,19 @@ struct Known {
 
 impl Known {
     // Takes the counts that were left since, if there are any.
-    fn take(&mut self, post: &Post) {
-        if let Some(counts) = post.report.take() {
+    fn take(&mut self, channel: &WatcherChannel) {
+        if let Some(counts) = channel.report.take() {
             self.counts = counts;
             self.reports = self.reports.saturating_add(1);
         }
     }
 
     // What the watcher is told before its next rest.
-    fn told(&self, post: &Post) -> RunStatus {
+    fn status(&self, channel: &WatcherChannel) -> RunStatus {
         RunStatus {
-            is_quiet: self.quiet >= QUIET_LOOKS,
-            faults: post.faults(),
-            missed: post.missed(),
+            is_quiet: self.quiet >= QUIET_CHECKS,
+            faults: channel.faults(),
+            missed: channel.missed(),
             counts: self.counts,
             reports: self.reports,
         }
@@ -181,24 +176,24 @@ impl Known {
 }
 
 // Lets the watcher rest once, and does what it asks.
-fn watch_once<R: Wait, C: Serve + Host, T: Watch>(
+fn watch_once<R: Wait, C: Serve + RouteHost, T: Watch>(
     rt: &R,
     changer: &mut Changer<'_, C>,
     wakeups: &Wakeups,
-    post: &Post,
+    channel: &WatcherChannel,
     watch: &mut T,
     known: &mut Known,
 ) {
-    known.take(post);
-    let asked = watch.next(known.told(post));
-    post.ask(asked);
-    tell_refusals(rt, post, watch);
+    known.take(channel);
+    let order = watch.next(known.status(channel));
+    channel.set_order(order);
+    report_refusals(rt, channel, watch);
     let looks = watch.wants_routes();
-    let closes = !matches!(asked, Order::GoOn);
+    let closes = !matches!(order, Order::GoOn);
     if !closes {
         watch.change_routes(changer);
     }
-    let is_quiet = (looks || closes) && look_at_all(rt, changer.taken(), watch, looks);
+    let is_quiet = (looks || closes) && show_all(rt, changer.taken(), watch, looks);
     known.quiet = if is_quiet && closes && !wakeups.any_outbox_ready() {
         known.quiet.saturating_add(1)
     } else {
@@ -208,11 +203,11 @@ fn watch_once<R: Wait, C: Serve + Host, T: Watch>(
 
 /// Watches until the run is over. After each rest of the watcher the poller is asked what it said, the refusals are told
 /// that wait, the change is made that it asks for, and the routes are shown if it looks.
-pub fn watch_routes<R: Wait, C: Serve + Host, T: Watch>(
+pub fn watch_routes<R: Wait, C: Serve + RouteHost, T: Watch>(
     rt: &R,
     mut changer: Changer<'_, C>,
     wakeups: &Wakeups,
-    post: &Post,
+    channel: &WatcherChannel,
     watch: &mut T,
 ) {
     wakeups.arrive();
@@ -225,7 +220,7 @@ pub fn watch_routes<R: Wait, C: Serve + Host, T: Watch>(
         if wakeups.is_done() {
             return;
         }
-        watch_once(rt, &mut changer, wakeups, post, watch, &mut known);
+        watch_once(rt, &mut changer, wakeups, channel, watch, &mut known);
         thread::yield_now();
     }
 }
@@ -235,11 +230,11 @@ pub fn watch_routes<R: Wait, C: Serve + Host, T: Watch>(
 pub fn watch_last<R: Wait, C: Serve, T: Watch>(
     rt: &R,
     cells: &[C],
-    post: Option<&Post>,
+    channel: Option<&WatcherChannel>,
     watch: &mut T,
 ) {
-    if let Some(post) = post {
-        let _ = look_at_all(rt, cells, watch, true);
-        tell_refusals(rt, post, watch);
+    if let Some(channel) = channel {
+        let _ = show_all(rt, cells, watch, true);
+        report_refusals(rt, channel, watch);
     }
 }

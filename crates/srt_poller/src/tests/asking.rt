@@ -55,9 +55,9 @@ impl<'a> Asking<'a> {
         Asking::new(asked, Vec::new(alloc))
     }
 
-    fn compare(&self, came: &[u8], wanted: &[u8]) {
+    fn compare(&self, actual: &[u8], wanted: &[u8]) {
         if self.difference.get().is_none() {
-            self.difference.set(first_difference(came, wanted));
+            self.difference.set(first_difference(actual, wanted));
         }
     }
 
@@ -86,7 +86,7 @@ impl Signals for Asking<'_> {
 
     ghost stops = { λ s. Unit {0} };
 
-    fn asked(&self) -> Order {
+    fn order(&self) -> Order {
         let at = self.at.get();
         self.at.set(at.wrapping_add(1));
         self.asked.get(at).copied().unwrap_or(Order::GoOn)

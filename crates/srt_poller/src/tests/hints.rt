@@ -25,7 +25,7 @@ impl Signals for Silent {
 
     ghost stops = { λ s. ⊥ };
 
-    fn asked(&self) -> Order {
+    fn order(&self) -> Order {
         Order::GoOn
     }
 

@@ -14,7 +14,7 @@ const REFUSAL_PLACES: usize = 64;
 
 /// Between the polling thread and the watching one.
 #[derive(Drop)]
-pub struct Post {
+pub struct WatcherChannel {
     // the poller is asked to close all
     closes: AtomicBool,
     // the poller is asked to end
@@ -28,11 +28,11 @@ pub struct Post {
     pub report: SharedReport,
 }
 
-impl Post {
+impl WatcherChannel {
     /// The poller is asked to go on, nothing was told, and its first counts are wanted. Allocates room for 64
     /// refusals; an error means that memory was refused.
-    pub fn open(alloc: Global) -> Result<Post, AllocError> {
-        Ok(Post {
+    pub fn open(alloc: Global) -> Result<WatcherChannel, AllocError> {
+        Ok(WatcherChannel {
             closes: AtomicBool::new(false),
             ends: AtomicBool::new(false),
             faults: AtomicU64::new(0),
@@ -43,8 +43,8 @@ impl Post {
     }
 
     /// Asks this of the poller from now on. Once it was asked to end, nothing else is asked of it.
-    pub fn ask(&self, asked: Order) {
-        match asked {
+    pub fn set_order(&self, order: Order) {
+        match order {
             Order::GoOn => self.closes.store(false, Ordering::SeqCst),
             Order::CloseAll => self.closes.store(true, Ordering::SeqCst),
             Order::End => self.ends.store(true, Ordering::SeqCst),
@@ -52,7 +52,7 @@ impl Post {
     }
 
     /// What is asked of the poller.
-    pub fn asked(&self) -> Order {
+    pub fn order(&self) -> Order {
         if self.ends.load(Ordering::SeqCst) {
             Order::End
         } else if self.closes.load(Ordering::SeqCst) {
