@@ -22,7 +22,7 @@ use Rattle.srt_poller.proofs.Beginning.{began_closing, began_quietly}
 use Rattle.srt_poller.proofs.Replanning.{agree_none, agree_append, agree_then, wait_later, agree_closed, many_updated, requested_more, requested_other, or_true}
 use Rattle.srt_poller.proofs.Replanning.{or_false, plans_as, plans_later, plans_appended, plans_closed}
 
-hidden_more : (added : List NewRoute) (n : NewRoute) → AreHidden (names_in added) → n.name.is_shown ≡ false → AreHidden (names_in (added ++ n ∷ []))
+pub hidden_more : (added : List NewRoute) (n : NewRoute) → AreHidden (names_in added) → n.name.is_shown ≡ false → AreHidden (names_in (added ++ n ∷ []))
 hidden_more [] n hidden this = (this, tt)
 hidden_more (m ∷ added) n hidden this = (hidden.0, hidden_more added n hidden.1 this)
 
@@ -95,7 +95,7 @@ requested_one_more round reported reported' reported'' ps ps' ps'' r within tell
         ∙ or_false (is_requested requested i)) ∙ asks)
 
 -- what was reported is none
-nothing_more : (reported : RouteReports) → reported ≡ route_reports_more reported [] []
+pub nothing_more : (reported : RouteReports) → reported ≡ route_reports_more reported [] []
 nothing_more reported = λ i. record { added = sym (joined_none reported.added) i; requested = sym (joined_none reported.requested) i }
 
 pub took_nothing : (round due : ℕ) (reported : RouteReports) (ps : List Schedule) (ns : List RouteName) (es : List Ends) → length ps ≡ length ns →

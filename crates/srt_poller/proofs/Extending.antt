@@ -17,7 +17,8 @@ use Rattle.srt_poller.proofs.Steps.{later_none, went_more}
 abbrev pub extended : (more : List RouteName) → (ends : List Ends) → World → World
 extended more ends w = world w.source w.wire (w.ends ++ ends) (with_more more w.state) w.report
 
-are_later_more : (events : List Event) (x y more : List Ends) → AreLater events x y → AreLater events (x ++ more) (y ++ more)
+-- the ends of further routes stay as they are
+pub are_later_more : (events : List Event) (x y more : List Ends) → AreLater events x y → AreLater events (x ++ more) (y ++ more)
 are_later_more events x y more h = record {
   as_many = let a = h.as_many in omega (arith, a, length-append x more, length-append y more);
   each = λ r e below. by r e (cases_lt r (length x));

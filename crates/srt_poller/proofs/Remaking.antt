@@ -40,16 +40,16 @@ AreMade goes closes secret first made plans plans' reported reported' names name
     (added : List NewRoute) × (requested : List ℕ) × (waits : Bool)
     × Made goes closes secret first made plans plans' reported reported' names names' ends old new added requested waits
 
-all_names : (names : List RouteName) (added more : List NewRoute) → (names ++ names_in added) ++ names_in more ≡ names ++ names_in (added ++ more)
+pub all_names : (names : List RouteName) (added more : List NewRoute) → (names ++ names_in added) ++ names_in more ≡ names ++ names_in (added ++ more)
 all_names names added more =
     append_assoc names (names_in added) (names_in more)
     ∙ ap (λ (l : List RouteName). names ++ l) (sym (map-append (λ (n : NewRoute). n.name) added more))
 
-all_ends : (ends : List Ends) (added more : List NewRoute) → (ends ++ ends_in added) ++ ends_in more ≡ ends ++ ends_in (added ++ more)
+pub all_ends : (ends : List Ends) (added more : List NewRoute) → (ends ++ ends_in added) ++ ends_in more ≡ ends ++ ends_in (added ++ more)
 all_ends ends added more =
     append_assoc ends (ends_in added) (ends_in more) ∙ ap (λ (l : List Ends). ends ++ l) (sym (map-append (λ (n : NewRoute). n.ends) added more))
 
-reports_twice : (reported : RouteReports) (added more : List NewRoute) (requested others : List ℕ) →
+pub reports_twice : (reported : RouteReports) (added more : List NewRoute) (requested others : List ℕ) →
     route_reports_more (route_reports_more reported added requested) more others ≡ route_reports_more reported (added ++ more) (requested ++ others)
 reports_twice reported added more requested others =
     λ i. record {

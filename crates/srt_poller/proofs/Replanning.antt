@@ -27,7 +27,7 @@ use Rattle.srt_poller.specs.Changes.{OpensOne, Opens}
 use Rattle.srt_poller.proofs.ShownInRound.{no_schedule, opened_step, texts_opened, as_many}
 
 -- lists that go on
-get_left : {A : Type 0} (xs ys : List A) (r : ℕ) → r < length xs → slice_get (xs ++ ys) r ≡ slice_get xs r
+pub get_left : {A : Type 0} (xs ys : List A) (r : ℕ) → r < length xs → slice_get (xs ++ ys) r ≡ slice_get xs r
 get_left [] ys r within = absurd (omega (arith, within))
 get_left (x ∷ xs) ys zero within = refl
 get_left (x ∷ xs) ys (suc r) within = get_left xs ys r (omega (arith, within))
@@ -203,27 +203,40 @@ plans_later k W W' schedules texts requested ps w h = record {
   each = λ r t at. plan_later k (W r) (W' r) _ _ _ (slice_get schedules r) t (w r) (λ alone. alone) (h.each r t at);
 }
 
--- routes that come
+-- a plan is the same with further names after the others
 alone_left : (texts more : List (List ℕ)) (r : ℕ) → IsAlone (texts ++ more) r → IsAlone texts r
 alone_left texts more r alone i text here there =
     alone i text (get_left texts more r (slice_get_within texts r text here) ∙ here) (get_left texts more i (slice_get_within texts i text there) ∙ there)
 
+plan_before : (k : ℕ) (W A A' : Type 0) (a : Bool) (o : Option Schedule) (t : Schedule) → (A' → A) → IsPlanOf k W A a o t → IsPlanOf k W A' a o t
+plan_before k W A A' a None t f h = record { opens = λ alone. h.opens (f alone); kept = h.kept; closes = h.closes }
+plan_before k W A A' a (Some s) t f h =
+    record {
+      same = λ alone. h.same (f alone);
+      later = h.later;
+      missed = h.missed;
+      kept = h.kept;
+      sooner = h.sooner;
+      closes = h.closes;
+    }
+
+-- added routes wait
 waits_there : (added : List NewRoute) (i : ℕ) (t : Schedule) → slice_get (map (λ n. waiting) added) i ≡ Some t → t ≡ waiting
 waits_there [] i t h = cc
 waits_there (n ∷ added) zero t h = let same : waiting ≡ t = cc in sym same
 waits_there (n ∷ added) (suc i) t h = waits_there added i t h
 
-waits_new : (k : ℕ) (A : Type 0) (a : Bool) (t : Schedule) → t ≡ waiting → (a ≡ true → ⊥) → IsNewPlan k (Unit {0}) A a t
-waits_new k A a t is un = record {
-  opens = λ alone unrequested. inr (ap (λ (s : Schedule). s.open_round) is, tt);
+waits_new : (k : ℕ) (W A : Type 0) (a : Bool) (t : Schedule) → W → t ≡ waiting → (a ≡ true → ⊥) → IsNewPlan k W A a t
+waits_new k W A a t w is un = record {
+  opens = λ alone unrequested. inr (ap (λ (s : Schedule). s.open_round) is, w);
   kept = λ unrequested. ap (λ (s : Schedule). s.close_round) is;
   closes = λ requested. absurd (un requested);
 }
 
-pub plans_appended : (k : ℕ) (W : ℕ → Type 0) (schedules : List Schedule) (texts more : List (List ℕ)) (requested : List ℕ) (ps : List Schedule)
-    (added : List NewRoute) → length more ≡ length added → ArePlans k W schedules texts requested ps →
-    ArePlans (suc k) (λ r. Unit {0}) schedules (texts ++ more) requested (ps ++ map (λ n. waiting) added)
-plans_appended k W schedules texts more requested ps added many h = record {
+pub plans_with : (k : ℕ) (W : Type 0) (schedules : List Schedule) (texts more : List (List ℕ)) (requested : List ℕ) (ps : List Schedule)
+    (added : List NewRoute) → W → length more ≡ length added → ArePlans k (λ r. W) schedules texts requested ps →
+    ArePlans k (λ r. W) schedules (texts ++ more) requested (ps ++ map (λ n. waiting) added)
+plans_with k W schedules texts more requested ps added w many h = record {
   as_many = let a = h.as_many in omega (arith, a, many, length-append ps ws, length-append texts more, length-map added (λ n. waiting));
   fewer = omega (arith, h.fewer, length-append ps ws);
   known = λ r is. omega (arith, h.known r is, length-append ps ws);
@@ -234,20 +247,27 @@ plans_appended k W schedules texts more requested ps added many h = record {
     ws = map (λ n. waiting) added
 
     new : (r n : ℕ) (t : Schedule) → r ≡ length ps + n → slice_get (ps ++ ws) r ≡ Some t →
-        IsPlanOf (suc k) (Unit {0}) (IsAlone (texts ++ more) r) (is_requested requested r) (slice_get schedules r) t
+        IsPlanOf k W (IsAlone (texts ++ more) r) (is_requested requested r) (slice_get schedules r) t
     new r n t same at =
         let none : slice_get schedules r ≡ None = slice_get_past schedules r (omega (arith, same, h.fewer)) in
         let here : t ≡ waiting = waits_there added n t (sym (get_right ps ws n) ∙ ap (slice_get (ps ++ ws)) (sym same) ∙ at) in
         let unrequested : is_requested requested r ≡ true → ⊥ = λ is. let within = h.known r is in omega (arith, within, same) in
-        subst (λ (o : Option Schedule). IsPlanOf (suc k) (Unit {0}) (IsAlone (texts ++ more) r) (is_requested requested r) o t) (sym none)
-        (waits_new (suc k) (IsAlone (texts ++ more) r) (is_requested requested r) t here unrequested)
+        subst (λ (o : Option Schedule). IsPlanOf k W (IsAlone (texts ++ more) r) (is_requested requested r) o t) (sym none)
+        (waits_new k W (IsAlone (texts ++ more) r) (is_requested requested r) t w here unrequested)
 
     by : (r : ℕ) (t : Schedule) → slice_get (ps ++ ws) r ≡ Some t → (r < length ps) ⊎ (length ps ≤ r) →
-        IsPlanOf (suc k) (Unit {0}) (IsAlone (texts ++ more) r) (is_requested requested r) (slice_get schedules r) t
+        IsPlanOf k W (IsAlone (texts ++ more) r) (is_requested requested r) (slice_get schedules r) t
     by r t at (inl within) =
-        plan_later k (W r) (Unit {0}) (IsAlone texts r) (IsAlone (texts ++ more) r) (is_requested requested r) (slice_get schedules r) t (λ w. tt)
-        (alone_left texts more r) (h.each r t (sym (get_left ps ws r within) ∙ at))
+        plan_before k W (IsAlone texts r) (IsAlone (texts ++ more) r) (is_requested requested r) (slice_get schedules r) t (alone_left texts more r)
+        (h.each r t (sym (get_left ps ws r within) ∙ at))
     by r t at (inr past) = new r (r - length ps) t (omega (arith, past)) at
+
+pub plans_appended : (k : ℕ) (W : ℕ → Type 0) (schedules : List Schedule) (texts more : List (List ℕ)) (requested : List ℕ) (ps : List Schedule)
+    (added : List NewRoute) → length more ≡ length added → ArePlans k W schedules texts requested ps →
+    ArePlans (suc k) (λ r. Unit {0}) schedules (texts ++ more) requested (ps ++ map (λ n. waiting) added)
+plans_appended k W schedules texts more requested ps added many h =
+    plans_with (suc k) (Unit {0}) schedules texts more requested ps added tt many
+    (plans_later k W (λ r. Unit {0}) schedules texts requested ps (λ r w. tt) h)
 
 -- routes that are asked to close
 pub or_true : (b : Bool) → (b || true) ≡ true

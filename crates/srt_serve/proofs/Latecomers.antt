@@ -1,11 +1,9 @@
 -- Routes that came after the poller's last round: it did what it does if they had been there, hidden, from the beginning on.
-use Rattle.std.proofs.Common.{◌≡◌, ◌⊎◌, inl, inr, sym, ap, subst, ◌∙◌, ℕ, zero, suc, ◌+◌, ◌-◌, ◌*◌, ◌^◌, ◌<◌, ◌≤◌, Bool, true, false, refl}
-use Rattle.std.proofs.Common.{Option, None, Some, List, [], ◌∷◌, ◌++◌, length, map, slice_get, slice_index_or, append_assoc, append-nil, arith}
+use Rattle.std.proofs.Common.{◌≡◌, ◌⊎◌, inl, inr, sym, ap, subst, ◌∙◌, ℕ, ◌+◌, ◌*◌, ◌^◌, ◌<◌, ◌≤◌, false}
+use Rattle.std.proofs.Common.{List, [], ◌∷◌, ◌++◌, length, map, append-nil, arith}
 use Rattle.std.proofs.Math.Nat.{mul-le-mul_left}
-use Rattle.std.proofs.lemmas.Bool.{cases_lt}
-use Rattle.std.proofs.lemmas.List.{map-append, length-append, length-map, get_or_append_left, get_or-append-add}
+use Rattle.std.proofs.lemmas.List.{map-append, length-append, length-map}
 use Rattle.std.proofs.lemmas.List.Sums.{sum_by-cons}
-use Rattle.std.proofs.lemmas.Option.{slice_get_within, slice_get_past}
 use Rattle.srt_cookie.specs.declared.secret.Secret.{Secret}
 use Rattle.srt_seq.specs.declared.shared.Schedule.{Schedule}
 use Rattle.srt_lobby.specs.Names.{RouteName}
@@ -15,16 +13,17 @@ use Rattle.srt_poller.specs.Beforehand.{AgreeBefore}
 use Rattle.srt_poller.specs.Changes.{PumpedChanging, with_routes}
 use Rattle.srt_poller.specs.Devices.{joined}
 use Rattle.srt_poller.specs.History.{Event, Begins, Waits, WaitFails, ReadsNothing, ReadFails, Answers, Accepts, Overflows, Refuses, Drops}
-use Rattle.srt_poller.specs.History.{Sends, Resends, State, IsOver, at_first, round_by, state_by, state_after, waits_by, waits_in, accepted, drained}
-use Rattle.srt_poller.specs.Openings.{NewRoute, ReportedRoute, reported_route, names_in, ends_in, RouteReports, route_reports_more}
-use Rattle.srt_poller.specs.Plans.{never, texts_of, IsAlone, is_requested, IsNewPlan, IsPlanOf, ArePlans, waiting}
+use Rattle.srt_poller.specs.History.{Sends, Resends, State, IsOver, at_first, round_by, state_by, state_after, waits_by, waits_in}
+use Rattle.srt_poller.specs.Openings.{NewRoute, reported_route, names_in, ends_in, RouteReports, route_reports_more}
+use Rattle.srt_poller.specs.Plans.{never, texts_of, ArePlans, waiting}
 use Rattle.srt_poller.specs.Pollers.{sorting}
 use Rattle.srt_poller.specs.Pumped.{Before, After, PumpedUnder, after}
-use Rattle.srt_poller.specs.Rounds.{IsLater, AreLater}
 use Rattle.srt_poller.proofs.Beforehand.{earlier_rounds_are_same, lobby_ignores_later}
-use Rattle.srt_poller.proofs.Joined.{joined_none, joined_twice}
-use Rattle.srt_poller.proofs.Replanning.{agree_append, wait_later}
-use Rattle.srt_poller.proofs.Steps.{later_none}
+use Rattle.srt_poller.proofs.Additions.{hidden_more, nothing_more}
+use Rattle.srt_poller.proofs.Extending.{are_later_more}
+use Rattle.srt_poller.proofs.Joined.{joined_none}
+use Rattle.srt_poller.proofs.Remaking.{all_names, all_ends, reports_twice}
+use Rattle.srt_poller.proofs.Replanning.{agree_append, wait_later, plans_with}
 use Rattle.srt_serve.specs.inside.Polled.{Polled}
 
 -- the number of the round is that of the waits
@@ -50,124 +49,12 @@ round_after schedules s (event ∷ events) =
     let all = sum_by-cons waits_by event events in
     rest ∙ (let same : round_by s.round event + waits_in events ≡ s.round + waits_in (event ∷ events) = omega (arith, one, all) in same)
 
--- lists that go on
-get_left : {A : Type 0} (xs ys : List A) (r : ℕ) → r < length xs → slice_get (xs ++ ys) r ≡ slice_get xs r
-get_left [] ys r within = absurd (omega (arith, within))
-get_left (x ∷ xs) ys zero within = refl
-get_left (x ∷ xs) ys (suc r) within = get_left xs ys r (omega (arith, within))
-
-get_right : {A : Type 0} (xs ys : List A) (n : ℕ) → slice_get (xs ++ ys) (length xs + n) ≡ slice_get ys n
-get_right [] ys n = let same : 0 + n ≡ n = omega arith in ap (slice_get ys) same
-get_right (x ∷ xs) ys n =
-    let same : suc (length xs) + n ≡ suc (length xs + n) = omega arith in
-    ap (slice_get (x ∷ xs ++ ys)) same ∙ get_right xs ys n
-
--- the ends of further routes stay as they are
-later_with : (events : List Event) (x y more : List Ends) → AreLater events x y → AreLater events (x ++ more) (y ++ more)
-later_with events x y more h = record {
-  as_many = let a = h.as_many in omega (arith, a, length-append x more, length-append y more);
-  each = λ r e below. by r e (cases_lt r (length x));
-  others = λ r past. h.others r (omega (arith, past, length-append x more));
-}
-  where
-    beyond : (r n : ℕ) (e : Ends) → r ≡ length x + n →
-        IsLater (accepted r events) (drained r events) (slice_index_or (x ++ more) r e) (slice_index_or (y ++ more) r e)
-    beyond r n e at =
-        let none = h.others r (omega (arith, at)) in
-        let as_many : r ≡ length y + n = omega (arith, at, h.as_many) in
-        rw (
-          none.0,
-          none.1,
-          ap (λ k. slice_index_or (x ++ more) k e) at ∙ get_or-append-add x more n e,
-          ap (λ k. slice_index_or (y ++ more) k e) as_many ∙ get_or-append-add y more n e,
-        ) (later_none (slice_index_or more n e))
-
-    by : (r : ℕ) (e : Ends) → (r < length x) ⊎ (length x ≤ r) →
-        IsLater (accepted r events) (drained r events) (slice_index_or (x ++ more) r e) (slice_index_or (y ++ more) r e)
-    by r e (inl within) =
-        let there : r < length y = omega (arith, within, h.as_many) in
-        rw (get_or_append_left x more e r within, get_or_append_left y more e r there) (h.each r e within)
-    by r e (inr past) = beyond r (r - length x) e (omega (arith, past))
-
--- plans are the same with further names behind the others
-alone_before : (texts more : List (List ℕ)) (r : ℕ) → IsAlone (texts ++ more) r → IsAlone texts r
-alone_before texts more r alone i text here there =
-    alone i text (get_left texts more r (slice_get_within texts r text here) ∙ here) (get_left texts more i (slice_get_within texts i text there) ∙ there)
-
-plan_before : (k : ℕ) (W A A' : Type 0) (a : Bool) (o : Option Schedule) (t : Schedule) → (A' → A) → IsPlanOf k W A a o t → IsPlanOf k W A' a o t
-plan_before k W A A' a None t f h = record { opens = λ alone. h.opens (f alone); kept = h.kept; closes = h.closes }
-plan_before k W A A' a (Some s) t f h =
-    record {
-      same = λ alone. h.same (f alone);
-      later = h.later;
-      missed = h.missed;
-      kept = h.kept;
-      sooner = h.sooner;
-      closes = h.closes;
-    }
-
-plan_waits : (k : ℕ) (W A : Type 0) (a : Bool) (t : Schedule) → W → t ≡ waiting → (a ≡ true → ⊥) → IsNewPlan k W A a t
-plan_waits k W A a t w is unrequested = record {
-  opens = λ alone no. inr (ap (λ (s : Schedule). s.open_round) is, w);
-  kept = λ no. ap (λ (s : Schedule). s.close_round) is;
-  closes = λ requested. absurd (unrequested requested);
-}
-
-all_wait : (more : List NewRoute) (i : ℕ) (t : Schedule) → slice_get (map (λ n. waiting) more) i ≡ Some t → t ≡ waiting
-all_wait [] i t h = cc
-all_wait (n ∷ more) zero t h = let same : waiting ≡ t = cc in sym same
-all_wait (n ∷ more) (suc i) t h = all_wait more i t h
-
-plans_with : (k : ℕ) (W : Type 0) (schedules : List Schedule) (texts others : List (List ℕ)) (requested : List ℕ) (ps : List Schedule) (more : List NewRoute)
-    → W → length others ≡ length more → ArePlans k (λ r. W) schedules texts requested ps
-    → ArePlans k (λ r. W) schedules (texts ++ others) requested (ps ++ map (λ n. waiting) more)
-plans_with k W schedules texts others requested ps more w many h = record {
-  as_many = let a = h.as_many in omega (arith, a, many, length-append ps ws, length-append texts others, length-map more (λ n. waiting));
-  fewer = omega (arith, h.fewer, length-append ps ws);
-  known = λ r is. omega (arith, h.known r is, length-append ps ws);
-  each = λ r t at. by r t at (cases_lt r (length ps));
-}
-  where
-    ws : List Schedule
-    ws = map (λ n. waiting) more
-
-    new : (r n : ℕ) (t : Schedule) → r ≡ length ps + n → slice_get (ps ++ ws) r ≡ Some t →
-        IsPlanOf k W (IsAlone (texts ++ others) r) (is_requested requested r) (slice_get schedules r) t
-    new r n t same at =
-        let none : slice_get schedules r ≡ None = slice_get_past schedules r (omega (arith, same, h.fewer)) in
-        let here : t ≡ waiting = all_wait more n t (sym (get_right ps ws n) ∙ ap (slice_get (ps ++ ws)) (sym same) ∙ at) in
-        let unrequested : is_requested requested r ≡ true → ⊥ = λ is. let within = h.known r is in omega (arith, within, same) in
-        subst (λ (o : Option Schedule). IsPlanOf k W (IsAlone (texts ++ others) r) (is_requested requested r) o t) (sym none)
-        (plan_waits k W (IsAlone (texts ++ others) r) (is_requested requested r) t w here unrequested)
-
-    by : (r : ℕ) (t : Schedule) → slice_get (ps ++ ws) r ≡ Some t → (r < length ps) ⊎ (length ps ≤ r) →
-        IsPlanOf k W (IsAlone (texts ++ others) r) (is_requested requested r) (slice_get schedules r) t
-    by r t at (inl within) =
-        plan_before k W (IsAlone texts r) (IsAlone (texts ++ others) r) (is_requested requested r) (slice_get schedules r) t (alone_before texts others r)
-        (h.each r t (sym (get_left ps ws r within) ∙ at))
-    by r t at (inr past) = new r (r - length ps) t (omega (arith, past)) at
-
 -- what was told, and the names and ends of the routes, with further ones behind them
 reported_with : (reported : RouteReports) (added more : List NewRoute) (requested : List ℕ) →
     route_reports_more (route_reports_more reported added requested) more [] ≡ route_reports_more reported (added ++ more) requested
 reported_with reported added more requested =
-    λ i. record {
-      added = (joined_twice reported.added (map reported_route added) (map reported_route more)
-          ∙ ap (λ (l : List ReportedRoute). joined reported.added l) (sym (map-append reported_route added more))) i;
-      requested = joined_none (joined reported.requested requested) i;
-    }
-
-reported_same : (reported : RouteReports) → route_reports_more reported [] [] ≡ reported
-reported_same reported = λ i. record { added = joined_none reported.added i; requested = joined_none reported.requested i }
-
-all_names : (names : List RouteName) (added more : List NewRoute) → (names ++ names_in added) ++ names_in more ≡ names ++ names_in (added ++ more)
-all_names names added more =
-    append_assoc names (names_in added) (names_in more)
-    ∙ ap (λ (l : List RouteName). names ++ l) (sym (map-append (λ (n : NewRoute). n.name) added more))
-
-all_ends : (ends : List Ends) (added more : List NewRoute) → (ends ++ ends_in added) ++ ends_in more ≡ ends ++ ends_in (added ++ more)
-all_ends ends added more =
-    append_assoc ends (ends_in added) (ends_in more) ∙ ap (λ (l : List Ends). ends ++ l) (sym (map-append (λ (n : NewRoute). n.ends) added more))
+    reports_twice reported added more requested []
+    ∙ ap (λ (rs : List ℕ). route_reports_more reported (added ++ more) rs) (append-nil requested)
 
 routes_with : (b : Before) (added more : List NewRoute) → with_routes more (with_routes added b) ≡ with_routes (added ++ more) b
 routes_with b added more =
@@ -204,7 +91,7 @@ module _ {closes : Type 0} (secret : Secret) (made : ℕ) (more : List NewRoute)
           called = p.called;
           handed = p.handed;
           attempted = p.attempted;
-          ends = later_with events b.ends a.ends (ends_in more) p.ends;
+          ends = are_later_more events b.ends a.ends (ends_in more) p.ends;
           origins = p.origins;
           report = p.report;
           sums = λ few. p.sums (omega (arith, few, fewer));
@@ -260,7 +147,7 @@ module _ {closes : Type 0} (secret : Secret) (made : ℕ) (more : List NewRoute)
             | inl nothing ↦
                 inl (
                   none.0,
-                  ap (λ (rs : List NewRoute). route_reports_more reported' rs []) nothing ∙ reported_same reported' ∙ none.1,
+                  ap (λ (rs : List NewRoute). route_reports_more reported' rs []) nothing ∙ sym (nothing_more reported') ∙ none.1,
                   subst (λ (new : After). PumpedUnder (Unit {0}) closes (sorting secret) schedules made b new)
                       (λ i. record {
                         names = (sym (append-nil a.names) ∙ ap (λ (rs : List NewRoute). a.names ++ names_in rs) (sym nothing)) i;
@@ -304,10 +191,6 @@ abbrev pub TakenLate : (reported reported' : RouteReports) → (ends ends' : Lis
 TakenLate reported reported' ends ends' =
     (more : List NewRoute) × AreHidden (names_in more) × (reported' ≡ route_reports_more reported more []) × (ends' ≡ ends ++ ends_in more)
 
-hidden_then : (more : List NewRoute) (n : NewRoute) → AreHidden (names_in more) → n.name.is_shown ≡ false → AreHidden (names_in (more ++ n ∷ []))
-hidden_then [] n hidden this = (this, tt)
-hidden_then (m ∷ more) n hidden this = (hidden.0, hidden_then more n hidden.1 this)
-
 -- one route more
 pub late_more : (reported reported' reported'' : RouteReports) (ends ends' ends'' : List Ends) (n : NewRoute) → n.name.is_shown ≡ false
     → reported''.added ≡ joined reported'.added (reported_route n ∷ []) → reported''.requested ≡ reported'.requested → ends'' ≡ ends' ++ n.ends ∷ []
@@ -317,7 +200,7 @@ late_more reported reported' reported'' ends ends' ends'' n hidden added request
     let next : reported'' ≡ route_reports_more reported' (n ∷ []) [] =
     λ i. record { added = added i; requested = (requested ∙ sym (joined_none reported'.requested)) i } in (
       more ++ n ∷ [],
-      hidden_then more n late.1 hidden,
+      hidden_more more n late.1 hidden,
       next ∙ ap (λ (t : RouteReports). route_reports_more t (n ∷ []) []) late.2 ∙ reported_with reported more (n ∷ []) [],
       grew ∙ ap (λ (es : List Ends). es ++ n.ends ∷ []) late.3 ∙ all_ends ends more (n ∷ []),
     )
