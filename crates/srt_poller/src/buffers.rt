@@ -4,18 +4,16 @@
 ghost use Rattle.std.specs.Prelude.{◌≡◌, IfSome, IfNone};
 ghost use Rattle.srt_poller.specs.Buffers.{Allocates};
 
+use crate::tuning::SPARE_BUFFERS;
 use arrayvec::ArrayVec;
 use srt_mailbox::BUFFER_ROOM;
 use std::alloc::Global;
-
-// The most buffers that are kept: as many as a round of a worker over all routes returns.
-const MOST: usize = 512;
 
 /// Buffers to be filled again, at most 512. What they hold means nothing.
 #[derive(Drop)]
 pub(crate) struct Buffers {
     // the one that was returned last is used first, since it is likely to be in a cache
-    kept: ArrayVec<Vec<u8>, MOST, Global>,
+    kept: ArrayVec<Vec<u8>, SPARE_BUFFERS, Global>,
 }
 
 impl Buffers {

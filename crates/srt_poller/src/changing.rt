@@ -8,7 +8,7 @@ use crate::ends::Ends;
 use crate::openings::{Newcomer, Openings};
 use crate::plans::{NEVER, Plan, Planned, close, next_due};
 use crate::schedule::Latest;
-use crate::signals::Signals;
+use crate::signals::Hints;
 use srt_lobby::Names;
 use srt_seq::Schedule;
 use srt_seq::limits::MAX_ROUTES;
@@ -193,7 +193,7 @@ impl Plans {
     }
 
     // Closes the routes that are to close in this round.
-    fn close<R: Wait, G: Signals>(
+    fn close<R: Wait, G: Hints>(
         &mut self,
         rt: &R,
         signals: &G,
@@ -231,7 +231,7 @@ impl Plans {
     /// round of opening comes, and can't be shown waits. Costs a call of `has_changes` and two comparisons in a round with
     /// nothing to do, else some for each route, in each round in which one waits.
     #[inline(always)]
-    pub(crate) fn begin<R: Wait, G: Signals, O: Openings>(
+    pub(crate) fn begin<R: Wait, G: Hints, O: Openings>(
         &mut self,
         rt: &R,
         signals: &G,

@@ -2,7 +2,7 @@
 
 ghost use Rattle.std.specs.Prelude.{◌≤◌};
 
-use crate::signals::Signals;
+use crate::signals::Hints;
 use srt_cookie::Secret;
 use srt_lobby::Names;
 use std::alloc::Global;
@@ -31,7 +31,7 @@ pub(crate) struct RoundContext<'a, 'b, R, G> {
     pub(crate) all: bool,
 }
 
-impl<R, G: Signals> RoundContext<'_, '_, R, G> {
+impl<R, G: Hints> RoundContext<'_, '_, R, G> {
     /// The first route from this one on with a hint that its outbox may have a reply.
     #[inline(always)]
     pub(crate) fn next_hinted(&self, route: usize) -> usize

@@ -40,6 +40,7 @@ mod schedule;
 mod scripts;
 mod signals;
 mod sockets;
+mod tuning;
 
 pub use changing::Plans;
 pub use changing_rounds::pump_changing;
@@ -50,7 +51,7 @@ pub use pumping::{Pumping, pump, pump_under};
 pub use scripts::{
     ClockScript, ScriptDatagram, SentDatagram, SourceScript, SourceStep, WireScript,
 };
-pub use signals::{Signals, Unsignalled};
+pub use signals::{Hints, InlineService, Orders, PollerObserver, Signals, Unsignalled};
 pub use sockets::{BindFault, MioSource, MioWire};
 pub use srt_mailbox::{Gate, Ungated};
 pub use srt_supervision::{Order, Report};

@@ -4,19 +4,7 @@ ghost use Rattle.std.specs.Prelude.{◌≡◌, true, false};
 ghost use Rattle.srt_poller.specs.inside.Pauses.{pause, after_wait, after_datagram, after_end, after_put_off};
 
 use crate::density::Density;
-
-// The number of short waits after a datagram arrived or a send returned Later.
-const SHORT_WAITS: u32 = 100;
-
-// After a round that read or sent this many datagrams there may be more to do at once. A nap could then leave a route
-// with more replies than a round sends.
-const MANY: u32 = 64;
-
-// Datagrams come densely if a millisecond had this many, and too densely for naps if it had `TOO_DENSE`: then many are
-// there at each wait without them.
-const DENSE: u32 = 20;
-
-const TOO_DENSE: u32 = 100;
+use crate::tuning::{DENSE, MANY_DATAGRAMS, SHORT_WAITS, TOO_DENSE};
 
 /// A wait.
 #[derive(Clone, Copy, Debug, PartialEq, Eq)]
@@ -72,7 +60,7 @@ impl Pace {
         }
         self.warm -= 1;
         let is_dense = DENSE <= self.density.last && self.density.last < TOO_DENSE;
-        if is_dense && 0 < read && read < MANY && sent < MANY {
+        if is_dense && 0 < read && read < MANY_DATAGRAMS && sent < MANY_DATAGRAMS {
             Pause::Nap
         } else {
             Pause::Poll(1)
@@ -85,7 +73,7 @@ impl Pace {
     {
         self.more = true;
         self.warm = SHORT_WAITS;
-        if self.read < MANY {
+        if self.read < MANY_DATAGRAMS {
             self.read += 1;
         }
         self.density.arrived(moment);

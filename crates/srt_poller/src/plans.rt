@@ -8,7 +8,7 @@ ghost use Rattle.srt_poller.specs.Beginnings.{RouteRests, RestBetween, Closes, A
 
 use crate::ends::Ends;
 use crate::schedule::Latest;
-use crate::signals::Signals;
+use crate::signals::Hints;
 use srt_lobby::Names;
 use srt_seq::Schedule;
 use std::sync::Wait;
@@ -162,7 +162,7 @@ impl Plan {
 }
 
 // Offers Close of this moment to a route, and hides it if its inbox accepted that. Returns whether it did.
-fn close_one<R: Wait, G: Signals>(
+fn close_one<R: Wait, G: Hints>(
     latest: Latest,
     rt: &R,
     signals: &G,
@@ -183,7 +183,7 @@ fn close_one<R: Wait, G: Signals>(
 }
 
 /// Offers Close to each shown route whose round of closing has come, or to each shown one, in the order of their indexes.
-pub(crate) fn close<P: Planned, R: Wait, G: Signals>(
+pub(crate) fn close<P: Planned, R: Wait, G: Hints>(
     plans: &[P],
     latest: Latest,
     rt: &R,

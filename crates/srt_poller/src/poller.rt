@@ -14,7 +14,8 @@ use crate::report::{
     count_reply,
 };
 use crate::schedule::Latest;
-use crate::signals::Signals;
+use crate::signals::{Hints, PollerObserver, Signals};
+use crate::tuning::{READS_PER_ROUND, REPLIES_PER_ROUTE};
 use srt_lobby::{Class, classify};
 use srt_seq::Peer;
 use srt_supervision::Report;
@@ -74,7 +75,7 @@ pub(crate) struct Poller {
 
 // Tells a send that failed.
 #[inline(always)]
-fn report_failure<G: Signals>(signals: &G, sent: Sent) {
+fn report_failure<G: PollerObserver>(signals: &G, sent: Sent) {
     match sent {
         Sent::Failed => signals.failed(),
         Sent::Taken | Sent::Later => {}
@@ -83,7 +84,7 @@ fn report_failure<G: Signals>(signals: &G, sent: Sent) {
 
 // Tells a reply that is a handshake.
 #[inline(always)]
-fn report_handshake<G: Signals>(signals: &G, route: usize, peer: Peer, reply: &[u8]) {
+fn report_handshake<G: PollerObserver>(signals: &G, route: usize, peer: Peer, reply: &[u8]) {
     if let [0x80, 0, 0, 0, ..] = reply {
         signals.replied(route, peer, reply);
     }
@@ -119,13 +120,13 @@ impl Poller {
 
     /// Tells the counts so far, in which a reply that is kept doesn't stand.
     #[inline(always)]
-    pub(crate) fn report_counts<G: Signals>(&self, signals: &G) {
+    pub(crate) fn report_counts<G: PollerObserver>(&self, signals: &G) {
         signals.reported(&self.report);
     }
 
     /// Sends the kept reply again, if there is one.
     #[inline(always)]
-    pub(crate) fn resend<W: Wire, G: Signals>(&mut self, signals: &G, wire: &mut W)
+    pub(crate) fn resend<W: Wire, G: PollerObserver>(&mut self, signals: &G, wire: &mut W)
         ensures { (ends : List TheEnds) →
             Resent (begun_phase self.old) (sending (carried (W.handed wire.old) (W.attempts wire.old)) ends self.old)
             (sending (carried (W.handed wire.new) (W.attempts wire.new)) ends self.new) }
@@ -144,7 +145,7 @@ impl Poller {
 
     /// Waits for datagrams. False if the wait failed.
     #[inline(always)]
-    fn wait<S: Source, G: Signals>(&mut self, signals: &G, source: &mut S) -> bool
+    fn wait<S: Source, G: PollerObserver>(&mut self, signals: &G, source: &mut S) -> bool
         ensures ready { result ≡ true →
             Waited (waiting (heard (S.gave source.old) (S.calls source.old)) self.old) (waiting (heard (S.gave source.new) (S.calls source.new)) self.new) }
         ensures failed { result ≡ false →
@@ -162,7 +163,7 @@ impl Poller {
 
     /// Offers a datagram to its route, and counts the outcome.
     #[inline(always)]
-    fn offer<R: Wait, G: Signals>(
+    fn offer<R: Wait, G: Hints>(
         &mut self,
         context: &RoundContext<R, G>,
         ends: &mut [Ends],
@@ -218,7 +219,7 @@ impl Poller {
     }
 
     /// Waits, and reads at most 256 datagrams unless the wait failed. A read that finds none or fails is the last one.
-    /// `latest` sees the moment of each datagram.
+    /// `latest` gets the timestamp of each datagram. Returns their number; `None` if the wait failed.
     #[inline(always)]
     pub(crate) fn listen<R: Wait, S: Source, W: Wire, G: Signals>(
         &mut self,
@@ -227,7 +228,7 @@ impl Poller {
         wire: &mut W,
         ends: &mut [Ends],
         latest: &mut Latest,
-    )
+    ) -> Option<u32>
         requires { length ends.old ≡ length (named_in context.now.lobby) }
         ensures { Listened (sorted_by context.now.lobby) (named_in context.now.lobby) 257
             (listening (heard (S.gave source.old) (S.calls source.old)) (carried (W.handed wire.old) (W.attempts wire.old)) ends.old self.old)
@@ -235,28 +236,24 @@ impl Poller {
             latest.old.moment latest.new.moment }
     {
         if !self.wait(context.signals, source) {
-            return;
+            return None;
         }
-        for reads in 0..256u32 {
+        for reads in 0..READS_PER_ROUND {
             match source.next(&mut self.datagram) {
                 Read::Datagram(peer, len, moment) => {
                     let incoming = Incoming { peer, len, moment };
                     self.arrive(context, wire, ends, incoming);
                     latest.see(moment);
                 }
-                Read::Empty => {
-                    context.signals.read_ended(reads);
-                    return;
-                }
+                Read::Empty => return Some(reads),
                 Read::Failed => {
                     context.signals.failed();
                     count_fault(&mut self.report);
-                    context.signals.read_ended(reads);
-                    return;
+                    return Some(reads);
                 }
             }
         }
-        context.signals.read_ended(256);
+        Some(READS_PER_ROUND)
     }
 
     /// Takes a reply from an outbox and sends it. No reply may be kept.
@@ -317,7 +314,7 @@ impl Poller {
         if !context.signals.take_outbox_ready(route) && !context.all {
             return true;
         }
-        for _ in 0..64u32 {
+        for _ in 0..REPLIES_PER_ROUTE {
             match self.drain_one(context, wire, ends, route) {
                 Drained::Gone => {}
                 Drained::Empty => return true,
@@ -333,7 +330,7 @@ impl Poller {
 
     /// Looks at the outboxes of all routes with a hint. Those of many routes are mostly out of the caches, and here the
     /// processor fetches several at the same time; the drain then finds them.
-    fn prefetch<R, G: Signals>(context: &RoundContext<R, G>, ends: &mut [Ends])
+    fn prefetch<R, G: Hints>(context: &RoundContext<R, G>, ends: &mut [Ends])
         ensures { ends.new ≡ ends.old }
     {
         if ends.len() < 2 {

@@ -13,7 +13,8 @@ use crate::devices::{Source, Wire};
 use crate::ends::Ends;
 use crate::poller::Poller;
 use crate::schedule::{Latest, RouteSchedules};
-use crate::signals::{Signals, Unsignalled};
+use crate::signals::{InlineService, Orders, Signals, Unsignalled};
+use crate::tuning::ROUNDS_PER_FULL_CHECK;
 use srt_cookie::Secret;
 use srt_lobby::Names;
 use srt_seq::Schedule;
@@ -131,7 +132,7 @@ pub fn pump_under<R: Wait, S: Source, W: Wire, G: Signals>(
 
 /// Whether the next round closes all. `None` if that is the end.
 #[inline(always)]
-pub(crate) fn ask<G: Signals>(signals: &G) -> Option<bool>
+pub(crate) fn ask<G: Orders>(signals: &G) -> Option<bool>
     ensures round { IfSome result (λ closes_all. (closes_all ≡ false → G.goes signals.now) × (closes_all ≡ true → G.closes signals.now)) }
     ensures end { IfNone result (G.stops signals.now) }
 {
@@ -139,6 +140,14 @@ pub(crate) fn ask<G: Signals>(signals: &G) -> Option<bool>
         Order::GoOn => Some(false),
         Order::CloseAll => Some(true),
         Order::End => None,
+    }
+}
+
+/// Lets the polling thread serve routes itself, if it read in this round.
+#[inline(always)]
+fn serve_inline<G: InlineService>(signals: &G, datagrams: Option<u32>) {
+    if let Some(datagrams) = datagrams {
+        signals.serve_inline(datagrams);
     }
 }
 
@@ -163,7 +172,7 @@ pub(crate) fn make_round<R: Wait, S: Source, W: Wire, G: Signals>(
         (listening (heard (S.gave source.new) (S.calls source.new)) (carried (W.handed wire.new) (W.attempts wire.new)) ends.new poller.new)
         latest.old.moment latest.new.moment }
 {
-    let due = round % 64 == 0;
+    let due = round % ROUNDS_PER_FULL_CHECK == 0;
     let context = RoundContext {
         rt,
         alloc,
@@ -172,7 +181,7 @@ pub(crate) fn make_round<R: Wait, S: Source, W: Wire, G: Signals>(
         all: due | poller.checks_all(),
     };
     poller.resend(signals, wire);
-    poller.listen(&context, source, wire, ends, latest);
+    serve_inline(signals, poller.listen(&context, source, wire, ends, latest));
     poller.drain(&context, wire, ends);
 }
 

@@ -7,7 +7,7 @@ ghost use Rattle.srt_poller.specs.Beginnings.{all_shown, RestBetween, Began};
 
 use crate::ends::Ends;
 use crate::plans::{close, next_due};
-use crate::signals::Signals;
+use crate::signals::Hints;
 use srt_lobby::Names;
 use srt_seq::Schedule;
 use std::sync::Wait;
@@ -74,7 +74,7 @@ impl<'a> RouteSchedules<'a> {
     }
 
     // Begins a round that closes all.
-    fn close_all<R: Wait, G: Signals>(
+    fn close_all<R: Wait, G: Hints>(
         &mut self,
         rt: &R,
         signals: &G,
@@ -108,7 +108,7 @@ impl<'a> RouteSchedules<'a> {
     /// full is offered it again in the next round. If the round closes all, none opens, and each shown route is closed
     /// so. Costs two comparisons in a round with nothing to do, else some for each route.
     #[inline(always)]
-    pub(crate) fn begin<R: Wait, G: Signals>(
+    pub(crate) fn begin<R: Wait, G: Hints>(
         &mut self,
         rt: &R,
         signals: &G,

@@ -6,6 +6,7 @@ ghost use Rattle.srt_poller.specs.inside.Sockets.{mapped};
 
 use crate::devices::{Clock, Polled, Read, Sent, Source, Wire};
 use crate::pace::{Pace, Pause};
+use crate::tuning::{NAP_NS, RECEIVE_BUFFER};
 use libc::net;
 use libc::types::timespec;
 use mio::net::UdpSocket;
@@ -22,12 +23,6 @@ use thiserror::Error;
 
 #[cfg(test)]
 mod refused;
-
-// The size of the receive buffer that is requested from the system, in bytes (SO_RCVBUF).
-const RECEIVE_BUFFER: u32 = 4_194_304;
-
-// A nap.
-const NAP_NS: i64 = 100_000;
 
 /// Why a socket could not be bound. Nothing is kept then. Its text is the line that the program prints.
 #[derive(Clone, Copy, Debug, Error, PartialEq, Eq)]

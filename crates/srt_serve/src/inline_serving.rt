@@ -9,7 +9,7 @@ use crate::watcher_channel::WatcherChannel;
 use crate::working::{is_left, serve_route};
 use srt_lobby::Names;
 use srt_mailbox::{Gate, Serve};
-use srt_poller::Signals;
+use srt_poller::{Hints, InlineService, Orders, PollerObserver, Signals};
 use srt_seq::Peer;
 use srt_supervision::{Order, Report};
 use srt_wakeups::Wakeups;
@@ -99,7 +99,7 @@ impl<'a, R: Wait, C: Serve, G: Gate + Drop> InlineServer<'a, R, C, G> {
     }
 }
 
-impl<R: Wait, C: Serve, G: Gate + Drop> Signals for InlineServer<'_, R, C, G> {
+impl<R: Wait, C: Serve, G: Gate + Drop> Orders for InlineServer<'_, R, C, G> {
     ghost use Rattle.std.specs.Prelude.{IsSome};
 
     ghost goes = { λ s. Unit {0} };
@@ -114,30 +114,11 @@ impl<R: Wait, C: Serve, G: Gate + Drop> Signals for InlineServer<'_, R, C, G> {
             None => Order::GoOn,
         }
     }
+}
 
-    fn reported(&self, report: &Report) {
-        if let Some(channel) = self.channel {
-            channel.report.leave(report);
-        }
-    }
-
+impl<R: Wait, C: Serve, G: Gate + Drop> Hints for InlineServer<'_, R, C, G> {
     fn polled(&self, route: usize) {
         self.wakeups.set_polled(route);
-    }
-
-    fn read_ended(&self, datagrams: u32) {
-        match self.gate.replace(None) {
-            Some(mut gate)
-                if datagrams < MANY_DATAGRAMS && self.wakeups.count_polled() <= FEW_ROUTES => {
-                self.serve(&mut gate);
-                self.gate.set(Some(gate));
-            }
-            gate => {
-                self.gate.set(gate);
-                let begun = self.wakeups.hand_over();
-                self.wakeups.read_ended(datagrams, begun);
-            }
-        }
     }
 
     fn take_outbox_ready(&self, route: usize) -> bool {
@@ -146,6 +127,14 @@ impl<R: Wait, C: Serve, G: Gate + Drop> Signals for InlineServer<'_, R, C, G> {
 
     fn next_outbox_ready(&self, route: usize) -> usize {
         self.wakeups.next_outbox_ready(route)
+    }
+}
+
+impl<R: Wait, C: Serve, G: Gate + Drop> PollerObserver for InlineServer<'_, R, C, G> {
+    fn reported(&self, report: &Report) {
+        if let Some(channel) = self.channel {
+            channel.report.leave(report);
+        }
     }
 
     fn answered(&self, names: &Names, peer: Peer, datagram: &[u8], answer: &[u8]) {
@@ -166,3 +155,22 @@ impl<R: Wait, C: Serve, G: Gate + Drop> Signals for InlineServer<'_, R, C, G> {
         }
     }
 }
+
+impl<R: Wait, C: Serve, G: Gate + Drop> InlineService for InlineServer<'_, R, C, G> {
+    fn serve_inline(&self, datagrams: u32) {
+        match self.gate.replace(None) {
+            Some(mut gate)
+                if datagrams < MANY_DATAGRAMS && self.wakeups.count_polled() <= FEW_ROUTES => {
+                self.serve(&mut gate);
+                self.gate.set(Some(gate));
+            }
+            gate => {
+                self.gate.set(gate);
+                let begun = self.wakeups.hand_over();
+                self.wakeups.read_ended(datagrams, begun);
+            }
+        }
+    }
+}
+
+impl<R: Wait, C: Serve, G: Gate + Drop> Signals for InlineServer<'_, R, C, G> {}

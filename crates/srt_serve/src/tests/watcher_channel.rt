@@ -9,7 +9,7 @@ use crate::tests::watched::studio;
 use crate::watcher_channel::WatcherChannel;
 use srt_lobby::Names;
 use srt_mailbox::{RouteCell, Ungated};
-use srt_poller::{Order, Report, Signals};
+use srt_poller::{Order, PollerObserver, Report};
 use srt_seq::NotAdmitted;
 use srt_wakeups::Wakeups;
 use std::alloc::Global;

@@ -3,7 +3,7 @@
 use crate::inline_serving::InlineServer;
 use crate::working::work;
 use srt_mailbox::{Gate, Observer, Serve, Served, Ungated, Visit};
-use srt_poller::Signals;
+use srt_poller::{Hints, InlineService};
 use srt_seq::Turned;
 use srt_wakeups::Wakeups;
 use std::alloc::{AllocError, Global};
@@ -155,7 +155,7 @@ fn the_polling_thread_asks_for_workers(rt: HostRuntime) -> Result<(), Fail> {
         &rt, &desks, &wakeups, None, None,
     );
     ungated.polled(7);
-    ungated.read_ended(1);
+    ungated.serve_inline(1);
     assert_eq!(rt;
         (
             wakeups.next_inbox_ready(0),
@@ -166,7 +166,7 @@ fn the_polling_thread_asks_for_workers(rt: HostRuntime) -> Result<(), Fail> {
     );
     let inline = InlineServer::new(&rt, &desks, &wakeups, None, Some(Ungated));
     inline.polled(3);
-    inline.read_ended(64);
+    inline.serve_inline(64);
     assert_eq!(rt;
         (wakeups.next_inbox_ready(0), wakeups.next_inbox_ready(4)),
         (3, 7)
@@ -174,7 +174,7 @@ fn the_polling_thread_asks_for_workers(rt: HostRuntime) -> Result<(), Fail> {
     for route in 0..9usize {
         inline.polled(route);
     }
-    inline.read_ended(9);
+    inline.serve_inline(9);
     for route in 0..9usize {
         assert!(rt; wakeups.enter(route) && wakeups.next_polled(0) == 12);
     }
@@ -199,13 +199,13 @@ fn the_polling_thread_leaves_what_it_does_not_get_done(rt: HostRuntime) -> Resul
     let wakeups = Wakeups::open(rt.alloc(), 4, 1)?;
     let inline = InlineServer::new(&rt, &desks, &wakeups, None, Some(Ungated));
     inline.polled(0);
-    inline.read_ended(1);
+    inline.serve_inline(1);
     assert_eq!(rt;
         (wakeups.next_inbox_ready(0), wakeups.next_polled(0)),
         (4, 4)
     );
     inline.polled(1);
-    inline.read_ended(1);
+    inline.serve_inline(1);
     assert_eq!(rt;
         (wakeups.next_inbox_ready(0), wakeups.next_inbox_ready(2)),
         (1, 4)
@@ -213,7 +213,7 @@ fn the_polling_thread_leaves_what_it_does_not_get_done(rt: HostRuntime) -> Resul
     assert!(rt; wakeups.enter(1));
     inline.polled(2);
     inline.polled(3);
-    inline.read_ended(2);
+    inline.serve_inline(2);
     assert!(rt; wakeups.next_inbox_ready(0) == 2 && wakeups.next_inbox_ready(3) == 3);
     let mut visits = Vec::new(rt.alloc());
     for desk in &desks {

@@ -11,7 +11,7 @@ use Rattle.srt_poller.proofs.changing_rounds.pump_changing_from.Given as goal
 
 abbrev pub invariant-loop-made : goal.invariant-loop-made
 invariant-loop-made g l =
-    AreMade (g.G.Signals.goes l.signals) (g.G.Signals.closes l.signals) l.secret l.first l.made (plans_in l.fn.plans) (plans_in l.plans)
+    AreMade (g.G.Orders.goes l.signals) (g.G.Orders.closes l.signals) l.secret l.first l.made (plans_in l.fn.plans) (plans_in l.plans)
     (route_reports (g.O.Openings.added l.fn.openings) (g.O.Openings.requested l.fn.openings))
     (route_reports (g.O.Openings.added l.openings) (g.O.Openings.requested l.openings))
     (names_of l.fn.names) (names_of l.names) l.fn.ends.items
