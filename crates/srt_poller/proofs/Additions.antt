@@ -58,7 +58,7 @@ added_more reported reported' reported'' ps ps' ps'' ns ns' ns'' es es' es'' n h
       },
     )
 
--- one route more that is asked to close
+-- one route more that is requested to close
 pub requested_none : (round : ℕ) (reported : Option (List ℕ)) (ps : List Schedule) → TookClosings round reported reported ps ps
 requested_none round reported ps = ([], sym (joined_none reported), record { planned = refl; known = λ r is. absurd (let bad : ⊥ = cc in bad) })
 

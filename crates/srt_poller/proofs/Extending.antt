@@ -1,4 +1,4 @@
--- What a poller did, said of longer lists: as if routes that come later had been there, hidden, from the beginning on.
+-- What a poller did, stated of longer lists: as if routes added later had been there, hidden, from the beginning on.
 use Rattle.std.proofs.Common.{◌≡◌, ◌∙◌, ◌⊎◌, inl, inr, sym, ap, subst, ℕ, ◌+◌, ◌-◌, ◌*◌, ◌<◌, ◌≤◌, List, ◌++◌, length, slice_index_or, arith}
 use Rattle.std.proofs.lemmas.Bool.{cases_lt}
 use Rattle.std.proofs.Math.Nat.{mul-le-mul_left}

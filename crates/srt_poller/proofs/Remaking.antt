@@ -1,4 +1,4 @@
--- Rounds while routes come and go.
+-- Rounds while routes are added and removed.
 use Rattle.std.proofs.Common.{◌≡◌, ◌∙◌, inl, refl, sym, ap, subst, ℕ, suc, ◌+◌, ◌*◌, Bool, true, false, ◌||◌, List, [], ◌++◌, length, map}
 use Rattle.std.proofs.Common.{append_assoc, append-nil, arith}
 use Rattle.std.proofs.lemmas.List.{map-append, length-append, length-map}
@@ -23,7 +23,7 @@ use Rattle.srt_poller.proofs.Endings.{rounds_next}
 use Rattle.srt_poller.proofs.Replanning.{texts_as, plans_as, plans_at_first}
 use Rattle.srt_poller.proofs.Steps.{went_none}
 
--- This many rounds were made, after these routes came and these were asked to close, as if that had been written down beforehand; `waits` is whether
+-- This many rounds were made, after these routes were added and these were requested to close, as if that had been known in advance; `waits` is whether
 -- a round closed all
 pub record Made (goes closes : Type 0) (secret : Secret) (first made : ℕ) (plans plans' : List Schedule) (reported reported' : RouteReports)
     (names names' : List RouteName) (ends : List Ends) (old : List RouteName → List Ends → Phase → World) (new : Phase → World)

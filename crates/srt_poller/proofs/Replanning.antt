@@ -106,16 +106,16 @@ module _ (k : ℕ) where
   other_number : (n j : ℕ) → j < k → k ≤ n → (n == j) ≡ false
   other_number n j early late = grind (arith, nat_tests)
 
-  -- routes that come wait
+  -- added routes wait
   pub wait_later : k ≤ never → (added : List NewRoute) → AreHidden (names_in added) → OpenLater k (map (λ n. waiting) added) (names_in added)
   wait_later small [] hidden = tt
   wait_later small (n ∷ added) hidden = (λ j early. other_number never j early small, hidden.0, wait_later small added hidden.1)
 
-  -- a round of opening that is not before this one becomes another such
+  -- an opening round that is not before this one becomes another such
   pub same_opening : (s : Schedule) (n : ℕ) → k ≤ s.open_round → k ≤ n → SameBefore k s (with_open_round n s)
   same_opening s n late late' j early = (other_number n j early late' ∙ sym (other_number s.open_round j early late), refl)
 
-  -- a route is asked to close
+  -- a route is requested to close
   sooner_comes : (j : ℕ) → j < k → (o : Option ℕ) → has_come j (Some (sooner k o)) ≡ has_come j o
   sooner_comes j early None = let past : nat_le k j ≡ false = grind (arith, nat_tests) in past
   sooner_comes j early (Some c) = by (cases_lt j c)
@@ -269,7 +269,7 @@ plans_appended k W schedules texts more requested ps added many h =
     plans_with (suc k) (Unit {0}) schedules texts more requested ps added tt many
     (plans_later k W (λ r. Unit {0}) schedules texts requested ps (λ r w. tt) h)
 
--- routes that are asked to close
+-- routes that are requested to close
 pub or_true : (b : Bool) → (b || true) ≡ true
 or_true true = refl
 or_true false = refl
@@ -396,7 +396,7 @@ module _ (k : ℕ) (W : ℕ → Type 0) (schedules : List Schedule) (texts : Lis
       either true b is = refl
       either false b is = is
 
--- a route that is alone with its name can be shown
+-- a route that is alone with its name can become visible
 texts_shown : (ns : List RouteName) → texts_of (all_shown ns) ≡ texts_of ns
 texts_shown [] = refl
 texts_shown (n ∷ ns) = ap (λ (l : List (List ℕ)). n.text ∷ l) (texts_shown ns)
@@ -424,7 +424,7 @@ alone_is_unused names r alone = at (slice_get names r) refl
     at (Some name) h = none name h (index_of (hidden_at r names) name.text) refl
     at None h = _
 
--- one route is looked at: it is shown, it waits, or there is nothing to do
+-- one route is checked: it is visible, it waits, or there is nothing to do
 number_as : (a b : ℕ) → (a == b) ≡ true → a ≡ b
 number_as a b is = grind (arith, nat_tests)
 
@@ -434,7 +434,7 @@ number_is a b is = grind (arith, nat_tests)
 number_isnt : (a b : ℕ) → (a ≡ b → ⊥) → (a == b) ≡ false
 number_isnt a b apart = ne_eqb a b apart
 
--- why it may be shown in this round
+-- why it may become visible in this round
 pub data Comes (k : ℕ) (t : Schedule) : Type 0 where
   ComesNow : t.open_round ≡ k → Comes k t
   Waited : t.open_round ≡ never → has_come k t.close_round ≡ false → Comes k t
@@ -518,7 +518,7 @@ plan_rests k A a None t rests h = record {
         let may : may_open k t ≡ true = or_right (t.open_round == k) _ (and_from _ _ opens free) in
         absurd (let bad : true ≡ false = sym may ∙ rests in let wrong : ⊥ = cc in wrong)
 
--- the routes up to one were looked at
+-- the routes up to one were checked
 pub record LookedAt (k i : ℕ) (ps ps' : List Schedule) (ns ns' : List RouteName) : Type 0 where
   pub as_many : length ps' ≡ length ps
   pub named : ns' ≡ opened k (take i ps') ns
@@ -630,7 +630,7 @@ pub looked_known : {k i : ℕ} {ps ps' : List Schedule} {ns ns' : List RouteName
 looked_known {k} {i} {ps} {ps'} {ns} {ns'} known h =
     h.as_many ∙ known ∙ sym (as_many ns' ns (ap all_shown h.named ∙ texts_opened k (take i ps') ns))
 
--- the next route may be shown
+-- the next route may become visible
 pub looked_opens : (k i : ℕ) (ps middle ps' : List Schedule) (ns ns' ns'' : List RouteName) (t : Schedule) → k < never → length ps ≡ length ns →
     LookedAt k i ps middle ns ns' → slice_get middle i ≡ Some t → may_open k t ≡ true → OpensOne k i middle ps' ns' ns'' →
     LookedAt k (suc i) ps ps' ns ns''

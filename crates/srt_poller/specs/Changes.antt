@@ -1,4 +1,4 @@
--- The rounds of a poller while routes come and go.
+-- The rounds of a poller while routes are added and removed.
 use Rattle.std.specs.Prelude.{◌≡◌, ◌⊎◌, ℕ, suc, ◌+◌, ◌<◌, ◌≤◌, ◌||◌, Bool, true, Option, List, [], ◌++◌, length, map}
 use Rattle.std.specs.List.{fold}
 use Rattle.srt_seq.specs.declared.shared.Schedule.{Schedule}
@@ -22,7 +22,7 @@ use Rattle.srt_poller.specs.Pumped.{Before, After, before, PumpedUnder}
 abbrev pub plans_in : Plans → List Schedule
 plans_in p = map schedule_of p.plans.items
 
--- these routes came, and wait behind the others, hidden
+-- these routes were added, and wait after the others, hidden
 pub record Appended (added : List NewRoute) (plans plans' : List Schedule) (names names' : List RouteName) (ends ends' : List Ends) : Type 0 where
   pub planned : plans' ≡ plans ++ map (λ n. waiting) added
   pub named : names' ≡ names ++ names_in added
@@ -34,7 +34,7 @@ abbrev pub TookNewcomers : (reported reported' : Option (List ReportedRoute)) �
 TookNewcomers reported reported' plans plans' names names' ends ends' =
     (added : List NewRoute) × (reported' ≡ joined reported (map reported_route added)) × Appended added plans plans' names names' ends ends'
 
--- these routes, which are there, were asked to close before this round begins
+-- these routes, which are there, were requested to close before this round begins
 pub record Requested (round : ℕ) (requested : List ℕ) (plans plans' : List Schedule) : Type 0 where
   pub planned : plans' ≡ fold (update_at (closed_from round)) plans requested
   pub known : (r : ℕ) → is_requested requested r ≡ true → r < length plans
@@ -42,7 +42,7 @@ pub record Requested (round : ℕ) (requested : List ℕ) (plans plans' : List S
 abbrev pub TookClosings : (round : ℕ) → (reported reported' : Option (List ℕ)) → (plans plans' : List Schedule) → Type 0
 TookClosings round reported reported' plans plans' = (requested : List ℕ) × (reported' ≡ joined reported requested) × Requested round requested plans plans'
 
--- Before this round begins these routes came, which wait behind the others, hidden, and these were asked to close. `due` is the first round in which
+-- Before this round begins these routes were added, which wait after the others, hidden, and these were requested to close. `due` is the first round in which
 -- there may be something to do
 pub record Took (round due : ℕ) (added : List NewRoute) (requested : List ℕ) (plans plans' : List Schedule) (names names' : List RouteName)
     (ends ends' : List Ends) : Type 0 where
@@ -60,13 +60,13 @@ TookChanges round due reported reported' plans plans' names names' ends ends' =
     (added : List NewRoute) × (requested : List ℕ) × (reported' ≡ route_reports_more reported added requested)
     × Took round due added requested plans plans' names names' ends ends'
 
--- a route is shown in this round; or another shown route has its name, and it waits
+-- a route becomes visible in this round; or another visible route has its name, and it waits
 abbrev pub OpensOne : (round r : ℕ) → (plans plans' : List Schedule) → (names names' : List RouteName) → Type 0
 OpensOne round r plans plans' names names' =
     ((plans' ≡ update_at (with_open_round round) plans r) × (names' ≡ shown_at r names))
     ⊎ ((IsUnused r names → ⊥) × (plans' ≡ update_at (with_open_round never) plans r) × (names' ≡ names))
 
--- the routes were shown that open in this round by the plans that they have then; each route that is alone with its name, and waited, opened
+-- the routes became visible that open in this round by the plans that they have then; each route that is alone with its name, and waited, opened
 pub record Opens (round : ℕ) (plans plans' : List Schedule) (names names' : List RouteName) : Type 0 where
   pub as_many : length plans' ≡ length plans
   pub agree : AgreeBefore round plans plans' []
@@ -75,7 +75,7 @@ pub record Opens (round : ℕ) (plans plans' : List Schedule) (names names' : Li
       ArePlans (suc round) (λ r. Unit {0}) schedules (texts_of names) requested plans →
       ArePlans (suc round) (λ r. ⊥) schedules (texts_of names) requested plans'
 
--- this round began, after these routes came and these were asked to close
+-- this round began, after these routes were added and these were requested to close
 pub record BeganWith (closes_all : Bool) (round latest : ℕ) (added : List NewRoute) (requested : List ℕ) (plans plans' : List Schedule)
     (names names' : List RouteName) (ends ends' : List Ends) : Type 0 where
   pub agree : AgreeBefore round plans plans' (names_in added)
@@ -94,8 +94,8 @@ BeganAfter closes_all round latest reported reported' plans plans' names names' 
     (added : List NewRoute) × (requested : List ℕ) × (reported' ≡ route_reports_more reported added requested)
     × BeganWith closes_all round latest added requested plans plans' names names' ends ends'
 
--- Rounds were made, the first of which has this number, after these routes came and these were asked to close: as if that had been written down
--- beforehand, as `later` says
+-- Rounds were made, the first of which has this number, after these routes were added and these were requested to close: as if that had been written down
+-- in advance, as `later` states
 pub record RoundsWith (goes closes : Type 0) (class : Sorting) (first rounds : ℕ) (schedules : List Schedule) (reported reported' : RouteReports)
     (names : List RouteName)
     (ends : List Ends) (old : List RouteName → List Ends → Phase → World) (new : Phase → World) (added : List NewRoute) (requested : List ℕ)
@@ -111,12 +111,12 @@ RoundsChanging goes closes class first rounds schedules reported reported' names
     (added : List NewRoute) × (requested : List ℕ) × (later : List Schedule)
     × RoundsWith goes closes class first rounds schedules reported reported' names ends old new added requested later
 
--- the same, had these routes been there from the beginning on, hidden, behind the others
+-- the same, had these routes been there from the beginning on, hidden, after the others
 abbrev pub with_routes : List NewRoute → Before → Before
 with_routes added b = before (b.names ++ names_in added) b.source b.wire (b.ends ++ ends_in added)
 
--- What a poller did in this many rounds in which these routes came and these were asked to close: all that it does in a run whose routes and schedules
--- had been written down beforehand. `later` are these schedules; where a route was left as it was they are its own (`ArePlans`)
+-- What a poller did in this many rounds in which these routes were added and these were requested to close: all that it does in a run whose routes
+-- and schedules had been known in advance. `later` are these schedules; where a route was left as it was they are its own (`ArePlans`)
 pub record ChangedBy (goes closes : Type 0) (class : Sorting) (schedules : List Schedule) (rounds : ℕ) (reported reported' : RouteReports) (old : Before)
     (new : After)
     (added : List NewRoute) (requested : List ℕ) (later : List Schedule) : Type 0 where
@@ -124,7 +124,7 @@ pub record ChangedBy (goes closes : Type 0) (class : Sorting) (schedules : List 
   pub planned : ArePlans rounds (λ r. closes) schedules (texts_of (old.names ++ names_in added)) requested later
   pub pumped : PumpedUnder goes closes class later rounds (with_routes added old) new
 
--- some routes came, some were asked to close, and there are such schedules
+-- some routes were added, some were requested to close, and there are such schedules
 abbrev pub PumpedChanging : (goes closes : Type 0) → Sorting → List Schedule → (rounds : ℕ) → (reported reported' : RouteReports) → Before → After → Type 0
 PumpedChanging goes closes class schedules rounds reported reported' old new =
     (added : List NewRoute) × (requested : List ℕ) × (later : List Schedule)

@@ -1,4 +1,4 @@
--- What openings tell of the routes that come, and of those that are to close.
+-- What openings report of the added routes, and of those that are to close.
 use Rattle.std.specs.Prelude.{ℕ, Option, None, Some, List, [], ◌∷◌, map}
 use Rattle.srt_lobby.specs.Names.{RouteName, new_name}
 use Rattle.srt_mailbox.specs.Ends.{Producer, Pipe, pipe}
@@ -6,7 +6,7 @@ use Rattle.srt_poller.specs.declared.ends.Ends.{Ends}
 use Rattle.srt_poller.specs.declared.openings.Newcomer.{Newcomer}
 use Rattle.srt_poller.specs.Devices.{joined}
 
--- a route that comes: its name, and the poller's ends of its queues
+-- an added route: its name, and the poller's ends of its queues
 pub record NewRoute : Type 0 where
   pub name : RouteName
   pub ends : Ends
@@ -28,7 +28,7 @@ reported_route n =
       outbox = pipe n.ends.drain.queue n.ends.drain.capacity n.ends.drain.through;
     }
 
--- the route that comes next, if one does
+-- the route that is added next, if one is
 abbrev pub additions : Option Newcomer → List NewRoute
 additions None = []
 additions (Some n) = new_route n ∷ []
@@ -44,7 +44,7 @@ names_in added = map (λ n. n.name) added
 abbrev pub ends_in : List NewRoute → List Ends
 ends_in added = map (λ n. n.ends) added
 
--- what openings have reported: the routes that came, and those that were asked to close
+-- what openings have reported: the added routes, and those that were requested to close
 pub record RouteReports : Type 0 where
   pub added : Option (List ReportedRoute)
   pub requested : Option (List ℕ)
@@ -52,6 +52,6 @@ pub record RouteReports : Type 0 where
 abbrev pub route_reports : Option (List ReportedRoute) → Option (List ℕ) → RouteReports
 route_reports added requested = record { added = added; requested = requested }
 
--- the same, after these came and these were asked to close
+-- the same, after these were added and these were requested to close
 abbrev pub route_reports_more : RouteReports → (added : List NewRoute) → (requested : List ℕ) → RouteReports
 route_reports_more n added requested = route_reports (joined n.added (map reported_route added)) (joined n.requested requested)

@@ -1,4 +1,4 @@
-//! The poller's rounds while routes come and go.
+//! The poller's rounds while routes are added and removed.
 
 ghost use Rattle.std.specs.Prelude.{◌≡◌, ◌+◌, ◌^◌, ◌<◌, ◌≤◌, ◌⊎◌, length};
 ghost use Rattle.std.specs.Vec.{vec_capacity};
@@ -24,17 +24,17 @@ use srt_seq::Schedule;
 use std::alloc::Global;
 use std::sync::Wait;
 
-/// As `pump_under`, and routes come and go between two rounds, as the openings tell. `schedules` are those of the routes
-/// that are there at first, at most 511; what `plans` are before means nothing.
+/// As `pump_under`, and routes are added and removed between two rounds, as the openings report. `schedules` are those of
+/// the first routes, at most 511. The content of `plans` before is ignored.
 ///
-/// Each round begins with what is new. A route that comes gets the next index, and is shown in the first round in which
-/// no shown route has its name; so does a route whose round of opening comes while another one has its name. A route
-/// that is asked to close is closed from the coming round on, unless its schedule says an earlier one; if it hasn't
-/// opened yet, it never does. Routes that come are taken while there are fewer than 511, and at most 511 are asked to
-/// close in one round; others stay with the openings. In a round that closes all, routes come, and none is shown.
+/// Each round begins with the changes. An added route gets the next index, and becomes visible in the first round in
+/// which no visible route has its name; so does a route whose name is in use in its opening round. A route that is
+/// requested to close is closed from the next round on, unless its schedule has an earlier one; if it hasn't opened yet,
+/// it never does. Routes are added while there are fewer than 511, and at most 511 are requested to close in one round;
+/// others stay with the openings. In a round that closes all, routes are added, and none becomes visible.
 ///
-/// What is promised is that of a run to which all routes had been given beforehand, hidden, with other schedules, which
-/// differ for the routes that were asked to close or share their name with another route.
+/// Such a run keeps all promises of one that had all routes in advance, the added ones hidden, with other schedules. These
+/// differ for the routes that were requested to close or share their name with another route.
 pub fn pump_changing<R: Wait, S: Source, W: Wire, G: Signals, O: Openings>(
     rt: &R,
     alloc: Global,
@@ -87,7 +87,7 @@ pub fn pump_changing<R: Wait, S: Source, W: Wire, G: Signals, O: Openings>(
     }
 }
 
-/// As `pump_from`, and routes come and go.
+/// As `pump_from`, and routes are added and removed.
 #[inline(always)]
 pub(crate) fn pump_changing_from<R: Wait, S: Source, W: Wire, G: Signals, O: Openings>(
     rt: &R,

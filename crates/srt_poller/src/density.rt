@@ -1,4 +1,4 @@
-//! How densely datagrams come.
+//! How densely datagrams arrive.
 
 ghost use Rattle.std.specs.Prelude.{◌≡◌};
 ghost use Rattle.srt_poller.specs.inside.Pauses.{counted};
@@ -31,7 +31,7 @@ impl Density {
         }
     }
 
-    /// A datagram arrived at this moment, in microseconds.
+    /// Counts a datagram that arrived at this time, in microseconds.
     pub(crate) fn arrived(&mut self, moment: u64)
         ensures { self.new ≡ counted moment self.old }
     {

@@ -11,23 +11,23 @@ use crate::tuning::{DENSE, MANY_DATAGRAMS, SHORT_WAITS, TOO_DENSE};
 pub(crate) enum Pause {
     /// Until the socket has a datagram, for at most this many milliseconds.
     Poll(u64),
-    /// A tenth of a millisecond, whatever comes meanwhile.
+    /// A tenth of a millisecond, whatever arrives meanwhile.
     Nap,
 }
 
 /// Which wait is next. One that ends with a datagram lasts at most 0 ms while there may be more to read, 1 ms for the
 /// 100 waits after a datagram arrived or a send returned Later, else 10 ms. In place of one of 1 ms the source naps, if 20
-/// to 99 datagrams come in a millisecond and the round before had some to read, but few to read and to send: then a nap
+/// to 99 datagrams arrive in a millisecond and the round before had some to read, but few to read and to send: then a nap
 /// costs less than the waits for each of the next datagrams.
 #[derive(Clone, Copy)]
 pub(crate) struct Pace {
-    /// The last read gave a datagram, so there may be more.
+    /// The last read returned a datagram, so there may be more.
     pub(crate) more: bool,
     /// The number of short waits left.
     pub(crate) warm: u32,
     /// The number of datagrams that arrived since the last wait; saturates at 64.
     pub(crate) read: u32,
-    /// How densely datagrams come.
+    /// How densely datagrams arrive.
     pub(crate) density: Density,
 }
 
@@ -67,7 +67,7 @@ impl Pace {
         }
     }
 
-    /// A datagram arrived at this moment, in microseconds, so there may be more.
+    /// A datagram arrived at this time, in microseconds, so there may be more.
     pub(crate) fn arrived(&mut self, moment: u64)
         ensures { self.new ≡ after_datagram moment self.old }
     {

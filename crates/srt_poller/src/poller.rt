@@ -63,7 +63,7 @@ enum Drained {
 pub(crate) struct Poller {
     // the last datagram that was read
     datagram: [u8; 2048],
-    // a copy of the kept reply's bytes, if there is one, so that its box can go back; no other reply is copied
+    // a copy of the kept reply's bytes, if there is one, so that its box can be returned; no other reply is copied
     reply_bytes: [u8; 1472],
     kept: Option<KeptReply>,
     // for copies of datagrams
@@ -73,7 +73,7 @@ pub(crate) struct Poller {
     left: bool,
 }
 
-// Tells a send that failed.
+// Reports a send that failed.
 #[inline(always)]
 fn report_failure<G: PollerObserver>(signals: &G, sent: Sent) {
     match sent {
@@ -82,7 +82,7 @@ fn report_failure<G: PollerObserver>(signals: &G, sent: Sent) {
     }
 }
 
-// Tells a reply that is a handshake.
+// Reports a reply that is a handshake.
 #[inline(always)]
 fn report_handshake<G: PollerObserver>(signals: &G, route: usize, peer: Peer, reply: &[u8]) {
     if let [0x80, 0, 0, 0, ..] = reply {
@@ -113,12 +113,12 @@ impl Poller {
         }
     }
 
-    /// Whether the next round that takes replies looks at all outboxes.
+    /// Whether the next round that takes replies checks all outboxes.
     pub(crate) fn checks_all(&self) -> bool {
         self.left
     }
 
-    /// Tells the counts so far, in which a reply that is kept doesn't stand.
+    /// Reports the counts so far, without a reply that is kept.
     #[inline(always)]
     pub(crate) fn report_counts<G: PollerObserver>(&self, signals: &G) {
         signals.reported(&self.report);
@@ -294,8 +294,8 @@ impl Poller {
         }
     }
 
-    /// Sends at most 64 replies of a route, until one is kept, unless its hint says that its outbox has none and the
-    /// round doesn't look at all. True if no reply is kept.
+    /// Sends at most 64 replies of a route, until one is kept, unless its outbox has none by its hint and the round doesn't
+    /// check all. True if no reply is kept.
     #[inline(always)]
     fn drain_route<R: Wait, W: Wire, G: Signals>(
         &mut self,
@@ -328,8 +328,8 @@ impl Poller {
         true
     }
 
-    /// Looks at the outboxes of all routes with a hint. Those of many routes are mostly out of the caches, and here the
-    /// processor fetches several at the same time; the drain then finds them.
+    /// Reads the outboxes of all routes with a hint. Those of many routes are mostly out of the caches, and here the
+    /// processor fetches several at the same time, before the drain uses them.
     fn prefetch<R, G: Hints>(context: &RoundContext<R, G>, ends: &mut [Ends])
         ensures { ends.new ≡ ends.old }
     {
@@ -377,7 +377,7 @@ impl Poller {
         }
     }
 
-    /// The counts so far, in which a reply that is still kept counts as lost.
+    /// Returns the counts so far, in which a reply that is still kept counts as lost.
     pub(crate) fn report(&self) -> Report
         ensures { result ≡ with_kept self.now.report (kept_in self.now) }
     {

@@ -31,7 +31,7 @@ pub enum BindFault {
     /// `std::io::Error::from_raw_os_error` has its words.
     #[error("socket fault")]
     Socket(Option<i32>),
-    /// Memory was refused.
+    /// Out of memory.
     #[error("memory")]
     OutOfMemory,
 }

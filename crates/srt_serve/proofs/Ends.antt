@@ -15,7 +15,7 @@ use Rattle.srt_serve.specs.Ran.{Ran, RanUnder, Recorded}
 use Rattle.srt_serve.specs.Ticks.{Ticked, moments_of, added_in}
 use Rattle.srt_serve.proofs.Moments.{itself, unrecorded, HaveTicks, have_ticks, have_further}
 
--- the ends that the clock had, those that came while it ticked, and those that came after it, have ticks of the moments
+-- the ends that the clock had, those added while it ticked, and those added after it, have ticks of the times
 pub all_ticked : (routes routes' routes'' : List CellIdentity) (clocks clocks' clocks'' more : List Producer) (reported reported' : Option (List ℕ))
     (ticked : Ticked itself unrecorded reported reported' (new_clocks routes) (new_clocks routes') clocks clocks')
     → clocks ≡ new_clocks routes → new_clocks routes'' ≡ new_clocks routes' ++ more → clocks'' ≡ clocks' ++ more

@@ -1,4 +1,4 @@
--- Routes that came after the poller's last round: it did what it does if they had been there, hidden, from the beginning on.
+-- Routes added after the poller's last round: it did what it does if they had been there, hidden, from the beginning on.
 use Rattle.std.proofs.Common.{◌≡◌, ◌⊎◌, inl, inr, sym, ap, subst, ◌∙◌, ℕ, ◌+◌, ◌*◌, ◌^◌, ◌<◌, ◌≤◌, false}
 use Rattle.std.proofs.Common.{List, [], ◌∷◌, ◌++◌, length, map, append-nil, arith}
 use Rattle.std.proofs.Math.Nat.{mul-le-mul_left}
@@ -49,7 +49,7 @@ round_after schedules s (event ∷ events) =
     let all = sum_by-cons waits_by event events in
     rest ∙ (let same : round_by s.round event + waits_in events ≡ s.round + waits_in (event ∷ events) = omega (arith, one, all) in same)
 
--- what was told, and the names and ends of the routes, with further ones behind them
+-- what was reported, and the names and ends of the routes, with further ones after them
 reported_with : (reported : RouteReports) (added more : List NewRoute) (requested : List ℕ) →
     route_reports_more (route_reports_more reported added requested) more [] ≡ route_reports_more reported (added ++ more) requested
 reported_with reported added more requested =
@@ -134,7 +134,7 @@ module _ {closes : Type 0} (secret : Secret) (made : ℕ) (more : List NewRoute)
         },
       )
 
-  -- the same of a poller that may not have been told of routes
+  -- the same of a poller to which no routes may have been reported
   polled_with : (schedules : List Schedule) (rounds : ℕ) (b : Before) (a : After) (reported reported' : RouteReports) → rounds ≤ 2 ^ 48 → (more ≡ []) ⊎ closes
       → Polled closes (sorting secret) schedules rounds made reported reported' b a
       → Polled closes (sorting secret) schedules rounds made reported (route_reports_more reported' more []) b (with_late more a)
@@ -165,7 +165,7 @@ module _ {closes : Type 0} (secret : Secret) (made : ℕ) (more : List NewRoute)
         polled.2,
       )
 
--- What a poller did, after these routes were taken. They came only if `watched` is known
+-- What a poller did, after these routes were taken. They were added only if `watched` is known
 pub polled_late : {closes watched : Type 0} (secret : Secret) (schedules : List Schedule) (rounds made : ℕ) (b : Before) (a : After) (ends : List Ends)
     (reported reported' reported'' : RouteReports)
     →

@@ -161,7 +161,7 @@ name_at_first schedules entries r s terms at there =
 same_schedule : (s t : Schedule) → t.open_round ≡ s.open_round → t.close_round ≡ s.close_round → t ≡ s
 same_schedule s t opens closes = λ i. record { open_round = opens i; close_round = closes i }
 
--- what a schedule has become, if the route's name is its own and it wasn't asked to close
+-- what a schedule has become, if the route's name is its own and it wasn't requested to close
 same_opening : (requested : Bool) (s t : Schedule) → requested ≡ false → (t.open_round ≡ s.open_round) ⊎ ((requested ≡ true) × (t.open_round ≡ never))
     → t.open_round ≡ s.open_round
 same_opening requested s t unrequested (inl same) = same
@@ -216,7 +216,7 @@ pub unchanging_runs_are_so : UnchangingRunsAreSo
 unchanging_runs_are_so class schedules entries rounds old new report accounts ran =
     (ran.0, ran.1, record { names_are = refl; entries_are = refl; schedules_are = refl; ran = ran.2 })
 
--- the names of entries are shown, so that a text among theirs is a name
+-- the names of entries are visible, so that a text among theirs is a name
 is_named : (entries : List Terms) (r : ℕ) (text : List ℕ) → slice_get (texts_of (map name_of entries)) r ≡ Some text
     → has_name_at (map name_of entries) r text ≡ true
 is_named [] r text h = cc

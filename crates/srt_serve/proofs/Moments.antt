@@ -101,7 +101,7 @@ module _ {E : Type 0} (inbox : E → Producer) (tried : E → Option (List ℕ))
       let same : length bs ≡ length was = as_many ms was bs h in
       rw (places ∙ sym same, take-append_seam bs (drop (length bs) was)) h
 
-  -- a tick more, and the ends that came before it
+  -- a tick more, and the ends added before it
   pub one_tick_more : (gave given given' : Option (List ℕ)) (added added' added'' : List E) (old bs cs : List E) (m : ℕ) (more : List E)
       → Ticked inbox tried gave given added added' old bs
       → given' ≡ joined given (m ∷ []) → added'' ≡ added' ++ more → WereTicked inbox tried (m ∷ []) (bs ++ more) cs
@@ -120,7 +120,7 @@ itself c = c
 abbrev pub unrecorded : Producer → Option (List ℕ)
 unrecorded c = None
 
--- the inbox of this end accepted ticks of some of these moments
+-- the inbox of this end accepted ticks of some of these times
 abbrev pub HasTicks : (moments : List ℕ) → Producer → Producer → Type 0
 HasTicks ms a b = (accepted : List ℕ) × IsWithin accepted ms × (b ≡ accepts_all accepted a)
 
@@ -156,7 +156,7 @@ have_again ms m (a ∷ was) (b ∷ bs) (c ∷ cs) h k = (
   have_again ms m was bs cs h.1 k.1,
 )
 
--- ends that were there, followed by those that came, have ticks of the moments
+-- ends that were there, followed by the added ones, have ticks of the times
 pub have_ticks : (ticks : List (TickOf Producer)) (was bs : List Producer)
     → WereTickedIn itself unrecorded ticks was bs → HaveTicks (moments_of ticks) (was ++ added_in ticks) bs
 have_ticks [] was bs h = rw (append-nil was) (subst (λ (xs : List Producer). HaveTicks [] was xs) (sym h) (have_none [] was))

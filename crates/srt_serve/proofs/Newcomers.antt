@@ -1,4 +1,4 @@
--- Routes that came while the poller ran: from what was told of them to what the run did.
+-- Routes added while the poller ran: from what was reported of them to what the run did.
 use Rattle.std.proofs.Common.{◌≡◌, inl, inr, ℕ, zero, suc, ◌<◌, ◌≤◌, Option, Some, List, [], ◌∷◌, ◌++◌, length, map, take}
 use Rattle.std.proofs.Common.{slice_index_or, refl, sym, ap, subst, ◌∙◌, append_assoc, append-nil, arith}
 use Rattle.std.proofs.Math.Seq.{take-append_seam}
@@ -78,7 +78,7 @@ seen_at (n' ∷ routes) (e' ∷ ends) h (suc r) n e below =
     let tails : map seen_ends ends ≡ map seen_route routes = cc in
     seen_at routes ends tails r n e (omega (arith, below))
 
--- the ends of the routes that came, behind those that were there, are those of all routes as they are opened
+-- the ends of the added routes, after those that were there, are those of all routes as they are opened
 pub arrived_opened : (routes routes' : List CellIdentity) (ends : List Ends) (newcomers : List NewRoute)
     → AreOpened routes ends → AreIndexed routes' → map report_of routes' ≡ map report_of routes ++ map reported_route newcomers
     → AreOpened routes' (ends ++ ends_in newcomers)
@@ -103,7 +103,7 @@ arrived_opened routes routes' ends newcomers opened indexed reported =
           (seen_at routes' (ends ++ ends_in newcomers) same r n e below);
     }
 
--- the names of the routes that came are those of their terms, hidden
+-- the names of the added routes are those of their terms, hidden
 pub arrived_names : (routes more : List CellIdentity) (newcomers : List NewRoute)
     → map report_of (routes ++ more) ≡ map report_of routes ++ map reported_route newcomers
     → names_in newcomers ≡ map (λ t. as_hidden (name_of t)) (terms_in more)
@@ -117,12 +117,12 @@ arrived_names routes more newcomers reported =
     ∙ map-map (λ (t : ReportedRoute). t.name) report_of more
     ∙ sym (map-map (λ (t : Terms). as_hidden (name_of t)) (λ (n : CellIdentity). n.terms) more)
 
--- a name that was hidden is the same once it is shown
+-- a name that was hidden is the same once it is visible
 hidden_shown : (added : List Terms) → map as_shown (map (λ t. as_hidden (name_of t)) added) ≡ map name_of added
 hidden_shown [] = refl
 hidden_shown (t ∷ added) = ap (λ (ns : List RouteName). name_of t ∷ ns) (hidden_shown added)
 
--- the texts of the names, and who may call, are those of the entries and of the routes that come
+-- the texts of the names, and who may call, are those of the entries and of the added routes
 pub texts_before : (schedules : List Schedule) (entries added : List Terms)
     → all_shown (names_before schedules entries added) ≡ map name_of (entries ++ added)
 texts_before schedules entries added =
@@ -131,7 +131,7 @@ texts_before schedules entries added =
     ∙ ap (λ (ns : List RouteName). map name_of entries ++ ns) (hidden_shown added)
     ∙ sym (map-append name_of entries added)
 
--- the names with which a poller began, with those of the routes that came behind them
+-- the names with which a poller began, with those of the added routes after them
 pub names_with : (schedules : List Schedule) (entries : List Terms) (names : List RouteName) (routes more : List CellIdentity)
     (newcomers : List NewRoute)
     → names ≡ first_names schedules entries → map report_of (routes ++ more) ≡ map report_of routes ++ map reported_route newcomers
@@ -143,7 +143,7 @@ names_with schedules entries names routes more newcomers named reported =
 some_same : {X : Type 0} {a b : X} → Some a ≡ Some b → a ≡ b
 some_same h = cc
 
--- what was told of routes while rounds were made
+-- what was reported of routes while rounds were made
 reported_more : (routes routes' : List CellIdentity) (requested requested' : List ℕ) (newcomers : List NewRoute) (closed : List ℕ)
     → route_reports (Some (map report_of routes')) (Some requested') ≡ route_reports_more (route_reports (Some (map report_of routes)) (Some requested))
     newcomers closed
@@ -156,14 +156,14 @@ requested_more : (routes routes' : List CellIdentity) (requested requested' : Li
     → requested' ≡ requested ++ closed
 requested_more routes routes' requested requested' newcomers closed h = some_same (ap (λ (n : RouteReports). n.requested) h)
 
--- nothing was told
+-- nothing was reported
 reported_none : (routes routes' : List CellIdentity) (requested requested' : List ℕ)
     → route_reports (Some (map report_of routes')) (Some requested') ≡ route_reports (Some (map report_of routes)) (Some requested)
     → map report_of routes' ≡ map report_of routes ++ map reported_route []
 reported_none routes routes' requested requested' h =
     some_same (ap (λ (n : RouteReports). n.added) h) ∙ sym (append-nil (map report_of routes))
 
--- none came behind the first ones
+-- none was added after the first ones
 none_behind : (routes routes' later : List CellIdentity) → routes' ≡ routes ++ later → map report_of routes' ≡ map report_of routes → routes' ≡ routes
 none_behind routes routes' [] grew same = grew ∙ append-nil routes
 none_behind routes routes' (n ∷ later) grew same =
@@ -187,14 +187,14 @@ first_of places places' requested requested' h =
 
 module _ (closes : Type 0) (class : Sorting) (schedules : List Schedule) (rounds made : ℕ) (names names' : List RouteName) (gave gave' : Heard)
     (to to' : Carried) (ends ends' : List Ends) (report : Report) where
-  -- what the poller did while it was told of these routes, and of those that were asked to close
+  -- what the poller did while these routes were reported to it, and of those that were requested to close
   abbrev pub PolledWith : (routes routes' : List CellIdentity) → (requested requested' : List ℕ) → Type 0
   PolledWith routes routes' requested requested' =
       Polled closes class schedules rounds made (route_reports (Some (map report_of routes)) (Some requested))
       (route_reports (Some (map report_of routes')) (Some requested'))
       (before names gave to ends) (after names' gave' to' ends' report)
 
-  -- the poller leaves the names of the locks of the places, which stand with their number before those that were asked to close
+  -- the poller leaves the names of the locks of the places, which stand with their number before those that were requested to close
   pub same_places : (routes routes' : List CellIdentity) (places places' requested requested' : List ℕ)
       → PolledWith routes routes' (length places ∷ (places ++ requested)) (length places' ∷ (places' ++ requested'))
       → places' ≡ places
@@ -230,7 +230,7 @@ module _ (closes : Type 0) (class : Sorting) (schedules : List Schedule) (rounds
             pumped.1.ends clocked
       ]
 
-  -- What the run did if nothing is known to come. `later` are the routes that came, behind the first ones
+  -- What the run did if no route may be added. `later` are the added routes, after the first ones
   pub ran_fixed : (entries : List Terms) (reported reported' : Option (List ℕ)) (accounts : List Account)
       (routes routes' later more routes'' : List CellIdentity)
       (requested requested' : List ℕ) (clocks : List Producer) (moments : List ℕ)

@@ -46,13 +46,13 @@ terms_grow entries i entry routes routes' n below there whose grew h =
     ∙ ap (λ (ts : List Terms). ts ++ n.terms ∷ []) h
     ∙ ap (λ (t : Terms). map terms_of (take i entries) ++ t ∷ []) whose)
 
--- the clock's ends are those of the routes to which its reader came, and of one more
+-- the clock's ends are those of the routes that its reader has reached, and of one more
 pub clocks_grow : (routes routes' : List CellIdentity) (clocks clocks' : List Producer) (n : CellIdentity)
     → routes' ≡ routes ++ n ∷ [] → clocks' ≡ clocks ++ new_clock n ∷ [] → clocks ≡ new_clocks routes → clocks' ≡ new_clocks routes'
 clocks_grow routes routes' clocks clocks' n added taken h =
     taken ∙ ap (λ (cs : List Producer). cs ++ new_clock n ∷ []) h ∙ sym (map-append new_clock routes (n ∷ [])) ∙ ap new_clocks (sym added)
 
--- the lock of a place stands at its index
+-- the lock of a place is at its index
 pub place_put : {S : Type 0} (id : S → ℕ) (places : List S) (locks : List ℕ) (i n : ℕ) (p : S) (of : ℕ)
     → locks ≡ map id places → i ≡ n → p ≡ get_or places i p → i < length places → of ≡ id p → slice_get locks n ≡ Some of
 place_put id places locks i n p of shown same there within put =

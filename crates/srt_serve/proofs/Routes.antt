@@ -81,7 +81,7 @@ some_of : {X : Type 0} (xs : List X) (r : ℕ) → r < length xs → X
 some_of [] r h = absurd (omega arith)
 some_of (x ∷ xs) r h = x
 
--- the clock's end of a route among those that came, which may be more
+-- the clock's end of a route among the added ones, which may be more
 ticked_at : (ms : List ℕ) (routes more : List CellIdentity) (clocks : List Producer) → HaveTicks ms (new_clocks (routes ++ more)) clocks
     → (r : ℕ) (n : CellIdentity) (c : Producer) → r < length routes
     → HasTicks ms (new_clock (slice_index_or routes r n)) (slice_index_or clocks r c)

@@ -1,4 +1,4 @@
-//! Places for the routes of a run, and how the polling thread and the ticking one come to the routes in them.
+//! Places for the routes of a run, and how the polling thread and the ticking one reach the routes in them.
 
 ghost use Rattle.std.specs.Prelude.{◌≡◌, ◌<◌, [], IfOk, IfSome, length, map};
 ghost use Rattle.srt_seq.specs.Terms.{terms_of};
@@ -17,7 +17,7 @@ use srt_wakeups::AtomicBitSet;
 use std::alloc::{AllocError, Global};
 use std::sync::atomic::{AtomicBool, Ordering};
 
-/// What the polling thread is given with its ends of a route that comes.
+/// The polling thread's attachment of a route: it gets it with its ends of the route.
 #[derive(Drop)]
 pub struct NameAttachment {
     /// The route's name.
@@ -39,8 +39,8 @@ pub fn open_places(alloc: Global, places: usize) -> Result<Vec<Place<NameAttachm
     Ok(opened)
 }
 
-/// Opens the route of this entry, with a seat. Takes all memory that it will ever need. An error means that memory was
-/// refused, or that the entry or the index is out of its limits. Nothing is kept then.
+/// Opens the route of this entry, with a seat. Allocates all memory that it will ever need. An error means out of memory,
+/// or that the entry or the index is out of its limits. Nothing is kept then.
 pub fn seat_route(
     alloc: Global,
     entry: &Entry,
@@ -55,10 +55,10 @@ pub fn seat_route(
     }
 }
 
-/// The clock's ends of the routes that come, in the order of their indexes.
+/// The clock's ends of the added routes, in the order of their indexes.
 #[derive(Drop)]
 pub struct ClockArrivals<'a> {
-    /// Comes to the routes.
+    /// Reaches the routes.
     pub reader: SeatReader<'a, NameAttachment>,
 }
 
@@ -75,19 +75,19 @@ impl TickEnds<ClockEnd> for ClockArrivals<'_> {
     }
 }
 
-/// What the watching thread tells the polling one of the routes: that some have come, and which are to close.
+/// Notices of the watching thread to the polling one: that routes were added, and which are to close.
 #[derive(Drop)]
 pub struct RouteNotices {
-    // something was told since the polling thread looked last
+    // there was a notice since the polling thread last checked
     is_pending: AtomicBool,
-    // the routes that were asked to close so far
+    // the routes that were requested to close so far
     requested: AtomicBitSet,
     // those of them that the polling thread hasn't taken
     closings: AtomicBitSet,
 }
 
 impl RouteNotices {
-    /// For this many routes at most. Allocates two bits for each; an error means that memory was refused.
+    /// For this many routes at most. Allocates two bits for each; an error means out of memory.
     pub fn open(alloc: Global, routes: usize) -> Result<RouteNotices, AllocError> {
         Ok(RouteNotices {
             is_pending: AtomicBool::new(false),
@@ -96,19 +96,19 @@ impl RouteNotices {
         })
     }
 
-    /// Asks that this route be closed, once `tell` is called. A route that was asked before isn't asked again.
+    /// Requests that this route be closed, once `notify` is called. A second request for a route is ignored.
     pub fn close(&self, route: usize) {
         if self.requested.set(route) {
             self.closings.set(route);
         }
     }
 
-    /// Lets the polling thread look, before its next round. For the watching thread, after all else of a change.
+    /// Notifies the polling thread, which checks before its next round. For the watching thread, at the end of a change.
     pub fn notify(&self) {
         self.is_pending.store(true, Ordering::SeqCst);
     }
 
-    // Whether something was told since this was asked last. What is told after the store is told again by the flag.
+    // Whether there was a notice since the last call. A notice after the store sets the flag again.
     fn take_pending(&self) -> bool {
         let is_pending = self.is_pending.load(Ordering::SeqCst);
         if is_pending {
@@ -131,19 +131,19 @@ impl RouteNotices {
     }
 }
 
-/// How the polling thread comes to the routes in the places, and learns which are to close.
+/// How the polling thread reaches the routes in the places, and gets those that are to close.
 #[derive(Drop)]
 pub struct PollerArrivals<'a, 'n> {
-    /// Comes to the routes.
+    /// Reaches the routes.
     pub reader: SeatReader<'a, NameAttachment>,
     notices: &'n RouteNotices,
-    // the routes that were asked to close, the oldest first, each at most once
+    // the routes that were requested to close, the oldest first, each at most once
     requested: Vec<usize>,
     ghost indexed: { AreIndexed (came reader) },
 }
 
 impl<'a, 'n> PollerArrivals<'a, 'n> {
-    /// With a reader that has come to the first routes. Allocates room for the routes that are to close.
+    /// With a reader that has reached the first routes. Allocates room for the routes that are to close.
     pub fn new(
         alloc: Global,
         reader: SeatReader<'a, NameAttachment>,
@@ -167,7 +167,8 @@ impl Openings for PollerArrivals<'_, '_> {
 
     ghost added = { λ s. Some (map report_of (came s.reader)) };
 
-    // The names of the places' locks stand before the routes that were asked to close: so it is known that a poller leaves them.
+    // The names of the places' locks precede the routes that were requested to close: so it is known that a poller leaves
+    // them.
     ghost requested = { λ s. Some (marked (locks_of s.reader) s.requested.items) };
 
     fn has_changes(&self) -> bool {
@@ -203,7 +204,7 @@ impl Openings for PollerArrivals<'_, '_> {
     }
 }
 
-/// A place that can be given a route. Code that opens routes while threads run is generic over this trait.
+/// A place that a route can be put into. Code that opens routes while threads run is generic over this trait.
 pub trait RouteHost {
     /// Puts a route here. False if the place has one already; then the new one is dropped.
     fn host(&self, seat: Seat<NameAttachment>) -> bool;

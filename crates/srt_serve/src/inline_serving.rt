@@ -30,7 +30,7 @@ pub struct InlineServer<'a, R, C, G: Drop> {
 }
 
 impl<'a, R: Wait, C: Serve, G: Gate + Drop> InlineServer<'a, R, C, G> {
-    /// For the polling thread alone. Without a gate it serves no route, and without a post all rounds are made and none
+    /// For the polling thread alone. Without a gate it serves no route, and without a channel all rounds are made and none
     /// closes all.
     pub fn new(
         rt: &'a R,

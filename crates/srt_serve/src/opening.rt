@@ -20,11 +20,11 @@ use std::sync::OnceToken;
 /// room for as many as there are places.
 #[derive(Drop)]
 pub struct Opened<'a> {
-    /// The polling thread's, which has come to all of them.
+    /// The polling thread's, which has reached all of them.
     pub routes: SeatReader<'a, NameAttachment>,
     /// The poller's ends: of the inbox and of the outbox.
     pub ends: Vec<Ends>,
-    /// The ticking thread's, which has come to all of them.
+    /// The ticking thread's, which has reached all of them.
     pub arrivals: ClockArrivals<'a>,
     /// The clock's ends of the inboxes.
     pub clocks: Vec<ClockEnd>,
@@ -79,9 +79,9 @@ fn take_first_clock(
     Ok(())
 }
 
-/// Opens the routes of these entries, in order, in these places, which must be empty. Takes all memory that they will
-/// ever need. An error means that memory was refused, that an entry is out of its limits (`run` requires that none is), or
-/// that there are fewer places.
+/// Opens the routes of these entries, in order, in these places, which must be empty. Allocates all memory that they will
+/// ever need. An error means out of memory, that an entry is out of its limits (`run` requires that none is), or that there
+/// are fewer places.
 pub fn open_routes<'a>(
     alloc: Global,
     entries: &[Entry],

@@ -1,4 +1,4 @@
-//! Refused conclusions: what a watcher is told about one.
+//! Refused conclusions, as they are reported to a watcher.
 
 ghost use Rattle.std.specs.Prelude.{◌≡◌, ◌≤◌, [], Ok, None, Some, length};
 ghost use Rattle.srt_lobby.specs.Names.{names_of};
@@ -30,7 +30,7 @@ fn code_of(kind: u32) -> Option<u32>
 }
 
 /// The code of the refusal that this handshake packet is; `None` if it is none. Its handshake type is the sixth word
-/// behind the header (section 3.2.1).
+/// after the header (section 3.2.1).
 pub fn refusal_in(packet: &[u8]) -> Option<u32>
     ensures { result ≡ refusal_in packet.now }
 {
@@ -99,8 +99,8 @@ fn name_in_packet(packet: PacketRef<'_>) -> ArrayVec<u8, MAX_NAME>
     }
 }
 
-/// The name that the Stream ID of a conclusion asks for, cut to 64 bytes. Empty if the datagram is none, or if its Stream
-/// ID asks for no name.
+/// Returns the name that the Stream ID of a conclusion requests, cut to 64 bytes. Empty if the datagram is none, or if its
+/// Stream ID requests no name.
 pub fn requested_name(datagram: &[u8]) -> ArrayVec<u8, MAX_NAME>
     ensures { result.items ≡ requested_name datagram.now }
 {
@@ -110,7 +110,7 @@ pub fn requested_name(datagram: &[u8]) -> ArrayVec<u8, MAX_NAME>
     }
 }
 
-/// What a watcher is told of a conclusion that the lobby, which has these names, refused with this code.
+/// Returns the report of a conclusion that the lobby, which has these names, refused with this code.
 pub fn lobby_refusal(names: &Names, peer: Peer, code: u32, conclusion: &[u8]) -> Refusal
     ensures route { result.route ≡ None }
     ensures peer { result.peer ≡ peer }
@@ -127,7 +127,7 @@ pub fn lobby_refusal(names: &Names, peer: Peer, code: u32, conclusion: &[u8]) ->
     }
 }
 
-/// What a watcher is told of a conclusion that the route with this index refused with this code.
+/// Returns the report of a conclusion that the route with this index refused with this code.
 pub fn route_refusal(route: usize, peer: Peer, code: u32) -> Refusal
     ensures route { result.route ≡ Some route }
     ensures peer { result.peer ≡ peer }

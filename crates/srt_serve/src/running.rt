@@ -42,7 +42,7 @@ use thiserror::Error;
 /// Why a run failed. Its text is the line that the program prints.
 #[derive(Clone, Copy, Debug, Error, PartialEq, Eq)]
 pub enum RunFault {
-    /// Memory was refused. Nothing was read.
+    /// Out of memory. Nothing was read.
     #[error("memory")]
     OutOfMemory,
     /// A thread could not be started, or wasn't running after ten seconds. Nothing was read, and the threads that were
@@ -50,7 +50,7 @@ pub enum RunFault {
     #[error("thread fault")]
     Thread,
     /// A route could not be settled, since another call had claimed it. Datagrams were read and sent, but there are no
-    /// report and no accounts.
+    /// report and no final counters.
     #[error("busy")]
     Busy,
 }
@@ -110,7 +110,7 @@ struct Prepared {
     accounts: Vec<Account>,
 }
 
-// Who takes part in a run besides its poller.
+// The parts of a run other than its poller.
 #[derive(Drop)]
 struct Crew<K: Drop, G: Drop, T: Drop> {
     ticker: K,
@@ -182,7 +182,7 @@ fn open_shared(
     })
 }
 
-// Takes the memory for the names, hides those of later routes, and makes room for plans and accounts.
+// Allocates the names, hides those of later routes, and makes room for plans and final counters.
 fn prepare(alloc: Global, entries: &[Entry], schedules: &[Schedule]) -> Result<Prepared, AllocError>
     requires { length schedules.now ≡ length entries.now }
     ensures names { IfOk result (λ p. names_of p.names ≡ first_names schedules.now (map terms_of entries.now)) }
@@ -199,7 +199,7 @@ fn prepare(alloc: Global, entries: &[Entry], schedules: &[Schedule]) -> Result<P
     })
 }
 
-// Takes the poller's ends of the routes that have come since its last round, as long as there is room for them. None are
+// Takes the poller's ends of the routes that were added since its last round, as long as there is room for them. None are
 // taken if the run isn't watched.
 fn take_late<O: Openings>(channel: Option<&WatcherChannel>, ends: &mut Vec<Ends>, openings: &mut O)
     ensures { (more : List NewRoute) × ((more ≡ []) ⊎ IsSome channel.entry) × AreHidden (names_in more)
@@ -220,9 +220,9 @@ fn take_late<O: Openings>(channel: Option<&WatcherChannel>, ends: &mut Vec<Ends>
     }
 }
 
-// After all threads have ended: takes the clock's ends of the routes that have come since its last tick, and shows each
-// route once more to the watcher. Fails if the polling thread's reader hasn't come to all routes with which the run began,
-// or the ticking thread's to all to which that came, or if these are more than 511.
+// After all threads have ended: takes the clock's ends of the routes that were added since its last tick, and shows each
+// route once more to the watcher. Fails if the polling thread's reader hasn't reached all routes with which the run began,
+// or the ticking thread's all that the polling thread's has, or if these are more than 511.
 fn come_to_all<'a, R: Wait, K: Drop, T: Watch>(
     context: &RunContext<'a, R, Place<NameAttachment>>,
     put: &Vec<OnceToken<'a, Seat<NameAttachment>>>,
@@ -406,7 +406,7 @@ where
     run_opened(context, source, wire, polling, others, ending)
 }
 
-// Runs the gateway as `run` and `run_until` do. If it isn't watched, the watcher is never asked and sees nothing.
+// Runs the gateway as `run` and `run_until` do. If it isn't watched, the watcher is never called.
 fn run_with<'a, R, S: Source, W: Wire, K, G, T>(
     rt: &'a R,
     alloc: Global,
@@ -476,15 +476,15 @@ where
     run_over(&context, entries, source, wire, crew, prepared)
 }
 
-/// Runs the gateway of these entries for `rounds` rounds of its poller, and returns the poller's report and an account
-/// of each route. The entries must be right as a whole: names distinct, numbers within their limits. `schedules` has a
-/// schedule for each entry, and `gates` a gate for each worker, 1 to 16, and perhaps one for the polling thread.
+/// Runs the gateway of these entries for `rounds` rounds of its poller, and returns the poller's report and the final
+/// counters of each route. The entries must be valid as a whole: names distinct, numbers within their limits. `schedules`
+/// has a schedule for each entry, and `gates` a gate for each worker, 1 to 16, and perhaps one for the polling thread.
 ///
-/// First all routes are opened, those that callers find in a later round too, which takes all memory but that of
+/// First all routes are opened, also those that clients find in a later round. This allocates all memory but that of
 /// threads and of arriving datagrams. The names of later routes are hidden until their round. Then one thread for each
 /// worker and one ticking thread are started. Once all of them run, the calling thread polls the source and the wire,
 /// and opens and closes routes at the beginning of each round; the ticking thread offers a tick to all routes, hidden ones
-/// too, at each moment that the ticker gives; and the workers serve all of them. After the rounds all threads end, and
+/// too, at each time that the ticker returns; and the workers serve all of them. After the rounds all threads end, and
 /// each route is settled. A ticker that waits delays that end.
 pub fn run<R, S: Source, W: Wire, K, G>(
     rt: &R,
@@ -543,15 +543,14 @@ where
     }
 }
 
-/// As `run`, until the watcher asks the poller to end, and for at most `rounds` rounds, 2^48 at most. Before each round
-/// the poller is asked what the watcher said last: in a round that closes all, no route opens, and Close is offered to
-/// each shown one.
+/// As `run`, until the watcher orders the poller to end, and for at most `rounds` rounds, 2^48 at most. The watcher's
+/// latest order holds for each round: in a round that closes all, no route opens, and Close is offered to each visible one.
 ///
-/// A further thread watches. It repeats these steps: it lets the watcher rest (`Watch::next`), tells it what was refused, and shows
-/// it the routes if it looks. After all threads have ended and before the routes are settled, each route is shown once
-/// more, and the refusals that are left are told. After each rest the watcher may change the routes too
-/// (`Watch::change_routes`): those that open get the next of the 511 indexes, and callers find them from one of the next rounds
-/// on, once no other shown route has their name; those that close are offered Close from then on. The threads end whatever the
+/// A further thread watches. It repeats these steps: it lets the watcher rest (`Watch::next`), reports the refusals, and
+/// shows it the routes if it wants them. After all threads have ended and before the routes are settled, each route is
+/// shown once more, and the remaining refusals are reported. After each rest the watcher may change the routes too
+/// (`Watch::change_routes`): those that open get the next of the 511 indexes, and clients find them from one of the next
+/// rounds on, once no other visible route has their name; those that close are offered Close from then on. The threads end whatever the
 /// watcher does; but one that rests for long delays that, as a ticker that waits does.
 ///
 /// The accounts are those of all routes, in the order of their indexes: of the entries, and of the routes that opened. One

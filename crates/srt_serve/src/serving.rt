@@ -43,11 +43,11 @@ pub struct RunContext<'a, R, C> {
     pub cells: &'a [C],
     /// How many of them the run begins with; the others are empty places.
     pub routes: usize,
-    /// What the watching thread tells the polling one of routes.
+    /// Notices of the watching thread to the polling one.
     pub notices: &'a RouteNotices,
-    /// Which routes may have work, and whether the run is over.
+    /// Which routes may have work, and whether the run has ended.
     pub wakeups: &'a Wakeups,
-    /// What the polling thread and the watching one tell each other; none if the run isn't watched.
+    /// Between the polling thread and the watching one; none if the run isn't watched.
     pub channel: Option<&'a WatcherChannel>,
     /// The most rounds of the poller; their number if the run isn't watched.
     pub rounds: u64,
@@ -56,13 +56,13 @@ pub struct RunContext<'a, R, C> {
 /// What the polling thread has for itself: the routes as callers find them.
 #[derive(Drop)]
 pub struct PollerState<G: Drop, O: Drop> {
-    /// The names of the routes, in the order of their indexes. A round shows and hides them.
+    /// The names of the routes, in the order of their indexes. A round makes them visible and hides them.
     pub names: Names,
     /// The poller's ends of all routes, in the same order. Room for 511 if the run is watched.
     pub ends: Vec<Ends>,
     /// Room for what becomes of the schedules if the run is watched.
     pub plans: Plans,
-    /// The routes that come, and those that are to close, if the run is watched.
+    /// The routes that are added, and those that are to close, if the run is watched.
     pub openings: O,
     /// The gate through which it serves routes, if it does. `serve_routes` takes it out.
     pub gate: Option<G>,
@@ -111,7 +111,7 @@ where
     });
 }
 
-// Watches until the run is over, if the run is watched.
+// Watches until the run has ended, if the run is watched.
 fn watch_over<R: Wait, C: Serve + RouteHost, T: Watch>(context: &RunContext<R, C>, watch: &mut T) {
     name_thread(ThreadName::Watch);
     if let Some(channel) = context.channel {
@@ -260,7 +260,7 @@ where
     let clocks = &mut others.clocks;
     let gates = &mut others.gates;
     let watch = &mut others.watch;
-    // The polling thread's gate has a type of its own, `P`: what both closures capture may share no type parameter.
+    // The polling thread's gate has a separate type, `P`: what both closures capture may share no type parameter.
     let (_, pumping) = join_mut(
         context.rt,
         &mut || tick_and_start(context, clocks, gates, watch),

@@ -17,8 +17,8 @@ use std::sync::{OnceToken, Wait};
 #[derive(Clone, Copy)]
 pub struct Busy;
 
-/// That the reader came at first to the routes that were put into these places before any thread ran. It may have come to
-/// more. If it hasn't come to all of these, or to more than 511, the routes can't be settled.
+/// Checks that the reader first reached the routes that were put into these places before any thread ran. It may have
+/// reached more. If it hasn't reached all of these, or more than 511, the routes can't be settled.
 pub fn began_with<'a>(
     routes: &SeatReader<'a, NameAttachment>,
     put: &Vec<OnceToken<'a, Seat<NameAttachment>>>,
@@ -39,8 +39,8 @@ pub fn began_with<'a>(
     Ok(())
 }
 
-/// That the ticking thread's reader came to all routes to which the polling thread's did, the same at each index. It may
-/// have come to more. If it hasn't come to all, the routes can't be settled.
+/// Checks that the ticking thread's reader reached all routes that the polling thread's did, the same at each index. It
+/// may have reached more. If it hasn't reached all, the routes can't be settled.
 pub fn came_to_all<'a>(
     routes: &SeatReader<'a, NameAttachment>,
     arrivals: &SeatReader<'a, NameAttachment>,
@@ -57,9 +57,9 @@ pub fn came_to_all<'a>(
     Ok(())
 }
 
-/// Settles all routes to which this reader came and returns their accounts, in the order of their indexes. The lists must
-/// be in that order too; there may be more clock's ends. `accounts` must be empty and have room for all of them, so that
-/// no memory is taken.
+/// Settles all routes that this reader reached and returns their final counters, in the order of their indexes. The lists
+/// must be in that order too; there may be more clock's ends. `accounts` must be empty and have room for all of them, so
+/// that nothing allocates.
 pub fn settle_routes<R: Wait>(
     rt: &R,
     routes: &SeatReader<'_, NameAttachment>,

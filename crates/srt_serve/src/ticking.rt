@@ -9,16 +9,16 @@ use srt_wakeups::Wakeups;
 use std::sync::Wait;
 use std::thread;
 
-/// Gives the moments at which the ticking thread ticks, and decides how often: `next` is called again at once after
-/// each tick, and may wait before it returns.
+/// Returns the times at which the ticking thread ticks, and decides how often: `next` is called again at once after each
+/// tick, and may wait before it returns.
 pub trait Ticker {
     ghost use Rattle.std.specs.Prelude.{◌≡◌, ◌<◌, ◌^◌, ℕ, Option, List, [], ◌∷◌};
     ghost use Rattle.srt_poller.specs.Devices.{joined};
 
-    /// All moments that it gave, the oldest first, or `None` for a ticker that doesn't record them.
+    /// All times that it returned, the oldest first, or `None` for a ticker that doesn't record them.
     ghost gave: { Self → Option (List ℕ) };
 
-    /// The next moment, in microseconds, below 2^62. A run doesn't end before this call returns.
+    /// Returns the next time, in microseconds, below 2^62. A run doesn't end before this call returns.
     fn next(&mut self) -> u64
         ensures timely { result < 2 ^ 62 }
         ensures records { gave self.new ≡ joined (gave self.old) (result ∷ []) };
@@ -37,13 +37,13 @@ pub trait TickEnd {
     /// The moments of all ticks that were offered, the oldest first, or `None` for an end that doesn't record them.
     ghost tried: { Self → Option (List ℕ) };
 
-    /// Offers a tick, at a moment in microseconds, below 2^62. A full inbox discards it.
+    /// Offers a tick, at a time in microseconds, below 2^62. A full inbox discards it.
     fn offer_tick<R: Wait>(&mut self, rt: &R, moment: u64)
         requires timely { moment < 2 ^ 62 }
         ensures accepted { (inbox self.new ≡ inbox self.old) ⊎ (inbox self.new ≡ accepts moment (inbox self.old)) }
         ensures records { tried self.new ≡ joined (tried self.old) (moment ∷ []) };
 
-    /// Reads what `offer_tick` will read, so that the processor has it at hand then. Changes nothing.
+    /// Reads what `offer_tick` will read, so that the processor has it in its caches then. Changes nothing.
     fn touch(&mut self)
         ensures same { self.new ≡ self.old };
 }
@@ -64,18 +64,18 @@ impl TickEnd for ClockEnd {
     }
 }
 
-/// Gives the clock's ends of routes that come while others are ticked.
+/// Returns the clock's ends of routes that are added while others are ticked.
 pub trait TickEnds<E> {
     ghost use Rattle.std.specs.Prelude.{◌≡◌, ℕ, List, [], ◌∷◌, ◌++◌, IfSome, IfNone};
 
-    /// All ends that it gave, in their order.
+    /// All ends that it returned, in their order.
     ghost added: { Self → List E };
 
     /// The names of the places from which it takes them. No call changes that.
     ghost places: { Self → List ℕ };
 
-    /// The next end, if one has come. Order before each tick, so it may not wait, and should cost no more than a load or
-    /// two if none has.
+    /// Returns the next end, if there is one. Polled before each tick, so it may not wait, and should cost no more than a
+    /// load or two if there is none.
     fn next(&mut self) -> Option<E>
         ensures some { IfSome result (λ end. added self.new ≡ added self.old ++ end ∷ []) }
         ensures none { IfNone result (added self.new ≡ added self.old) }
@@ -85,15 +85,15 @@ pub trait TickEnds<E> {
 /// The clock's ends of all routes, and their ticker.
 #[derive(Drop)]
 pub struct Clocks<K: Drop, E: Drop, A: Drop> {
-    /// In the order of the routes' indexes. No more come than this has room for.
+    /// In the order of the routes' indexes. No more are added than this has room for.
     pub ends: Vec<E>,
-    /// Gives those that come.
+    /// Returns those that are added.
     pub arrivals: A,
-    /// Gives the moments.
+    /// Returns the times.
     pub ticker: K,
 }
 
-/// Takes the ends that have come, as long as there is room for them.
+/// Takes the ends that were added, as long as there is room for them.
 pub fn take_new<E: Drop, A: TickEnds<E>>(ends: &mut Vec<E>, arrivals: &mut A)
     ensures taken { (more : List E) × (A.added arrivals.new ≡ A.added arrivals.old ++ more) × (ends.new.items ≡ ends.old.items ++ more) }
     ensures same { A.places arrivals.new ≡ A.places arrivals.old }
@@ -108,12 +108,12 @@ pub fn take_new<E: Drop, A: TickEnds<E>>(ends: &mut Vec<E>, arrivals: &mut A)
     }
 }
 
-/// What a ticking thread does until the run is over. Code that starts threads is generic over this trait.
+/// The work of a ticking thread until the run has ended. Code that starts threads is generic over this trait.
 pub trait Clockwork {
     /// What becomes of a clock that ticks.
     ghost ticked: { Self → Self → Type 0 };
 
-    /// Ticks until the run is over.
+    /// Ticks until the run has ended.
     fn tick<R: Wait>(&mut self, rt: &R, wakeups: &Wakeups)
         ensures { ticked self.old self.new };
 }
@@ -130,8 +130,8 @@ impl<K: Ticker + Drop, E: TickEnd + Drop, A: TickEnds<E> + Drop> Clockwork for C
     }
 }
 
-// Looks at all ends. They are mostly out of the caches, and here the processor fetches those of several routes at the
-// same time; `tick_each` then finds them.
+// Reads all ends. They are mostly out of the caches, and here the processor fetches those of several routes at the
+// same time, before `tick_each` uses them.
 fn prefetch<E: TickEnd>(ends: &mut [E])
     ensures { WereTicked E.inbox E.tried [] ends.old ends.new }
 {
@@ -150,7 +150,7 @@ fn tick_each<R: Wait, E: TickEnd>(rt: &R, ends: &mut [E], moment: u64)
     }
 }
 
-// Offers a tick to every route, after a look at all of them.
+// Offers a tick to every route, after reading all of them.
 fn tick_all<R: Wait, E: TickEnd>(rt: &R, ends: &mut [E], moment: u64)
     requires { moment < 2 ^ 62 }
     ensures { WereTicked E.inbox E.tried (moment ∷ []) ends.old ends.new }
@@ -159,7 +159,7 @@ fn tick_all<R: Wait, E: TickEnd>(rt: &R, ends: &mut [E], moment: u64)
     tick_each(rt, ends, moment);
 }
 
-// Takes the ends that have come, and offers a tick to every route, in the order of their indexes.
+// Takes the ends that were added, and offers a tick to every route, in the order of their indexes.
 fn tick_with_new<R: Wait, E: TickEnd + Drop, A: TickEnds<E>>(
     rt: &R,
     ends: &mut Vec<E>,
@@ -175,9 +175,9 @@ fn tick_with_new<R: Wait, E: TickEnd + Drop, A: TickEnds<E>>(
     tick_all(rt, ends, moment);
 }
 
-/// Offers a tick to every route at each moment that the ticker gives, until the run is over. No route is left out: one
-/// that asks for a worker gets its tick too, and one whose inbox is full is offered it in vain. The routes that have come
-/// by then get the tick as well.
+/// Offers a tick to every route at each time that the ticker returns, until the run has ended. No route is left out: one
+/// that needs a worker gets its tick too, and a full inbox discards it. Routes that were added by then get the tick as
+/// well.
 pub fn tick<R: Wait, K: Ticker + Drop, E: TickEnd + Drop, A: TickEnds<E> + Drop>(
     rt: &R,
     clocks: &mut Clocks<K, E, A>,

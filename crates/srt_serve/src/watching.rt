@@ -1,5 +1,5 @@
-//! The watching thread of a run: it shows the routes to a watcher, tells it what was refused, and hands on to the poller
-//! what the watcher asks of it.
+//! The watching thread of a run: it shows the routes to a watcher, reports refusals to it, passes its orders to the poller,
+//! and makes its changes of the routes.
 
 use crate::arrivals::{NameAttachment, RouteHost, RouteNotices, seat_route};
 use crate::watcher_channel::WatcherChannel;
@@ -13,21 +13,21 @@ use std::alloc::Global;
 use std::sync::Wait;
 use std::thread;
 
-// The most refusals that a watcher is told between two of its rests.
+// The most refusals that are reported to a watcher between two of its rests.
 const REFUSALS_PER_REST: u32 = 1024;
 
-// The number of looks in a row that find all quiet before a watcher is told so. A hint is cleared before its outbox is
-// drained, so that one look alone may miss replies that are being sent.
+// The number of checks in a row that find all quiet before that is reported. A hint is cleared before its outbox is
+// drained, so that one check alone may miss replies that are being sent.
 const QUIET_CHECKS: u32 = 2;
 
 /// Makes the changes that a watcher requests.
 #[derive(Drop)]
 pub struct Changer<'a, C> {
-    /// Allocates what the routes need that open.
+    /// Allocates the memory of the routes that open.
     pub alloc: Global,
     /// The places of all routes, the taken ones first.
     pub places: &'a [C],
-    /// Tells the polling thread.
+    /// Notifies the polling thread.
     pub notices: &'a RouteNotices,
     /// The number of places that are taken.
     pub routes: usize,
@@ -95,7 +95,7 @@ fn has_session(route: &Route) -> bool {
     false
 }
 
-// Shows one route to the watcher, if it looks, and notes whether the route is quiet.
+// Shows one route to the watcher, if it wants routes, and records whether the route is quiet.
 #[derive(Drop)]
 struct Viewer<'a, T> {
     watch: &'a mut T,
@@ -117,8 +117,8 @@ impl<T: Watch> Observer for Viewer<'_, T> {
     }
 }
 
-// Claims each route, and shows it to the watcher if that looks. Whether all were quiet; one that another thread has
-// isn't.
+// Claims each route, and shows it to the watcher if it wants routes. Whether all were quiet; one that another thread has
+// claimed isn't.
 fn show_all<R: Wait, C: Serve, T: Watch>(rt: &R, cells: &[C], watch: &mut T, looks: bool) -> bool {
     let mut all_quiet = true;
     for (index, cell) in cells.iter().enumerate() {
@@ -134,7 +134,7 @@ fn show_all<R: Wait, C: Serve, T: Watch>(rt: &R, cells: &[C], watch: &mut T, loo
     all_quiet
 }
 
-// Tells the watcher the refusals that wait.
+// Reports the refusals that wait to the watcher.
 fn report_refusals<R: Wait, T: Watch>(rt: &R, channel: &WatcherChannel, watch: &mut T) {
     for _ in 0..REFUSALS_PER_REST {
         let Some(refusal) = channel.take(rt) else {
@@ -147,10 +147,10 @@ fn report_refusals<R: Wait, T: Watch>(rt: &R, channel: &WatcherChannel, watch: &
 // What is known between two rests of the watcher.
 #[derive(Clone, Copy)]
 struct Known {
-    // the counts that the poller told last, and how often it told any
+    // the counts that the poller reported last, and how often it reported any
     counts: Report,
     reports: u64,
-    // how many looks in a row found all quiet
+    // how many checks in a row found all quiet
     quiet: u32,
 }
 
@@ -163,7 +163,7 @@ impl Known {
         }
     }
 
-    // What the watcher is told before its next rest.
+    // Returns what the watcher gets before its next rest.
     fn status(&self, channel: &WatcherChannel) -> RunStatus {
         RunStatus {
             is_quiet: self.quiet >= QUIET_CHECKS,
@@ -175,7 +175,7 @@ impl Known {
     }
 }
 
-// Lets the watcher rest once, and does what it asks.
+// Lets the watcher rest once, and then executes its order and its changes.
 fn watch_once<R: Wait, C: Serve + RouteHost, T: Watch>(
     rt: &R,
     changer: &mut Changer<'_, C>,
@@ -201,8 +201,8 @@ fn watch_once<R: Wait, C: Serve + RouteHost, T: Watch>(
     };
 }
 
-/// Watches until the run is over. After each rest of the watcher the poller is asked what it said, the refusals are told
-/// that wait, the change is made that it asks for, and the routes are shown if it looks.
+/// Watches until the run has ended. After each rest of the watcher the poller gets its order, the refusals that wait are
+/// reported, the watcher changes the routes, and the routes are shown if it wants them.
 pub fn watch_routes<R: Wait, C: Serve + RouteHost, T: Watch>(
     rt: &R,
     mut changer: Changer<'_, C>,
@@ -225,8 +225,8 @@ pub fn watch_routes<R: Wait, C: Serve + RouteHost, T: Watch>(
     }
 }
 
-/// Shows each route once more, and tells the refusals that are left, if the run was watched. For the time after all
-/// threads have ended.
+/// Shows each route once more, and reports the remaining refusals, if the run was watched. For the time after all threads
+/// have ended.
 pub fn watch_last<R: Wait, C: Serve, T: Watch>(
     rt: &R,
     cells: &[C],

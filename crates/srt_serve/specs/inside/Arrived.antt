@@ -1,4 +1,4 @@
--- The routes that come to a poller.
+-- The routes that are added to a poller.
 use Rattle.std.specs.Prelude.{◌≡◌, ℕ, ◌<◌, List, [], ◌∷◌, ◌++◌, length, slice_index_or}
 use Rattle.srt_lobby.specs.Names.{as_hidden, name_of}
 use Rattle.srt_mailbox.specs.Cells.{CellIdentity}
@@ -6,7 +6,7 @@ use Rattle.srt_mailbox.specs.Ends.{pipe}
 use Rattle.srt_poller.specs.Openings.{ReportedRoute}
 use Rattle.srt_serve.specs.Opened.{new_clock}
 
--- what openings tell of this route when it comes
+-- what openings report of this route when it is added
 abbrev pub report_of : CellIdentity → ReportedRoute
 report_of n = record { name = as_hidden (name_of n.terms); ingress = new_clock n; outbox = pipe n.outbox n.terms.outbox [] }
 

@@ -13,8 +13,8 @@ use Rattle.srt_poller.specs.Schedules.{AllDiffer}
 unfoldable pub AreReady : List Schedule → List RouteName → List Ends → Type 0
 AreReady schedules names ends = (length ends ≡ length names) × (length schedules ≡ length names) × AllDiffer names × (length schedules ≤ 511)
 
--- The rounds that were made, at most `rounds`, went as its own contract says. It made fewer, a round closed all, and routes came or were asked to close,
--- only if `closes` is known
+-- The rounds that were made, at most `rounds`, went as its own contract states. It made fewer, a round closed all, and routes were added or requested to
+-- close, only if `closes` is known
 unfoldable pub Polled : (closes : Type 0) → Sorting → List Schedule → (rounds made : ℕ) → (reported reported' : RouteReports) → Before → After → Type 0
 Polled closes class schedules rounds made reported reported' before after =
     (((closes → ⊥) × (reported' ≡ reported) × PumpedUnder (Unit {0}) closes class schedules made before after)
