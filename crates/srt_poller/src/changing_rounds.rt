@@ -12,11 +12,12 @@ ghost use Rattle.srt_poller.specs.Plans.{AreTimely};
 ghost use Rattle.srt_poller.specs.Changes.{plans_in, RoundsChanging, PumpedChanging};
 
 use crate::changing::Plans;
+use crate::context::{Classifier, RoundContext};
 use crate::devices::{Source, Wire};
 use crate::ends::Ends;
 use crate::openings::Openings;
 use crate::poller::Poller;
-use crate::pumping::{Pumping, ask, make_round};
+use crate::pumping::{Pumping, ask};
 use crate::signals::Signals;
 use srt_cookie::Secret;
 use srt_lobby::Names;
@@ -128,18 +129,19 @@ pub(crate) fn pump_changing_from<R: Wait, S: Source, W: Wire, G: Signals, O: Ope
         };
         let round = first + made;
         plans.begin(rt, signals, openings, names, ends, round, closes_all);
-        make_round(
+        let context = RoundContext {
             rt,
             alloc,
-            secret,
-            names,
+            lobby: Classifier { secret, names },
+            signals,
+            all: poller.checks_all(round),
+        };
+        poller.make_round(
+            &context,
             source,
             wire,
             ends.as_mut_slice(),
             &mut plans.latest,
-            poller,
-            round,
-            signals,
         );
     }
     rounds

@@ -14,8 +14,8 @@ use crate::report::{
     count_reply,
 };
 use crate::schedule::Latest;
-use crate::signals::{Hints, PollerObserver, Signals};
-use crate::tuning::{READS_PER_ROUND, REPLIES_PER_ROUTE};
+use crate::signals::{Hints, InlineService, PollerObserver, Signals};
+use crate::tuning::{READS_PER_ROUND, REPLIES_PER_ROUTE, ROUNDS_PER_FULL_CHECK};
 use srt_lobby::{Class, classify};
 use srt_seq::Peer;
 use srt_supervision::Report;
@@ -82,6 +82,14 @@ fn report_failure<G: PollerObserver>(signals: &G, sent: Sent) {
     }
 }
 
+// Lets the polling thread serve routes, unless the wait of this round failed.
+#[inline(always)]
+fn serve_inline<G: InlineService>(signals: &G, datagrams: Option<u32>) {
+    if let Some(datagrams) = datagrams {
+        signals.serve_inline(datagrams);
+    }
+}
+
 // Reports a reply that is a handshake.
 #[inline(always)]
 fn report_handshake<G: PollerObserver>(signals: &G, route: usize, peer: Peer, reply: &[u8]) {
@@ -95,7 +103,7 @@ impl Poller {
     ghost use Rattle.srt_poller.specs.declared.ends.Ends.{Ends as TheEnds};
     ghost use Rattle.srt_poller.specs.declared.poller.Drained.TheVariants.{Empty, Gone};
     ghost use Rattle.srt_poller.specs.Reports.{nothing, with_kept};
-    ghost use Rattle.srt_poller.specs.Pollers.{sorted_by, named_in, arrival_in, kept_in, begun_phase, waiting, sending, listening, Waited};
+    ghost use Rattle.srt_poller.specs.Pollers.{sorted_by, named_in, arrival_in, kept_in, begun_phase, waiting, sending, listening, Waited, RoundMade};
     ghost use Rattle.srt_poller.specs.Pollers.{WaitFailed, Arrived, Listened, Resent, Replies};
 
     /// A poller with no reply kept and all counts 0. Doesn't allocate.
@@ -113,9 +121,9 @@ impl Poller {
         }
     }
 
-    /// Whether the next round that takes replies checks all outboxes.
-    pub(crate) fn checks_all(&self) -> bool {
-        self.left
+    /// Whether the round with this number checks all outboxes, whatever their hints are.
+    pub(crate) fn checks_all(&self, round: u64) -> bool {
+        self.left | (round % ROUNDS_PER_FULL_CHECK == 0)
     }
 
     /// Reports the counts so far, without a reply that is kept.
@@ -375,6 +383,31 @@ impl Poller {
             }
             route = at + 1;
         }
+    }
+
+    /// Makes the rest of a round, which has begun: sends the kept reply again, waits and reads, lets the polling thread
+    /// serve routes, and sends replies.
+    #[inline(always)]
+    pub(crate) fn make_round<R: Wait, S: Source, W: Wire, G: Signals>(
+        &mut self,
+        context: &RoundContext<R, G>,
+        source: &mut S,
+        wire: &mut W,
+        ends: &mut [Ends],
+        latest: &mut Latest,
+    )
+        requires { length ends.old ≡ length (named_in context.now.lobby) }
+        ensures { RoundMade (sorted_by context.now.lobby) (named_in context.now.lobby) (length ends.old) (begun_phase self.old)
+            (listening (heard (S.gave source.old) (S.calls source.old)) (carried (W.handed wire.old) (W.attempts wire.old)) ends.old self.old)
+            (listening (heard (S.gave source.new) (S.calls source.new)) (carried (W.handed wire.new) (W.attempts wire.new)) ends.new self.new)
+            latest.old.moment latest.new.moment }
+    {
+        self.resend(context.signals, wire);
+        serve_inline(
+            context.signals,
+            self.listen(context, source, wire, ends, latest),
+        );
+        self.drain(context, wire, ends);
     }
 
     /// Returns the counts so far, in which a reply that is still kept counts as lost.

@@ -3,7 +3,7 @@
 ghost use Rattle.std.specs.Prelude.{◌≡◌, ◌+◌, ◌^◌, ◌<◌, ◌≤◌, ◌⊎◌, true, false, IfSome, IfNone, length};
 ghost use Rattle.srt_lobby.specs.Names.{names_of};
 ghost use Rattle.srt_poller.specs.Schedules.{AllDiffer};
-ghost use Rattle.srt_poller.specs.Pollers.{sorting, begun_phase, round_state, listening, RoundMade, Rounds};
+ghost use Rattle.srt_poller.specs.Pollers.{sorting, round_state, listening, Rounds};
 ghost use Rattle.srt_poller.specs.Devices.{heard, carried};
 ghost use Rattle.srt_poller.specs.Beginnings.{RestBetween};
 ghost use Rattle.srt_poller.specs.Pumped.{Pumped, PumpedUnder, before, after};
@@ -12,9 +12,8 @@ use crate::context::{Classifier, RoundContext};
 use crate::devices::{Source, Wire};
 use crate::ends::Ends;
 use crate::poller::Poller;
-use crate::schedule::{Latest, RouteSchedules};
-use crate::signals::{InlineService, Orders, Signals, Unsignalled};
-use crate::tuning::ROUNDS_PER_FULL_CHECK;
+use crate::schedule::RouteSchedules;
+use crate::signals::{Orders, Signals, Unsignalled};
 use srt_cookie::Secret;
 use srt_lobby::Names;
 use srt_seq::Schedule;
@@ -142,48 +141,6 @@ pub(crate) fn ask<G: Orders>(signals: &G) -> Option<bool>
     }
 }
 
-/// Lets the polling thread serve routes itself, if it read in this round.
-#[inline(always)]
-fn serve_inline<G: InlineService>(signals: &G, datagrams: Option<u32>) {
-    if let Some(datagrams) = datagrams {
-        signals.serve_inline(datagrams);
-    }
-}
-
-/// Makes the rest of the round with this number, which has begun.
-#[inline(always)]
-pub(crate) fn make_round<R: Wait, S: Source, W: Wire, G: Signals>(
-    rt: &R,
-    alloc: Global,
-    secret: &Secret,
-    names: &Names,
-    source: &mut S,
-    wire: &mut W,
-    ends: &mut [Ends],
-    latest: &mut Latest,
-    poller: &mut Poller,
-    round: u64,
-    signals: &G,
-)
-    requires { length ends.old ≡ length (names_of names.now) }
-    ensures { RoundMade (sorting secret.now) (names_of names.now) (length ends.old) (begun_phase poller.old)
-        (listening (heard (S.gave source.old) (S.calls source.old)) (carried (W.handed wire.old) (W.attempts wire.old)) ends.old poller.old)
-        (listening (heard (S.gave source.new) (S.calls source.new)) (carried (W.handed wire.new) (W.attempts wire.new)) ends.new poller.new)
-        latest.old.moment latest.new.moment }
-{
-    let due = round % ROUNDS_PER_FULL_CHECK == 0;
-    let context = RoundContext {
-        rt,
-        alloc,
-        lobby: Classifier { secret, names },
-        signals,
-        all: due | poller.checks_all(),
-    };
-    poller.resend(signals, wire);
-    serve_inline(signals, poller.listen(&context, source, wire, ends, latest));
-    poller.drain(&context, wire, ends);
-}
-
 /// Makes at most `rounds` rounds, and returns how many were made. The first has the number `first`.
 #[inline(always)]
 pub(crate) fn pump_from<R: Wait, S: Source, W: Wire, G: Signals>(
@@ -220,19 +177,14 @@ pub(crate) fn pump_from<R: Wait, S: Source, W: Wire, G: Signals>(
         };
         let round = first + made;
         route_schedules.begin(rt, signals, names, ends, round, closes_all);
-        make_round(
+        let context = RoundContext {
             rt,
             alloc,
-            secret,
-            names,
-            source,
-            wire,
-            ends,
-            &mut route_schedules.latest,
-            poller,
-            round,
+            lobby: Classifier { secret, names },
             signals,
-        );
+            all: poller.checks_all(round),
+        };
+        poller.make_round(&context, source, wire, ends, &mut route_schedules.latest);
     }
     rounds
 }

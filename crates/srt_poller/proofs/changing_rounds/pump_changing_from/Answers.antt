@@ -50,7 +50,7 @@ loop-made-preserved g c =
     let begun = c.begin.ensures.began in
     let rest : (last : Phase) × IsOver last × Went class plans (258 + 64 * length items) 1 1
     (world_of source wire items (round_state names k c.loop-made.plans.latest.moment) (begun_phase c.loop-made.poller) c.loop-made.poller)
-    (world_of source_then wire_then ends (round_state names (c.args.first + (made + 1)) c.make_round.new.latest.moment) last c.make_round.new.poller) =
+    (world_of source_then wire_then ends (round_state names (c.args.first + (made + 1)) c.make_round.new.latest.moment) last c.make_round.new.self) =
     rw (sym c.as_mut_slice.ensures.value, sym latest, sym next) (c.make_round.ensures plans k) in
     let same : k + 1 ≡ c.args.first + (made + 1) = omega arith in (
       rw whole (made_next c.args.secret.now c.args.first made c.args.plans.now.latest.moment c.loop-made.plans.latest.moment (plans_in c.args.plans.now)
@@ -61,7 +61,7 @@ loop-made-preserved g c =
           (heard (g.S.Source.gave c.args.source.now) (g.S.Source.calls c.args.source.now)) source
           (carried (g.W.Wire.handed c.args.wire.now) (g.W.Wire.attempts c.args.wire.now)) wire c.args.poller.now c.loop-made.poller
           (λ phase. world_of source_then wire_then ends (round_state names (c.args.first + (made + 1)) c.make_round.new.latest.moment) phase
-          c.make_round.new.poller)
+          c.make_round.new.self)
           c.in-Some.closes_all c.loop-made.invariant.0 begun rest c.requires.timely c.loop-made.invariant.2 c.requires.ends
           c.in-Some.ensures.round.0 c.in-Some.ensures.round.1),
       subst (λ (n : ℕ). RestBetween n c.begin.new.self.due plans names) same c.begin.ensures.rest,
