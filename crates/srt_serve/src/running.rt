@@ -110,6 +110,18 @@ struct Prepared {
     accounts: Vec<Account>,
 }
 
+// The task of a run.
+#[derive(Clone, Copy)]
+struct Task<'a> {
+    secret: &'a Secret,
+    // the routes with which it begins, and their schedules
+    entries: &'a [Entry],
+    schedules: &'a [Schedule],
+    // the most rounds; their number if the run isn't watched
+    rounds: u64,
+    is_watched: bool,
+}
+
 // The parts of a run other than its poller.
 #[derive(Drop)]
 struct Crew<K: Drop, G: Drop, T: Drop> {
@@ -410,43 +422,45 @@ where
 fn run_with<'a, R, S: Source, W: Wire, K, G, T>(
     rt: &'a R,
     alloc: Global,
-    secret: &'a Secret,
-    entries: &[Entry],
-    schedules: &'a [Schedule],
+    task: Task<'a>,
     source: &mut S,
     wire: &mut W,
-    ticker: K,
-    gates: Gates<G>,
-    watch: T,
-    is_watched: bool,
-    rounds: u64,
+    crew: Crew<K, G, T>,
 ) -> Result<Watched<K, T>, RunFault>
 where
     R: Threads + Wait + Sync,
     K: Ticker + Send + Drop,
     G: Gate + Send + Drop,
     T: Watch + Send + Drop,
-    requires entries { fault_of (map terms_of entries.now) ≡ None }
-    requires schedules { length schedules.now ≡ length entries.now }
-    requires workers { (1 ≤ vec_len gates.workers) × (vec_len gates.workers ≤ 16) }
-    requires few { rounds ≤ 2 ^ 48 }
-    ensures fixed { is_watched ≡ false → IfOk result (λ r. RanUnder (is_watched ≡ true)
-        (class_of (secret_bytes secret.now)) schedules.now (map terms_of entries.now) r.rounds
-        (recorded_by (heard (S.gave source.old) (S.calls source.old)) (carried (W.handed wire.old) (W.attempts wire.old)) (K.gave ticker))
+    requires entries { fault_of (map terms_of task.entries.now) ≡ None }
+    requires schedules { length task.schedules.now ≡ length task.entries.now }
+    requires workers { (1 ≤ vec_len crew.gates.workers) × (vec_len crew.gates.workers ≤ 16) }
+    requires few { task.rounds ≤ 2 ^ 48 }
+    ensures fixed { task.entry.is_watched ≡ false → IfOk result (λ r. RanUnder (task.entry.is_watched ≡ true)
+        (class_of (secret_bytes task.entry.secret.now)) task.entry.schedules.now (map terms_of task.entry.entries.now) r.rounds
+        (recorded_by (heard (S.gave source.old) (S.calls source.old)) (carried (W.handed wire.old) (W.attempts wire.old)) (K.gave crew.ticker))
         (recorded_by (heard (S.gave source.new) (S.calls source.new)) (carried (W.handed wire.new) (W.attempts wire.new)) (K.gave r.ticker))
         r.report r.accounts.items) }
-    ensures changing { is_watched ≡ true → IfOk result (λ r. RanChanging
-        (class_of (secret_bytes secret.now)) schedules.now (map terms_of entries.now) r.rounds
-        (recorded_by (heard (S.gave source.old) (S.calls source.old)) (carried (W.handed wire.old) (W.attempts wire.old)) (K.gave ticker))
+    ensures changing { task.entry.is_watched ≡ true → IfOk result (λ r. RanChanging
+        (class_of (secret_bytes task.entry.secret.now)) task.entry.schedules.now (map terms_of task.entry.entries.now) r.rounds
+        (recorded_by (heard (S.gave source.old) (S.calls source.old)) (carried (W.handed wire.old) (W.attempts wire.old)) (K.gave crew.ticker))
         (recorded_by (heard (S.gave source.new) (S.calls source.new)) (carried (W.handed wire.new) (W.attempts wire.new)) (K.gave r.ticker))
         r.report r.accounts.items) }
-    ensures rounds { IfOk result (λ r. (r.rounds ≤ rounds) × ((r.rounds ≡ rounds) ⊎ (is_watched ≡ true))) }
+    ensures rounds { IfOk result (λ r. (r.rounds ≤ task.entry.rounds) × ((r.rounds ≡ task.entry.rounds) ⊎ (task.entry.is_watched ≡ true))) }
     ensures unread { (result ≡ Err RunFault.OutOfMemory) ⊎ (result ≡ Err RunFault.Thread) → (source.new ≡ source.old) × (wire.new ≡ wire.old) }
 {
+    let Task {
+        secret,
+        entries,
+        schedules,
+        is_watched,
+        ..
+    } = task;
     let Ok(prepared) = prepare(alloc, entries, schedules) else {
         return Err(RunFault::OutOfMemory);
     };
-    let Ok(shared) = open_shared(alloc, entries.len(), gates.workers.len(), is_watched) else {
+    let workers = crew.gates.workers.len();
+    let Ok(shared) = open_shared(alloc, entries.len(), workers, is_watched) else {
         return Err(RunFault::OutOfMemory);
     };
     let Shared {
@@ -466,12 +480,7 @@ where
         notices: &notices,
         wakeups: &wakeups,
         channel: watcher,
-        rounds,
-    };
-    let crew = Crew {
-        ticker,
-        gates,
-        watch,
+        rounds: task.rounds,
     };
     run_over(&context, entries, source, wire, crew, prepared)
 }
@@ -511,20 +520,19 @@ where
         r.report r.accounts.items) }
     ensures unread { (result ≡ Err RunFault.OutOfMemory) ⊎ (result ≡ Err RunFault.Thread) → (source.new ≡ source.old) × (wire.new ≡ wire.old) }
 {
-    match run_with(
-        rt,
-        alloc,
+    let task = Task {
         secret,
         entries,
         schedules,
-        source,
-        wire,
+        rounds: rounds as u64,
+        is_watched: false,
+    };
+    let crew = Crew {
         ticker,
         gates,
-        NoWatcher,
-        false,
-        rounds as u64,
-    ) {
+        watch: NoWatcher,
+    };
+    match run_with(rt, alloc, task, source, wire, crew) {
         Ok(watched) => {
             let Watched {
                 report,
@@ -585,9 +593,19 @@ where
     ensures rounds { IfOk result (λ r. r.rounds ≤ rounds) }
     ensures unread { (result ≡ Err RunFault.OutOfMemory) ⊎ (result ≡ Err RunFault.Thread) → (source.new ≡ source.old) × (wire.new ≡ wire.old) }
 {
-    run_with(
-        rt, alloc, secret, entries, schedules, source, wire, ticker, gates, watch, true, rounds,
-    )
+    let task = Task {
+        secret,
+        entries,
+        schedules,
+        rounds,
+        is_watched: true,
+    };
+    let crew = Crew {
+        ticker,
+        gates,
+        watch,
+    };
+    run_with(rt, alloc, task, source, wire, crew)
 }
 
 #[cfg(test)]
