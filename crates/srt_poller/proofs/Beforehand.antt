@@ -1,4 +1,4 @@
--- A poller's history is the same if what its routes do from some round on had been written down beforehand: routes that open then stand behind the
+-- A poller's history is the same if what its routes do from some round on had been known in advance: routes that open then stand after the
 -- others, hidden, and schedules differ in those rounds alone.
 use Rattle.std.proofs.Common.{◌≡◌, ℕ, zero, suc, ◌+◌, ◌<◌, ◌≤◌, ◌==◌, Bool, true, false, cond, ◌&&◌, ◌||◌, List, [], ◌∷◌, ◌++◌, length}
 use Rattle.std.proofs.Common.{refl, sym, ap, subst, ◌∙◌, arith}

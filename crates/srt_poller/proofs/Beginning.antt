@@ -10,7 +10,7 @@ use Rattle.srt_poller.specs.Beginnings.{Rests, AreClosed, Began}
 use Rattle.srt_poller.proofs.Joined.{joined_none}
 use Rattle.srt_poller.proofs.Steps.{unheard, are_later_none, went_once}
 
--- routes were shown, and then closed
+-- routes become visible, and then close
 pub began_closing : (closes_all : Bool) (round latest : ℕ) (schedules : List Schedule) (old middle new : List RouteName) (before after : List Ends)
     → middle ≡ opened_if closes_all round schedules old → AreClosed closes_all latest round schedules middle new before after
     → Began closes_all round latest schedules old new before after

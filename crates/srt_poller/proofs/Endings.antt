@@ -58,9 +58,9 @@ ended {goes} {closes} class schedules names names' source source' wire wire' end
     )
 
 -- the number of rounds under another name
-pub as_told : {goes closes : Type 0} {class : Sorting} {schedules : List Schedule} {made told : ℕ} {x : Before} {y : After}
-    → made ≡ told → PumpedUnder goes closes class schedules made x y → PumpedUnder goes closes class schedules told x y
-as_told {goes} {closes} {class} {schedules} {made} {told} {x} {y} same h = subst (λ (n : ℕ). PumpedUnder goes closes class schedules n x y) same h
+pub as_reported : {goes closes : Type 0} {class : Sorting} {schedules : List Schedule} {made reported : ℕ} {x : Before} {y : After}
+    → made ≡ reported → PumpedUnder goes closes class schedules made x y → PumpedUnder goes closes class schedules reported x y
+as_reported {goes} {closes} {class} {schedules} {made} {reported} {x} {y} same h = subst (λ (n : ℕ). PumpedUnder goes closes class schedules n x y) same h
 
 -- one round more, which closes all or doesn't
 pub go_more : {goes : Type 0} (closing made : ℕ) (closes_all : Bool)

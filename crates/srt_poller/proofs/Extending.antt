@@ -1,4 +1,4 @@
--- What a poller did, said of longer lists: as if routes that come later had been there, hidden, from the beginning on.
+-- What a poller did, stated of longer lists: as if routes added later had been there, hidden, from the beginning on.
 use Rattle.std.proofs.Common.{◌≡◌, ◌∙◌, ◌⊎◌, inl, inr, sym, ap, subst, ℕ, ◌+◌, ◌-◌, ◌*◌, ◌<◌, ◌≤◌, List, ◌++◌, length, slice_index_or, arith}
 use Rattle.std.proofs.lemmas.Bool.{cases_lt}
 use Rattle.std.proofs.Math.Nat.{mul-le-mul_left}
@@ -17,7 +17,8 @@ use Rattle.srt_poller.proofs.Steps.{later_none, went_more}
 abbrev pub extended : (more : List RouteName) → (ends : List Ends) → World → World
 extended more ends w = world w.source w.wire (w.ends ++ ends) (with_more more w.state) w.report
 
-are_later_more : (events : List Event) (x y more : List Ends) → AreLater events x y → AreLater events (x ++ more) (y ++ more)
+-- the ends of further routes stay as they are
+pub are_later_more : (events : List Event) (x y more : List Ends) → AreLater events x y → AreLater events (x ++ more) (y ++ more)
 are_later_more events x y more h = record {
   as_many = let a = h.as_many in omega (arith, a, length-append x more, length-append y more);
   each = λ r e below. by r e (cases_lt r (length x));

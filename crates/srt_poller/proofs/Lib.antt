@@ -10,5 +10,5 @@ pub mod Beforehand
 pub mod Extending
 pub mod Replanning
 pub mod Beginning
-pub mod Coming
+pub mod Additions
 pub mod Remaking

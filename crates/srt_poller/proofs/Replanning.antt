@@ -21,13 +21,13 @@ use Rattle.srt_poller.specs.Schedules.{has_come, opened}
 use Rattle.srt_poller.specs.Beginnings.{all_shown}
 use Rattle.srt_poller.specs.Beforehand.{SameBefore, OpenLater, AgreeBefore}
 use Rattle.srt_poller.specs.Openings.{NewRoute, names_in}
-use Rattle.srt_poller.specs.Plans.{never, schedule_of, texts_of, IsAlone, is_asked, IsBefore, Became, IsNewPlan, IsPlanOf, ArePlans, AreTimely, waiting}
+use Rattle.srt_poller.specs.Plans.{never, schedule_of, texts_of, IsAlone, is_requested, IsBefore, Became, IsNewPlan, IsPlanOf, ArePlans, AreTimely, waiting}
 use Rattle.srt_poller.specs.Plans.{sooner, closed_from, may_open, update_at, with_open_round}
 use Rattle.srt_poller.specs.Changes.{OpensOne, Opens}
 use Rattle.srt_poller.proofs.ShownInRound.{no_schedule, opened_step, texts_opened, as_many}
 
 -- lists that go on
-get_left : {A : Type 0} (xs ys : List A) (r : ℕ) → r < length xs → slice_get (xs ++ ys) r ≡ slice_get xs r
+pub get_left : {A : Type 0} (xs ys : List A) (r : ℕ) → r < length xs → slice_get (xs ++ ys) r ≡ slice_get xs r
 get_left [] ys r within = absurd (omega (arith, within))
 get_left (x ∷ xs) ys zero within = refl
 get_left (x ∷ xs) ys (suc r) within = get_left xs ys r (omega (arith, within))
@@ -106,16 +106,16 @@ module _ (k : ℕ) where
   other_number : (n j : ℕ) → j < k → k ≤ n → (n == j) ≡ false
   other_number n j early late = grind (arith, nat_tests)
 
-  -- routes that come wait
-  pub wait_later : k ≤ never → (came : List NewRoute) → AreHidden (names_in came) → OpenLater k (map (λ n. waiting) came) (names_in came)
+  -- added routes wait
+  pub wait_later : k ≤ never → (added : List NewRoute) → AreHidden (names_in added) → OpenLater k (map (λ n. waiting) added) (names_in added)
   wait_later small [] hidden = tt
-  wait_later small (n ∷ came) hidden = (λ j early. other_number never j early small, hidden.0, wait_later small came hidden.1)
+  wait_later small (n ∷ added) hidden = (λ j early. other_number never j early small, hidden.0, wait_later small added hidden.1)
 
-  -- a round of opening that is not before this one becomes another such
+  -- an opening round that is not before this one becomes another such
   pub same_opening : (s : Schedule) (n : ℕ) → k ≤ s.open_round → k ≤ n → SameBefore k s (with_open_round n s)
   same_opening s n late late' j early = (other_number n j early late' ∙ sym (other_number s.open_round j early late), refl)
 
-  -- a route is asked to close
+  -- a route is requested to close
   sooner_comes : (j : ℕ) → j < k → (o : Option ℕ) → has_come j (Some (sooner k o)) ≡ has_come j o
   sooner_comes j early None = let past : nat_le k j ≡ false = grind (arith, nat_tests) in past
   sooner_comes j early (Some c) = by (cases_lt j c)
@@ -141,11 +141,11 @@ module _ (k : ℕ) where
           let late : k ≤ s.open_round = grind (arith, nat_tests) in
           other_number never j early small ∙ sym (other_number s.open_round j early late)
 
-  pub agree_closed : k ≤ never → (asked : List ℕ) (ps : List Schedule) → AgreeBefore k ps (fold (update_at (closed_from k)) ps asked) []
+  pub agree_closed : k ≤ never → (requested : List ℕ) (ps : List Schedule) → AgreeBefore k ps (fold (update_at (closed_from k)) ps requested) []
   agree_closed small [] ps = agree_none ps
-  agree_closed small (r ∷ asked) ps =
+  agree_closed small (r ∷ requested) ps =
       agree_then ps (update_at (closed_from k) ps r) _ [] [] (agree_update (closed_from k) ps r (λ s at. same_closing small s))
-      (agree_closed small asked (update_at (closed_from k) ps r))
+      (agree_closed small requested (update_at (closed_from k) ps r))
 
 -- a plan in a later round, with other reasons to wait, and beside more names
 before_later : (k : ℕ) (o : Option ℕ) → IsBefore k o → IsBefore (suc k) o
@@ -185,71 +185,91 @@ plan_as k W W' A a None t w h = record { opens = λ alone un. by (h.opens alone 
     by (inl early) = inl early
     by (inr waits) = inr (waits.0, w waits.1)
 
-pub plans_as : (k : ℕ) (W W' : ℕ → Type 0) (schedules : List Schedule) (texts : List (List ℕ)) (asked : List ℕ) (ps : List Schedule) →
-    ((r : ℕ) → r < length ps → W r → W' r) → ArePlans k W schedules texts asked ps → ArePlans k W' schedules texts asked ps
-plans_as k W W' schedules texts asked ps w h = record {
+pub plans_as : (k : ℕ) (W W' : ℕ → Type 0) (schedules : List Schedule) (texts : List (List ℕ)) (requested : List ℕ) (ps : List Schedule) →
+    ((r : ℕ) → r < length ps → W r → W' r) → ArePlans k W schedules texts requested ps → ArePlans k W' schedules texts requested ps
+plans_as k W W' schedules texts requested ps w h = record {
   as_many = h.as_many;
   fewer = h.fewer;
   known = h.known;
   each = λ r t at. plan_as k (W r) (W' r) _ _ (slice_get schedules r) t (w r (slice_get_within ps r t at)) (h.each r t at);
 }
 
-pub plans_later : (k : ℕ) (W W' : ℕ → Type 0) (schedules : List Schedule) (texts : List (List ℕ)) (asked : List ℕ) (ps : List Schedule) →
-    ((r : ℕ) → W r → W' r) → ArePlans k W schedules texts asked ps → ArePlans (suc k) W' schedules texts asked ps
-plans_later k W W' schedules texts asked ps w h = record {
+pub plans_later : (k : ℕ) (W W' : ℕ → Type 0) (schedules : List Schedule) (texts : List (List ℕ)) (requested : List ℕ) (ps : List Schedule) →
+    ((r : ℕ) → W r → W' r) → ArePlans k W schedules texts requested ps → ArePlans (suc k) W' schedules texts requested ps
+plans_later k W W' schedules texts requested ps w h = record {
   as_many = h.as_many;
   fewer = h.fewer;
   known = h.known;
   each = λ r t at. plan_later k (W r) (W' r) _ _ _ (slice_get schedules r) t (w r) (λ alone. alone) (h.each r t at);
 }
 
--- routes that come
+-- a plan is the same with further names after the others
 alone_left : (texts more : List (List ℕ)) (r : ℕ) → IsAlone (texts ++ more) r → IsAlone texts r
 alone_left texts more r alone i text here there =
     alone i text (get_left texts more r (slice_get_within texts r text here) ∙ here) (get_left texts more i (slice_get_within texts i text there) ∙ there)
 
-waits_there : (came : List NewRoute) (i : ℕ) (t : Schedule) → slice_get (map (λ n. waiting) came) i ≡ Some t → t ≡ waiting
-waits_there [] i t h = cc
-waits_there (n ∷ came) zero t h = let same : waiting ≡ t = cc in sym same
-waits_there (n ∷ came) (suc i) t h = waits_there came i t h
+plan_before : (k : ℕ) (W A A' : Type 0) (a : Bool) (o : Option Schedule) (t : Schedule) → (A' → A) → IsPlanOf k W A a o t → IsPlanOf k W A' a o t
+plan_before k W A A' a None t f h = record { opens = λ alone. h.opens (f alone); kept = h.kept; closes = h.closes }
+plan_before k W A A' a (Some s) t f h =
+    record {
+      same = λ alone. h.same (f alone);
+      later = h.later;
+      missed = h.missed;
+      kept = h.kept;
+      sooner = h.sooner;
+      closes = h.closes;
+    }
 
-waits_new : (k : ℕ) (A : Type 0) (a : Bool) (t : Schedule) → t ≡ waiting → (a ≡ true → ⊥) → IsNewPlan k (Unit {0}) A a t
-waits_new k A a t is un = record {
-  opens = λ alone unasked. inr (ap (λ (s : Schedule). s.open_round) is, tt);
-  kept = λ unasked. ap (λ (s : Schedule). s.close_round) is;
-  closes = λ asked. absurd (un asked);
+-- added routes wait
+waits_there : (added : List NewRoute) (i : ℕ) (t : Schedule) → slice_get (map (λ n. waiting) added) i ≡ Some t → t ≡ waiting
+waits_there [] i t h = cc
+waits_there (n ∷ added) zero t h = let same : waiting ≡ t = cc in sym same
+waits_there (n ∷ added) (suc i) t h = waits_there added i t h
+
+waits_new : (k : ℕ) (W A : Type 0) (a : Bool) (t : Schedule) → W → t ≡ waiting → (a ≡ true → ⊥) → IsNewPlan k W A a t
+waits_new k W A a t w is un = record {
+  opens = λ alone unrequested. inr (ap (λ (s : Schedule). s.open_round) is, w);
+  kept = λ unrequested. ap (λ (s : Schedule). s.close_round) is;
+  closes = λ requested. absurd (un requested);
 }
 
-pub plans_appended : (k : ℕ) (W : ℕ → Type 0) (schedules : List Schedule) (texts more : List (List ℕ)) (asked : List ℕ) (ps : List Schedule)
-    (came : List NewRoute) → length more ≡ length came → ArePlans k W schedules texts asked ps →
-    ArePlans (suc k) (λ r. Unit {0}) schedules (texts ++ more) asked (ps ++ map (λ n. waiting) came)
-plans_appended k W schedules texts more asked ps came many h = record {
-  as_many = let a = h.as_many in omega (arith, a, many, length-append ps ws, length-append texts more, length-map came (λ n. waiting));
+pub plans_with : (k : ℕ) (W : Type 0) (schedules : List Schedule) (texts more : List (List ℕ)) (requested : List ℕ) (ps : List Schedule)
+    (added : List NewRoute) → W → length more ≡ length added → ArePlans k (λ r. W) schedules texts requested ps →
+    ArePlans k (λ r. W) schedules (texts ++ more) requested (ps ++ map (λ n. waiting) added)
+plans_with k W schedules texts more requested ps added w many h = record {
+  as_many = let a = h.as_many in omega (arith, a, many, length-append ps ws, length-append texts more, length-map added (λ n. waiting));
   fewer = omega (arith, h.fewer, length-append ps ws);
   known = λ r is. omega (arith, h.known r is, length-append ps ws);
   each = λ r t at. by r t at (cases_lt r (length ps));
 }
   where
     ws : List Schedule
-    ws = map (λ n. waiting) came
+    ws = map (λ n. waiting) added
 
     new : (r n : ℕ) (t : Schedule) → r ≡ length ps + n → slice_get (ps ++ ws) r ≡ Some t →
-        IsPlanOf (suc k) (Unit {0}) (IsAlone (texts ++ more) r) (is_asked asked r) (slice_get schedules r) t
+        IsPlanOf k W (IsAlone (texts ++ more) r) (is_requested requested r) (slice_get schedules r) t
     new r n t same at =
         let none : slice_get schedules r ≡ None = slice_get_past schedules r (omega (arith, same, h.fewer)) in
-        let here : t ≡ waiting = waits_there came n t (sym (get_right ps ws n) ∙ ap (slice_get (ps ++ ws)) (sym same) ∙ at) in
-        let unasked : is_asked asked r ≡ true → ⊥ = λ is. let within = h.known r is in omega (arith, within, same) in
-        subst (λ (o : Option Schedule). IsPlanOf (suc k) (Unit {0}) (IsAlone (texts ++ more) r) (is_asked asked r) o t) (sym none)
-        (waits_new (suc k) (IsAlone (texts ++ more) r) (is_asked asked r) t here unasked)
+        let here : t ≡ waiting = waits_there added n t (sym (get_right ps ws n) ∙ ap (slice_get (ps ++ ws)) (sym same) ∙ at) in
+        let unrequested : is_requested requested r ≡ true → ⊥ = λ is. let within = h.known r is in omega (arith, within, same) in
+        subst (λ (o : Option Schedule). IsPlanOf k W (IsAlone (texts ++ more) r) (is_requested requested r) o t) (sym none)
+        (waits_new k W (IsAlone (texts ++ more) r) (is_requested requested r) t w here unrequested)
 
     by : (r : ℕ) (t : Schedule) → slice_get (ps ++ ws) r ≡ Some t → (r < length ps) ⊎ (length ps ≤ r) →
-        IsPlanOf (suc k) (Unit {0}) (IsAlone (texts ++ more) r) (is_asked asked r) (slice_get schedules r) t
+        IsPlanOf k W (IsAlone (texts ++ more) r) (is_requested requested r) (slice_get schedules r) t
     by r t at (inl within) =
-        plan_later k (W r) (Unit {0}) (IsAlone texts r) (IsAlone (texts ++ more) r) (is_asked asked r) (slice_get schedules r) t (λ w. tt)
-        (alone_left texts more r) (h.each r t (sym (get_left ps ws r within) ∙ at))
+        plan_before k W (IsAlone texts r) (IsAlone (texts ++ more) r) (is_requested requested r) (slice_get schedules r) t (alone_left texts more r)
+        (h.each r t (sym (get_left ps ws r within) ∙ at))
     by r t at (inr past) = new r (r - length ps) t (omega (arith, past)) at
 
--- routes that are asked to close
+pub plans_appended : (k : ℕ) (W : ℕ → Type 0) (schedules : List Schedule) (texts more : List (List ℕ)) (requested : List ℕ) (ps : List Schedule)
+    (added : List NewRoute) → length more ≡ length added → ArePlans k W schedules texts requested ps →
+    ArePlans (suc k) (λ r. Unit {0}) schedules (texts ++ more) requested (ps ++ map (λ n. waiting) added)
+plans_appended k W schedules texts more requested ps added many h =
+    plans_with (suc k) (Unit {0}) schedules texts more requested ps added tt many
+    (plans_later k W (λ r. Unit {0}) schedules texts requested ps (λ r w. tt) h)
+
+-- routes that are requested to close
 pub or_true : (b : Bool) → (b || true) ≡ true
 or_true true = refl
 or_true false = refl
@@ -258,15 +278,15 @@ pub or_false : (b : Bool) → (b || false) ≡ b
 or_false true = refl
 or_false false = refl
 
-pub asked_more : (asked : List ℕ) (r i : ℕ) → is_asked (asked ++ r ∷ []) i ≡ (is_asked asked i || (r == i))
-asked_more asked r i =
-    list_any-append (λ (route : ℕ). route == i) asked (r ∷ []) ∙ ap (λ (b : Bool). is_asked asked i || b) (or_false (r == i))
+pub requested_more : (requested : List ℕ) (r i : ℕ) → is_requested (requested ++ r ∷ []) i ≡ (is_requested requested i || (r == i))
+requested_more requested r i =
+    list_any-append (λ (route : ℕ). route == i) requested (r ∷ []) ∙ ap (λ (b : Bool). is_requested requested i || b) (or_false (r == i))
 
-asked_itself : (r : ℕ) → (r == r) ≡ true
-asked_itself r = grind (arith, nat_tests)
+requested_itself : (r : ℕ) → (r == r) ≡ true
+requested_itself r = grind (arith, nat_tests)
 
-pub asked_other : (r i : ℕ) → i ≢ r → (r == i) ≡ false
-asked_other r i apart = grind (arith, nat_tests)
+pub requested_other : (r i : ℕ) → i ≢ r → (r == i) ≡ false
+requested_other r i apart = grind (arith, nat_tests)
 
 plan_closed : (k : ℕ) (W A : Type 0) (a : Bool) (o : Option Schedule) (t : Schedule) → IfSome o (λ s. s.open_round < never) →
     IsPlanOf (suc k) W A a o t → IsPlanOf (suc k) W A true o (closed_from k t)
@@ -316,20 +336,21 @@ timely_at schedules timely r = by (slice_get schedules r) refl
     by None at = _
 
 module _ (k : ℕ) (W : ℕ → Type 0) (schedules : List Schedule) (texts : List (List ℕ)) (timely : AreTimely schedules) where
-  closed_one : (asked : List ℕ) (ps : List Schedule) (r : ℕ) → r < length ps → ArePlans (suc k) W schedules texts asked ps →
-      ArePlans (suc k) W schedules texts (asked ++ r ∷ []) (update_at (closed_from k) ps r)
-  closed_one asked ps r within h = record {
+  closed_one : (requested : List ℕ) (ps : List Schedule) (r : ℕ) → r < length ps → ArePlans (suc k) W schedules texts requested ps →
+      ArePlans (suc k) W schedules texts (requested ++ r ∷ []) (update_at (closed_from k) ps r)
+  closed_one requested ps r within h = record {
     as_many = many_updated (closed_from k) ps r ∙ h.as_many;
     fewer = omega (arith, h.fewer, many_updated (closed_from k) ps r);
     known = λ i is. known i is (cases_eq i r);
     each = λ i t at. each i t at (cases_eq i r);
   }
     where
-      known : (i : ℕ) → is_asked (asked ++ r ∷ []) i ≡ true → (i ≡ r) ⊎ (i ≢ r) → i < length (update_at (closed_from k) ps r)
+      known : (i : ℕ) → is_requested (requested ++ r ∷ []) i ≡ true → (i ≡ r) ⊎ (i ≢ r) → i < length (update_at (closed_from k) ps r)
       known i is (inl same) = omega (arith, same, within, many_updated (closed_from k) ps r)
       known i is (inr apart) =
-          let old : is_asked asked i ≡ true =
-          by (is_asked asked i) (ap (λ (b : Bool). is_asked asked i || b) (sym (asked_other r i apart)) ∙ sym (asked_more asked r i) ∙ is) in
+          let old : is_requested requested i ≡ true =
+          by (is_requested requested i)
+          (ap (λ (b : Bool). is_requested requested i || b) (sym (requested_other r i apart)) ∙ sym (requested_more requested r i) ∙ is) in
           let was = h.known i old in omega (arith, was, many_updated (closed_from k) ps r)
         where
           by : (b : Bool) → (b || false) ≡ true → b ≡ true
@@ -337,44 +358,45 @@ module _ (k : ℕ) (W : ℕ → Type 0) (schedules : List Schedule) (texts : Lis
           by false e = e
 
       here : (t : Schedule) → slice_get (update_at (closed_from k) ps r) r ≡ Some t →
-          IsPlanOf (suc k) (W r) (IsAlone texts r) (is_asked (asked ++ r ∷ []) r) (slice_get schedules r) t
+          IsPlanOf (suc k) (W r) (IsAlone texts r) (is_requested (requested ++ r ∷ []) r) (slice_get schedules r) t
       here t is =
           let s : Schedule = get_or ps r no_schedule in
           let at : slice_get ps r ≡ Some s = slice_get-get_or ps r no_schedule within in
           let same : closed_from k s ≡ t = let e : Some (closed_from k s) ≡ Some t = sym (updated_here (closed_from k) ps r s at) ∙ is in cc in
-          let asks : is_asked (asked ++ r ∷ []) r ≡ true =
-          asked_more asked r r ∙ ap (λ (b : Bool). is_asked asked r || b) (asked_itself r) ∙ or_true (is_asked asked r) in
-          subst (λ (q : Schedule). IsPlanOf (suc k) (W r) (IsAlone texts r) (is_asked (asked ++ r ∷ []) r) (slice_get schedules r) q) same
+          let asks : is_requested (requested ++ r ∷ []) r ≡ true =
+          requested_more requested r r ∙ ap (λ (b : Bool). is_requested requested r || b) (requested_itself r) ∙ or_true (is_requested requested r) in
+          subst (λ (q : Schedule). IsPlanOf (suc k) (W r) (IsAlone texts r) (is_requested (requested ++ r ∷ []) r) (slice_get schedules r) q) same
           (subst (λ (b : Bool). IsPlanOf (suc k) (W r) (IsAlone texts r) b (slice_get schedules r) (closed_from k s)) (sym asks)
-          (plan_closed k (W r) (IsAlone texts r) (is_asked asked r) (slice_get schedules r) s (timely_at schedules timely r) (h.each r s at)))
+          (plan_closed k (W r) (IsAlone texts r) (is_requested requested r) (slice_get schedules r) s (timely_at schedules timely r) (h.each r s at)))
 
       each : (i : ℕ) (t : Schedule) → slice_get (update_at (closed_from k) ps r) i ≡ Some t → (i ≡ r) ⊎ (i ≢ r) →
-          IsPlanOf (suc k) (W i) (IsAlone texts i) (is_asked (asked ++ r ∷ []) i) (slice_get schedules i) t
+          IsPlanOf (suc k) (W i) (IsAlone texts i) (is_requested (requested ++ r ∷ []) i) (slice_get schedules i) t
       each i t at (inl same) =
-          subst (λ (n : ℕ). IsPlanOf (suc k) (W n) (IsAlone texts n) (is_asked (asked ++ r ∷ []) n) (slice_get schedules n) t) (sym same)
+          subst (λ (n : ℕ). IsPlanOf (suc k) (W n) (IsAlone texts n) (is_requested (requested ++ r ∷ []) n) (slice_get schedules n) t) (sym same)
           (here t (ap (slice_get (update_at (closed_from k) ps r)) (sym same) ∙ at))
       each i t at (inr apart) =
-          let asks : is_asked asked i ≡ is_asked (asked ++ r ∷ []) i =
-          sym (asked_more asked r i ∙ ap (λ (b : Bool). is_asked asked i || b) (asked_other r i apart) ∙ or_false (is_asked asked i)) in
+          let asks : is_requested requested i ≡ is_requested (requested ++ r ∷ []) i =
+          sym (requested_more requested r i ∙ ap (λ (b : Bool). is_requested requested i || b) (requested_other r i apart)
+          ∙ or_false (is_requested requested i)) in
           subst (λ (b : Bool). IsPlanOf (suc k) (W i) (IsAlone texts i) b (slice_get schedules i) t) asks
           (h.each i t (sym (updated_other (closed_from k) ps r i apart) ∙ at))
 
-  pub plans_closed : (new asked : List ℕ) (ps : List Schedule) → ((i : ℕ) → is_asked new i ≡ true → i < length ps) →
-      ArePlans (suc k) W schedules texts asked ps → ArePlans (suc k) W schedules texts (asked ++ new) (fold (update_at (closed_from k)) ps new)
-  plans_closed [] asked ps known h = subst (λ (l : List ℕ). ArePlans (suc k) W schedules texts l ps) (sym (append-nil asked)) h
-  plans_closed (r ∷ new) asked ps known h =
+  pub plans_closed : (new requested : List ℕ) (ps : List Schedule) → ((i : ℕ) → is_requested new i ≡ true → i < length ps) →
+      ArePlans (suc k) W schedules texts requested ps → ArePlans (suc k) W schedules texts (requested ++ new) (fold (update_at (closed_from k)) ps new)
+  plans_closed [] requested ps known h = subst (λ (l : List ℕ). ArePlans (suc k) W schedules texts l ps) (sym (append-nil requested)) h
+  plans_closed (r ∷ new) requested ps known h =
       let ps' = update_at (closed_from k) ps r in
-      let first : is_asked (r ∷ new) r ≡ true = ap (λ (b : Bool). b || is_asked new r) (asked_itself r) in
-      let rest = plans_closed new (asked ++ r ∷ []) ps'
-      (λ i is. let was = known i (either (r == i) (is_asked new i) is) in omega (arith, was, many_updated (closed_from k) ps r))
-      (closed_one asked ps r (known r first) h) in
-      subst (λ (l : List ℕ). ArePlans (suc k) W schedules texts l (fold (update_at (closed_from k)) ps' new)) (append_assoc asked (r ∷ []) new) rest
+      let first : is_requested (r ∷ new) r ≡ true = ap (λ (b : Bool). b || is_requested new r) (requested_itself r) in
+      let rest = plans_closed new (requested ++ r ∷ []) ps'
+      (λ i is. let was = known i (either (r == i) (is_requested new i) is) in omega (arith, was, many_updated (closed_from k) ps r))
+      (closed_one requested ps r (known r first) h) in
+      subst (λ (l : List ℕ). ArePlans (suc k) W schedules texts l (fold (update_at (closed_from k)) ps' new)) (append_assoc requested (r ∷ []) new) rest
     where
       either : (a b : Bool) → b ≡ true → (a || b) ≡ true
       either true b is = refl
       either false b is = is
 
--- a route that is alone with its name can be shown
+-- a route that is alone with its name can become visible
 texts_shown : (ns : List RouteName) → texts_of (all_shown ns) ≡ texts_of ns
 texts_shown [] = refl
 texts_shown (n ∷ ns) = ap (λ (l : List (List ℕ)). n.text ∷ l) (texts_shown ns)
@@ -402,7 +424,7 @@ alone_is_unused names r alone = at (slice_get names r) refl
     at (Some name) h = none name h (index_of (hidden_at r names) name.text) refl
     at None h = _
 
--- one route is looked at: it is shown, it waits, or there is nothing to do
+-- one route is checked: it is visible, it waits, or there is nothing to do
 number_as : (a b : ℕ) → (a == b) ≡ true → a ≡ b
 number_as a b is = grind (arith, nat_tests)
 
@@ -412,7 +434,7 @@ number_is a b is = grind (arith, nat_tests)
 number_isnt : (a b : ℕ) → (a ≡ b → ⊥) → (a == b) ≡ false
 number_isnt a b apart = ne_eqb a b apart
 
--- why it may be shown in this round
+-- why it may become visible in this round
 pub data Comes (k : ℕ) (t : Schedule) : Type 0 where
   ComesNow : t.open_round ≡ k → Comes k t
   Waited : t.open_round ≡ never → has_come k t.close_round ≡ false → Comes k t
@@ -460,7 +482,7 @@ module _ (k : ℕ) (small : k < never) (A : Type 0) (a : Bool) (t : Schedule) (c
       same (inl is) (Waited wait e) = absurd (omega (arith, is, wait, timely))
       same (inr is) (ComesNow now) = inr (is.0, sym now ∙ is.1)
       same (inr is) (Waited wait e) = absurd (closed_before k t.close_round (h.closes is.0) e)
-  plan_opened None timely h = record { opens = λ alone unasked. inl (omega arith); kept = h.kept; closes = h.closes }
+  plan_opened None timely h = record { opens = λ alone unrequested. inl (omega arith); kept = h.kept; closes = h.closes }
 
   plan_waits : (o : Option Schedule) → IfSome o (λ s. s.open_round < never) → (A → ⊥) → IsPlanOf (suc k) (Unit {0}) A a o t →
       IsPlanOf (suc k) ⊥ A a o (with_open_round never t)
@@ -472,14 +494,14 @@ module _ (k : ℕ) (small : k < never) (A : Type 0) (a : Bool) (t : Schedule) (c
     sooner = h.sooner;
     closes = h.closes;
   }
-  plan_waits None timely used h = record { opens = λ alone unasked. absurd (used alone); kept = h.kept; closes = h.closes }
+  plan_waits None timely used h = record { opens = λ alone unrequested. absurd (used alone); kept = h.kept; closes = h.closes }
 
 plan_rests : (k : ℕ) (A : Type 0) (a : Bool) (o : Option Schedule) (t : Schedule) → may_open k t ≡ false → IsPlanOf (suc k) (Unit {0}) A a o t →
     IsPlanOf (suc k) ⊥ A a o t
 plan_rests k A a (Some s) t rests h =
     record { same = h.same; later = h.later; missed = h.missed; kept = h.kept; sooner = h.sooner; closes = h.closes }
 plan_rests k A a None t rests h = record {
-  opens = λ alone unasked. by (h.opens alone unasked) unasked;
+  opens = λ alone unrequested. by (h.opens alone unrequested) unrequested;
   kept = h.kept;
   closes = h.closes;
 }
@@ -489,21 +511,21 @@ plan_rests k A a None t rests h = record {
     or_right false y e = e
 
     by : (t.open_round < suc k) ⊎ ((t.open_round ≡ never) × Unit {0}) → a ≡ false → (t.open_round < suc k) ⊎ ((t.open_round ≡ never) × ⊥)
-    by (inl early) unasked = inl early
-    by (inr waits) unasked =
+    by (inl early) unrequested = inl early
+    by (inr waits) unrequested =
         let opens : (t.open_round == never) ≡ true = number_is t.open_round never waits.0 in
-        let free : not (has_come k t.close_round) ≡ true = ap (λ (c : Option ℕ). not (has_come k c)) (h.kept unasked) in
+        let free : not (has_come k t.close_round) ≡ true = ap (λ (c : Option ℕ). not (has_come k c)) (h.kept unrequested) in
         let may : may_open k t ≡ true = or_right (t.open_round == k) _ (and_from _ _ opens free) in
         absurd (let bad : true ≡ false = sym may ∙ rests in let wrong : ⊥ = cc in wrong)
 
--- the routes up to one were looked at
+-- the routes up to one were checked
 pub record LookedAt (k i : ℕ) (ps ps' : List Schedule) (ns ns' : List RouteName) : Type 0 where
   pub as_many : length ps' ≡ length ps
   pub named : ns' ≡ opened k (take i ps') ns
   pub rest : (j : ℕ) → i ≤ j → slice_get ps' j ≡ slice_get ps j
   pub agree : AgreeBefore k ps ps' []
-  pub planned : (schedules : List Schedule) (asked : List ℕ) → AreTimely schedules →
-      ArePlans (suc k) (λ r. Unit {0}) schedules (texts_of ns) asked ps → ArePlans (suc k) (λ r. i ≤ r) schedules (texts_of ns) asked ps'
+  pub planned : (schedules : List Schedule) (requested : List ℕ) → AreTimely schedules →
+      ArePlans (suc k) (λ r. Unit {0}) schedules (texts_of ns) requested ps → ArePlans (suc k) (λ r. i ≤ r) schedules (texts_of ns) requested ps'
 
 pub looked_none : (k : ℕ) (ps : List Schedule) (ns : List RouteName) → LookedAt k 0 ps ps ns ns
 looked_none k ps ns = record {
@@ -511,7 +533,7 @@ looked_none k ps ns = record {
   named = refl;
   rest = λ j late. refl;
   agree = agree_none k ps;
-  planned = λ schedules asked timely h. plans_as (suc k) (λ r. Unit {0}) (λ r. 0 ≤ r) schedules (texts_of ns) asked ps (λ r within w. omega arith) h;
+  planned = λ schedules requested timely h. plans_as (suc k) (λ r. Unit {0}) (λ r. 0 ≤ r) schedules (texts_of ns) requested ps (λ r within w. omega arith) h;
 }
 
 pub looked_all : (k i : ℕ) (ps ps' : List Schedule) (ns ns' : List RouteName) → length ps ≤ i → LookedAt k i ps ps' ns ns' → Opens k ps ps' ns ns'
@@ -519,9 +541,9 @@ looked_all k i ps ps' ns ns' all h = record {
   as_many = h.as_many;
   agree = h.agree;
   named = h.named ∙ ap (λ (l : List Schedule). opened k l ns) (take_all i ps' (let a = h.as_many in omega (arith, a, all)));
-  planned = λ schedules asked timely plans.
-      plans_as (suc k) (λ r. i ≤ r) (λ r. ⊥) schedules (texts_of ns) asked ps'
-      (λ r within late. let a = h.as_many in let bad : ⊥ = omega (arith, a, all, within, late) in bad) (h.planned schedules asked timely plans);
+  planned = λ schedules requested timely plans.
+      plans_as (suc k) (λ r. i ≤ r) (λ r. ⊥) schedules (texts_of ns) requested ps'
+      (λ r within late. let a = h.as_many in let bad : ⊥ = omega (arith, a, all, within, late) in bad) (h.planned schedules requested timely plans);
 }
 
 -- the next one has this plan now
@@ -545,34 +567,34 @@ module _ (k i : ℕ) (ps middle ps' : List Schedule) (ns ns' ns'' : List RouteNa
         )
 
     next_planned : ((A : Type 0) (a : Bool) (o : Option Schedule) → ((alone : A) → IsAlone (texts_of ns) i) → IfSome o (λ s. s.open_round < never) →
-        IsPlanOf (suc k) (Unit {0}) A a o t → IsPlanOf (suc k) ⊥ A a o (f t)) → (schedules : List Schedule) (asked : List ℕ) → AreTimely schedules →
-        ArePlans (suc k) (λ r. Unit {0}) schedules (texts_of ns) asked ps → ArePlans (suc k) (λ r. suc i ≤ r) schedules (texts_of ns) asked ps'
-    next_planned plan schedules asked timely plans = record {
+        IsPlanOf (suc k) (Unit {0}) A a o t → IsPlanOf (suc k) ⊥ A a o (f t)) → (schedules : List Schedule) (requested : List ℕ) → AreTimely schedules →
+        ArePlans (suc k) (λ r. Unit {0}) schedules (texts_of ns) requested ps → ArePlans (suc k) (λ r. suc i ≤ r) schedules (texts_of ns) requested ps'
+    next_planned plan schedules requested timely plans = record {
       as_many = ap length is ∙ many_updated f middle i ∙ g.as_many;
       fewer = omega (arith, g.fewer, ap length is, many_updated f middle i);
       known = λ r asks. let was = g.known r asks in omega (arith, was, ap length is, many_updated f middle i);
       each = λ r s there. each r s (ap (λ (l : List Schedule). slice_get l r) (sym is) ∙ there) (cases_eq r i);
     }
       where
-        g : ArePlans (suc k) (λ r. i ≤ r) schedules (texts_of ns) asked middle
-        g = h.planned schedules asked timely plans
+        g : ArePlans (suc k) (λ r. i ≤ r) schedules (texts_of ns) requested middle
+        g = h.planned schedules requested timely plans
 
         here : (s : Schedule) → slice_get (update_at f middle i) i ≡ Some s →
-            IsPlanOf (suc k) (suc i ≤ i) (IsAlone (texts_of ns) i) (is_asked asked i) (slice_get schedules i) s
+            IsPlanOf (suc k) (suc i ≤ i) (IsAlone (texts_of ns) i) (is_requested requested i) (slice_get schedules i) s
         here s there =
             let same : f t ≡ s = let e : Some (f t) ≡ Some s = sym (updated_here f middle i t at) ∙ there in cc in
-            subst (λ (q : Schedule). IsPlanOf (suc k) (suc i ≤ i) (IsAlone (texts_of ns) i) (is_asked asked i) (slice_get schedules i) q) same
-            (plan_as (suc k) ⊥ (suc i ≤ i) (IsAlone (texts_of ns) i) (is_asked asked i) (slice_get schedules i) (f t) (λ no. absurd no)
-            (plan (IsAlone (texts_of ns) i) (is_asked asked i) (slice_get schedules i) (λ alone. alone) (timely_at schedules timely i)
-            (plan_as (suc k) (i ≤ i) (Unit {0}) (IsAlone (texts_of ns) i) (is_asked asked i) (slice_get schedules i) t (λ w. tt) (g.each i t at))))
+            subst (λ (q : Schedule). IsPlanOf (suc k) (suc i ≤ i) (IsAlone (texts_of ns) i) (is_requested requested i) (slice_get schedules i) q) same
+            (plan_as (suc k) ⊥ (suc i ≤ i) (IsAlone (texts_of ns) i) (is_requested requested i) (slice_get schedules i) (f t) (λ no. absurd no)
+            (plan (IsAlone (texts_of ns) i) (is_requested requested i) (slice_get schedules i) (λ alone. alone) (timely_at schedules timely i)
+            (plan_as (suc k) (i ≤ i) (Unit {0}) (IsAlone (texts_of ns) i) (is_requested requested i) (slice_get schedules i) t (λ w. tt) (g.each i t at))))
 
         each : (r : ℕ) (s : Schedule) → slice_get (update_at f middle i) r ≡ Some s → (r ≡ i) ⊎ (r ≢ i) →
-            IsPlanOf (suc k) (suc i ≤ r) (IsAlone (texts_of ns) r) (is_asked asked r) (slice_get schedules r) s
+            IsPlanOf (suc k) (suc i ≤ r) (IsAlone (texts_of ns) r) (is_requested requested r) (slice_get schedules r) s
         each r s there (inl same) =
-            subst (λ (n : ℕ). IsPlanOf (suc k) (suc i ≤ n) (IsAlone (texts_of ns) n) (is_asked asked n) (slice_get schedules n) s) (sym same)
+            subst (λ (n : ℕ). IsPlanOf (suc k) (suc i ≤ n) (IsAlone (texts_of ns) n) (is_requested requested n) (slice_get schedules n) s) (sym same)
             (here s (ap (slice_get (update_at f middle i)) (sym same) ∙ there))
         each r s there (inr apart) =
-            plan_as (suc k) (i ≤ r) (suc i ≤ r) (IsAlone (texts_of ns) r) (is_asked asked r) (slice_get schedules r) s
+            plan_as (suc k) (i ≤ r) (suc i ≤ r) (IsAlone (texts_of ns) r) (is_requested requested r) (slice_get schedules r) s
             (λ late. omega (arith, late, apart)) (g.each r s (sym (updated_other f middle i r apart) ∙ there))
 
     pub looked_next : SameBefore k t (f t) → (if◌then◌else◌ {A = List RouteName} ((f t).open_round == k) (shown_at i ns') ns') ≡ ns'' →
@@ -608,7 +630,7 @@ pub looked_known : {k i : ℕ} {ps ps' : List Schedule} {ns ns' : List RouteName
 looked_known {k} {i} {ps} {ps'} {ns} {ns'} known h =
     h.as_many ∙ known ∙ sym (as_many ns' ns (ap all_shown h.named ∙ texts_opened k (take i ps') ns))
 
--- the next route may be shown
+-- the next route may become visible
 pub looked_opens : (k i : ℕ) (ps middle ps' : List Schedule) (ns ns' ns'' : List RouteName) (t : Schedule) → k < never → length ps ≡ length ns →
     LookedAt k i ps middle ns ns' → slice_get middle i ≡ Some t → may_open k t ≡ true → OpensOne k i middle ps' ns' ns'' →
     LookedAt k (suc i) ps ps' ns ns''

@@ -8,7 +8,7 @@ use Rattle.srt_poller.specs.Schedules.{has_come}
 use Rattle.srt_poller.specs.History.{Sorting, Event, IsOver, State, state, state_after, Follow}
 use Rattle.srt_poller.specs.Pollers.{sorting}
 
--- the schedule of one route says the same as another one in all rounds before this one
+-- the schedule of one route states the same as another one in all rounds before this one
 abbrev pub SameBefore : (limit : ℕ) → Schedule → Schedule → Type 0
 SameBefore limit s t =
     (k : ℕ) → k < limit → ((t.open_round == k) ≡ (s.open_round == k)) × (has_come k t.close_round ≡ has_come k s.close_round)
@@ -21,14 +21,14 @@ OpenLater limit (s ∷ schedules) [] = ⊥
 OpenLater limit (s ∷ schedules) (name ∷ names) =
     ((k : ℕ) → k < limit → (s.open_round == k) ≡ false) × (name.is_shown ≡ false) × OpenLater limit schedules names
 
--- the later schedules say the same as the others in all rounds before this one, and go on with those of further routes with these names, which
+-- the later schedules are the same as the others in all rounds before this one, and go on with those of further routes with these names, which
 -- are hidden and open in no round before it
 abbrev pub AgreeBefore : (limit : ℕ) → (schedules later : List Schedule) → (more : List RouteName) → Type 0
 AgreeBefore limit [] later more = OpenLater limit later more
 AgreeBefore limit (s ∷ schedules) [] more = ⊥
 AgreeBefore limit (s ∷ schedules) (t ∷ later) more = SameBefore limit s t × AgreeBefore limit schedules later more
 
--- names behind the others change no class
+-- names after the others change no class
 abbrev pub AreIgnored : Sorting → (more : List RouteName) → Type 0
 AreIgnored class more = (names : List RouteName) (d : Datagram) (moment : ℕ) → class (names ++ more) d moment ≡ class names d moment
 
@@ -36,8 +36,8 @@ AreIgnored class more = (names : List RouteName) (d : Datagram) (moment : ℕ) �
 abbrev pub with_more : (more : List RouteName) → State → State
 with_more more s = state (s.names ++ more) s.kept s.round s.phase s.latest
 
--- Whole rounds, all of them before the limit, are the same if what routes do from the limit on had been written down beforehand: other rounds of
--- opening and closing of the same routes, and further routes, which stand hidden behind them. The same events follow by the later schedules, and
+-- Whole rounds, all of them before the limit, are the same if what routes do from the limit on had been known in advance: other rounds of
+-- opening and closing of the same routes, and further routes, which are hidden after them. The same events follow by the later schedules, and
 -- lead to the same state, with the further names
 abbrev pub EarlierRoundsAreSame : Type 0
 EarlierRoundsAreSame =

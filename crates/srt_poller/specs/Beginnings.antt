@@ -10,7 +10,7 @@ use Rattle.srt_poller.specs.History.{Sorting, Phase, IsOver, Begins}
 use Rattle.srt_poller.specs.Pollers.{round_state, begun_phase, world_of}
 use Rattle.srt_poller.specs.Rounds.{AreLater, WentClosing}
 
--- the names as if all routes were shown
+-- the names as if all routes became visible
 abbrev pub all_shown : List RouteName → List RouteName
 all_shown names = map (λ name. as_shown name) names
 

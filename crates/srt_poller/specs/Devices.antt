@@ -13,7 +13,7 @@ use Rattle.srt_poller.specs.declared.devices.Sent.TheVariants as sent
 abbrev pub datagram : Peer → (bytes : List ℕ) → TheDatagram
 datagram peer bytes = record { peer = peer; bytes = bytes }
 
--- a datagram and the moment at which it came, in microseconds
+-- a datagram and the time of its arrival, in microseconds
 pub record Arrival : Type 0 where
   pub datagram : TheDatagram
   pub moment : ℕ
@@ -21,13 +21,13 @@ pub record Arrival : Type 0 where
 abbrev pub arrival : Peer → (bytes : List ℕ) → (moment : ℕ) → Arrival
 arrival peer bytes moment = record { datagram = datagram peer bytes; moment = moment }
 
--- a length within the buffer and a moment within the limit; a failure only if the count of failures grew
+-- a length within the buffer and a time within the limit; a failure only if the count of failures grew
 abbrev pub ReadsWell : Read → ℕ → ℕ → Type 0
 ReadsWell (Datagram peer len moment) a b = (len ≤ 2048) × (moment < 2 ^ 62)
 ReadsWell Empty a b = Unit {0}
 ReadsWell Failed a b = Grew a b
 
--- the datagram that a read gave, if any: it is at the front of the buffer
+-- the datagram that a read returned, if any: it is at the front of the buffer
 abbrev pub given_by_read : Read → (buffer : List ℕ) → List Arrival
 given_by_read (Datagram peer len moment) buffer = arrival peer (take len buffer) moment ∷ []
 given_by_read Empty buffer = []
@@ -47,12 +47,12 @@ pub record Attempt : Type 0 where
 abbrev pub attempt : TheDatagram → Sent → Attempt
 attempt d sent = record { datagram = d; sent = sent }
 
--- what a source was asked in one call, and what it answered
+-- a call of a source, with its result
 pub data Call : Type 0 where
   -- a wait ended, and one failed
   WaitEnded : Call
   WaitFailed : Call
-  -- a read gave this datagram, one found none, and one failed
+  -- a read returned this datagram, one found none, and one failed
   ReadGave : (arrival : Arrival) → Call
   ReadEmpty : Call
   ReadFailed : Call
@@ -67,10 +67,10 @@ call_of_read Empty buffer = ReadEmpty
 call_of_read Failed buffer = ReadFailed
 
 -- the record of a device, the oldest first, with these added; None stays None
-abbrev pub joined : {A : Type 0} → (told : Option (List A)) → (more : List A) → Option (List A)
-joined told more = option_map (λ xs. xs ++ more) told
+abbrev pub joined : {A : Type 0} → (recorded : Option (List A)) → (more : List A) → Option (List A)
+joined recorded more = option_map (λ xs. xs ++ more) recorded
 
--- what a source has recorded: the datagrams that it gave, and all calls
+-- what a source has recorded: the datagrams that it returned, and all calls
 pub record Heard : Type 0 where
   pub gave : Option (List Arrival)
   pub calls : Option (List Call)
@@ -78,7 +78,7 @@ pub record Heard : Type 0 where
 abbrev pub heard : Option (List Arrival) → Option (List Call) → Heard
 heard gave calls = record { gave = gave; calls = calls }
 
--- the same after one call more, which gave these datagrams
+-- the same after one call more, which returned these datagrams
 abbrev pub heard_more : Heard → List Arrival → Call → Heard
 heard_more h arrivals call = heard (joined h.gave arrivals) (joined h.calls (call ∷ []))
 

@@ -13,31 +13,31 @@ use Rattle.srt_poller.specs.declared.devices.Sent.TheVariants.{Taken, Later, Fai
 use Rattle.srt_poller.specs.Devices.{Arrival, handed_by_send, Attempt, attempt, Call, WaitEnded, WaitFailed, ReadGave, ReadEmpty, ReadFailed}
 use Rattle.srt_poller.specs.Schedules.{CloseOffer, offered_routes, opened_if, due, begun}
 
--- the class that a lobby with these names gives to a datagram that comes at a moment
+-- the class that a lobby with these names assigns to a datagram that arrives at a time
 abbrev pub Sorting : Type 0
 Sorting = (names : List RouteName) → Datagram → (moment : ℕ) → Class
 
 pub data Event : Type 0 where
-  -- a round began: the routes that open in it were shown, those to be closed were offered Close of this moment, and those whose inbox
-  -- accepted it were hidden. In a round that closes all, none opens, and all shown ones are to be closed
+  -- a round began: the routes that open in it became visible, those to be closed were offered Close of this time, and those whose inbox
+  -- accepted it were hidden. In a round that closes all, none opens, and all visible ones are to be closed
   Begins : (closes_all : Bool) (moment : ℕ) (offers : List CloseOffer) → Event
   -- the source waited, and didn't fail
   Waits : Event
   -- a wait of the source failed
   WaitFails : Event
-  -- the source was read, and gave nothing
+  -- the source was read, and returned nothing
   ReadsNothing : Event
   -- a read of the source failed
   ReadFails : Event
-  -- a datagram came, and the lobby's answer, these bytes, was sent with this outcome
+  -- a datagram arrived, and the lobby's answer, these bytes, was sent with this outcome
   Answers : (arrival : Arrival) (bytes : List ℕ) (sent : Sent) → Event
-  -- a datagram came, and its route's inbox accepted it
+  -- a datagram arrived, and its route's inbox accepted it
   Accepts : (arrival : Arrival) (route : ℕ) → Event
-  -- a datagram came, and its route's inbox was full
+  -- a datagram arrived, and its route's inbox was full
   Overflows : (arrival : Arrival) (route : ℕ) → Event
-  -- a datagram came for a route, and the memory for its copy was refused
+  -- a datagram arrived for a route, and its copy failed to allocate
   Refuses : (arrival : Arrival) (route : ℕ) → Event
-  -- a datagram came, and the lobby dropped it
+  -- a datagram arrived, and the lobby dropped it
   Drops : (arrival : Arrival) (cause : Cause) → Event
   -- a reply was taken from a route's outbox, and sent with this outcome
   Sends : (route : ℕ) (reply : Datagram) (sent : Sent) → Event
@@ -78,7 +78,7 @@ pub data Phase : Type 0 where
   -- nothing more is read in this round: this many replies of this route were sent in it, and none of later routes
   Sending : (route sends : ℕ) → Phase
 
--- the phase after this many reads that gave a datagram: the 256th is the last one
+-- the phase after this many reads that returned a datagram: the 256th is the last one
 abbrev pub reading : (reads : ℕ) → Phase
 reading reads = if reads == 256 then Sending 0 0 else Reading reads
 
@@ -124,7 +124,7 @@ pub record State : Type 0 where
   -- the number of the source's waits so far: that of the round that began last until its wait, and of the next round after it
   pub round : ℕ
   pub phase : Phase
-  -- the greatest moment that the source has given in these rounds, 0 if it has given none
+  -- the greatest timestamp of the source in these rounds, 0 if it has given none
   pub latest : ℕ
 
 abbrev pub state : List RouteName → Option Kept → (round : ℕ) → Phase → (latest : ℕ) → State
@@ -178,11 +178,11 @@ state_after schedules s events = fold (state_by schedules) s events
 abbrev pub class_in : Sorting → State → Arrival → Class
 class_in class s arrival = class s.names arrival.datagram arrival.moment
 
--- A round begins where none has begun or the one before is over. It shows the routes that open in it, and then offers Close, of the greatest
--- moment that the source has given, once to each shown route whose round of closing has come, in the order of their indexes; if it closes all,
--- it shows none, and offers Close so to each shown route. If a reply is kept
--- then, it is sent again, once, before the wait. The source waits once. Unless that failed, it is read until a read gives nothing or fails, or 256
--- datagrams came; what happens to a datagram is what its class says. Then replies are sent in the order of their routes' indexes, at most 64 of a
+-- A round begins where none has begun or the one before is over. It makes the routes visible that open in it, and then offers Close, of the greatest
+-- timestamp of the source, once to each visible route whose closing round is this one or an earlier one, in the order of their indexes; if it closes all,
+-- it makes none visible, and offers Close so to each visible route. If a reply is kept
+-- then, it is sent again, once, before the wait. The source waits once. Unless that failed, it is read until a read returns nothing or fails, or 256
+-- datagrams arrived; what happens to a datagram is what its class defines. Then replies are sent in the order of their routes' indexes, at most 64 of a
 -- route, and none while one is kept
 abbrev pub Fits : Sorting → List Schedule → State → Event → Type 0
 Fits class schedules s (Begins closes_all moment offers) =
@@ -204,7 +204,7 @@ abbrev pub Follow : Sorting → List Schedule → State → List Event → Type 
 Follow class schedules s [] = Unit {0}
 Follow class schedules s (event ∷ events) = Fits class schedules s event × Follow class schedules (state_by schedules s event) events
 
--- the datagrams that the source gave
+-- the datagrams that the source returned
 abbrev pub given_by : Event → List Arrival
 given_by (Answers arrival bytes sent) = arrival ∷ []
 given_by (Accepts arrival route) = arrival ∷ []

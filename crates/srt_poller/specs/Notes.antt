@@ -12,7 +12,7 @@ Note = List ℕ × List ℕ × List ℕ
 abbrev pub peer_at : (ip : List ℕ) → (port : ℕ) → Peer
 peer_at ip port = record { ip = ip; port = port }
 
--- a call of a source, if the numbers are which one it is, a port and a moment
+-- a call of a source, if the numbers are which one it is, a port and a time
 abbrev pub call_of : Note → Call
 call_of note =
     if slice_index note.0 0 == 0 then WaitEnded

@@ -1,4 +1,4 @@
--- When the routes of a run open and close if routes come and go while it runs.
+-- When the routes of a run open and close if routes are added and removed while it runs.
 use Rattle.std.specs.Prelude.{◌≡◌, ◌⊎◌, ℕ, zero, suc, ◌<◌, ◌≤◌, ◌-◌, ◌^◌, ◌==◌, ◌&&◌, ◌||◌, if◌then◌else◌, nat_lt, min, not}
 use Rattle.std.specs.Prelude.{Bool, true, false, Option, None, Some, List, [], ◌∷◌, ◌++◌, length, map, slice_get}
 use Rattle.std.specs.List.{list_any}
@@ -7,87 +7,89 @@ use Rattle.srt_lobby.specs.Names.{RouteName}
 use Rattle.srt_poller.specs.declared.plans.Plan.{Plan}
 use Rattle.srt_poller.specs.Schedules.{has_come}
 
--- the number of no round: a route with this round of opening opens in none
+-- the number of no round: a route with this opening round opens in none
 abbrev pub never : ℕ
 never = 2 ^ 64 - 1
 
--- a plan, as the schedule that it stands for
+-- a plan, as a schedule
 abbrev pub schedule_of : Plan → Schedule
 schedule_of p = record { open_round = p.open_round; close_round = p.close_round }
 
 abbrev pub texts_of : List RouteName → List (List ℕ)
 texts_of names = map (λ name. name.text) names
 
--- no other route has the name of this one, whether they are shown or not
+-- no other route has the name of this one, whether they are visible or not
 abbrev pub IsAlone : (texts : List (List ℕ)) → (r : ℕ) → Type 0
 IsAlone texts r = (i : ℕ) (text : List ℕ) → slice_get texts r ≡ Some text → slice_get texts i ≡ Some text → i ≡ r
 
--- whether a route was asked to close
-abbrev pub is_asked : (asked : List ℕ) → (r : ℕ) → Bool
-is_asked asked r = list_any (λ route. route == r) asked
+-- whether a route was requested to close
+abbrev pub is_requested : (requested : List ℕ) → (r : ℕ) → Bool
+is_requested requested r = list_any (λ route. route == r) requested
 
--- there is a round of closing, and it is before this one
+-- there is a closing round, and it is before this one
 abbrev pub IsBefore : (round : ℕ) → Option ℕ → Type 0
 IsBefore round (Some close_round) = close_round < round
 IsBefore round None = ⊥
 
 -- What the schedule of a route has become before this round. While no other route has its name, the route opens in the round of its schedule, or,
--- if it was asked to close before that, never. It opens in no earlier round, and in none at all only if its round has passed or it was asked to close.
--- If it wasn't asked to close, it closes as its schedule says; if it was, it closes no later, and in a round before this one
-pub record Became (round : ℕ) (is_alone : Type 0) (asked : Bool) (s t : Schedule) : Type 0 where
-  pub same : is_alone → (t.open_round ≡ s.open_round) ⊎ ((asked ≡ true) × (t.open_round ≡ never))
+-- if it was requested to close before that, never. It opens in no earlier round, and in none at all only if its round has passed or it was requested to close.
+-- If it wasn't requested to close, it closes as its schedule states; if it was, it closes no later, and in a round before this one
+pub record Became (round : ℕ) (is_alone : Type 0) (requested : Bool) (s t : Schedule) : Type 0 where
+  pub same : is_alone → (t.open_round ≡ s.open_round) ⊎ ((requested ≡ true) × (t.open_round ≡ never))
   pub later : s.open_round ≤ t.open_round
-  pub missed : t.open_round ≡ never → (s.open_round < round) ⊎ (asked ≡ true)
-  pub kept : asked ≡ false → t.close_round ≡ s.close_round
+  pub missed : t.open_round ≡ never → (s.open_round < round) ⊎ (requested ≡ true)
+  pub kept : requested ≡ false → t.close_round ≡ s.close_round
   pub sooner : (k : ℕ) → has_come k s.close_round ≡ true → has_come k t.close_round ≡ true
-  pub closes : asked ≡ true → IsBefore round t.close_round
+  pub closes : requested ≡ true → IsBefore round t.close_round
 
--- What the schedule of a route is that came while the poller ran. If no other route has its name, and it wasn't asked to close, it has opened before
--- this round, or else there is a reason to wait. It closes only if it was asked to, and then in a round before this one
-pub record IsNewPlan (round : ℕ) (waits is_alone : Type 0) (asked : Bool) (t : Schedule) : Type 0 where
-  pub opens : is_alone → asked ≡ false → (t.open_round < round) ⊎ ((t.open_round ≡ never) × waits)
-  pub kept : asked ≡ false → t.close_round ≡ None
-  pub closes : asked ≡ true → IsBefore round t.close_round
+-- The schedule of a route that was added while the poller ran. If no other route has its name, and it wasn't requested to close, it has opened before
+-- this round, or else there is a reason to wait. It closes only if it was requested to, and then in a round before this one
+pub record IsNewPlan (round : ℕ) (waits is_alone : Type 0) (requested : Bool) (t : Schedule) : Type 0 where
+  pub opens : is_alone → requested ≡ false → (t.open_round < round) ⊎ ((t.open_round ≡ never) × waits)
+  pub kept : requested ≡ false → t.close_round ≡ None
+  pub closes : requested ≡ true → IsBefore round t.close_round
 
 -- the same of a route that was there from the beginning on, or wasn't
-abbrev pub IsPlanOf : (round : ℕ) → (waits is_alone : Type 0) → (asked : Bool) → Option Schedule → Schedule → Type 0
-IsPlanOf round waits is_alone asked (Some s) t = Became round is_alone asked s t
-IsPlanOf round waits is_alone asked None t = IsNewPlan round waits is_alone asked t
+abbrev pub IsPlanOf : (round : ℕ) → (waits is_alone : Type 0) → (requested : Bool) → Option Schedule → Schedule → Type 0
+IsPlanOf round waits is_alone requested (Some s) t = Became round is_alone requested s t
+IsPlanOf round waits is_alone requested None t = IsNewPlan round waits is_alone requested t
 
 -- What the schedules of all routes are before this round, in the order of their indexes: of those that were there from the beginning on, which had
--- these schedules then, and behind them of those that came. `waits` has for each route the reason why it may wait to be opened
-pub record ArePlans (round : ℕ) (waits : ℕ → Type 0) (schedules : List Schedule) (texts : List (List ℕ)) (asked : List ℕ) (later : List Schedule)
+-- these schedules then, and after them of the added ones. `waits` has for each route the reason why it may wait to be opened
+pub record ArePlans (round : ℕ) (waits : ℕ → Type 0) (schedules : List Schedule) (texts : List (List ℕ)) (requested : List ℕ) (later : List Schedule)
     : Type 0 where
   pub as_many : length later ≡ length texts
   pub fewer : length schedules ≤ length later
-  pub known : (r : ℕ) → is_asked asked r ≡ true → r < length later
-  pub each : (r : ℕ) (t : Schedule) → slice_get later r ≡ Some t → IsPlanOf round (waits r) (IsAlone texts r) (is_asked asked r) (slice_get schedules r) t
+  pub known : (r : ℕ) → is_requested requested r ≡ true → r < length later
+  pub each : (r : ℕ) (t : Schedule) → slice_get later r ≡ Some t →
+      IsPlanOf round (waits r) (IsAlone texts r) (is_requested requested r) (slice_get schedules r) t
 
 -- each of these routes opens in some round
 abbrev pub AreTimely : List Schedule → Type 0
 AreTimely schedules = (r : ℕ) (s : Schedule) → slice_get schedules r ≡ Some s → s.open_round < never
 
--- What plans have become at the beginning of this round, by what was asked then
-abbrev pub Replanned : (round : ℕ) → (waits waits' : ℕ → Type 0) → (asked : List ℕ) → (texts texts' : List (List ℕ)) → (plans plans' : List Schedule) → Type 0
-Replanned round waits waits' asked texts texts' plans plans' =
+-- What plans have become at the beginning of this round, by what was requested then
+abbrev pub Replanned : (round : ℕ) → (waits waits' : ℕ → Type 0) → (requested : List ℕ) → (texts texts' : List (List ℕ)) → (plans plans' : List Schedule) →
+    Type 0
+Replanned round waits waits' requested texts texts' plans plans' =
     (schedules : List Schedule) (before : List ℕ) → AreTimely schedules → ArePlans round waits schedules texts before plans →
-    ArePlans (suc round) waits' schedules texts' (before ++ asked) plans'
+    ArePlans (suc round) waits' schedules texts' (before ++ requested) plans'
 
--- the plan of a route that comes: it waits until no shown route has its name
+-- the plan of an added route: it waits until no visible route has its name
 abbrev pub waiting : Schedule
 waiting = record { open_round = never; close_round = None }
 
--- the earlier one of the round of closing, if there is one, and this one
+-- the earlier one of the closing round, if there is one, and this one
 abbrev pub sooner : (round : ℕ) → Option ℕ → ℕ
 sooner round (Some close_round) = min close_round round
 sooner round None = round
 
--- the plan of a route that is asked to close before this round begins: if it hasn't opened yet, it never does
+-- the plan of a route that is requested to close before this round begins: if it hasn't opened yet, it never does
 abbrev pub closed_from : (round : ℕ) → Schedule → Schedule
 closed_from round s =
     record { open_round = if nat_lt s.open_round round then s.open_round else never; close_round = Some (sooner round s.close_round) }
 
--- whether a route may be shown in this round: it is that of its opening, or the route waits, and that of its closing hasn't come
+-- whether a route may become visible in this round: it is that of its opening, or the route waits, and its closing round is later
 abbrev pub may_open : (round : ℕ) → Schedule → Bool
 may_open round s = (s.open_round == round) || ((s.open_round == never) && not (has_come round s.close_round))
 

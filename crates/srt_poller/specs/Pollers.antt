@@ -23,7 +23,7 @@ use Rattle.srt_poller.specs.Devices.{Arrival, arrival, Heard, heard_more, Carrie
 use Rattle.srt_poller.specs.History.{Sorting, Kept, kept, Phase, Begun, Reading, Sending, IsOver, reading, state}
 use Rattle.srt_poller.specs.Rounds.{World, world, WentClosing, Went}
 
--- the classes that the lobby of this secret gives to datagrams
+-- the classes that the lobby of this secret assigns to datagrams
 abbrev pub sorting : Secret → Sorting
 sorting secret = class_of (secret_bytes secret)
 
@@ -35,14 +35,14 @@ abbrev pub named_in : Classifier → List RouteName
 named_in lobby = names_of lobby.names.now
 
 -- a datagram whose bytes are at the front of the buffer
-abbrev pub came : Incoming → Poller → Arrival
-came incoming p = arrival incoming.peer (take incoming.len p.datagram) incoming.moment
+abbrev pub arrival_in : Incoming → Poller → Arrival
+arrival_in incoming p = arrival incoming.peer (take incoming.len p.datagram) incoming.moment
 
 -- the kept reply: its bytes are still in the buffer
 abbrev pub kept_in : Poller → Option Kept
 kept_in p = option_map (λ k. kept k.route (record { peer = k.peer; bytes = take k.len p.reply_bytes })) p.kept
 
--- what the next event depends on besides the kept reply and the phase: the names in force, the number of the round, and the greatest moment
+-- what the next event depends on besides the kept reply and the phase: the names in force, the number of the round, and the greatest timestamp
 -- that the source has given
 pub record RoundState : Type 0 where
   pub names : List RouteName
@@ -84,9 +84,9 @@ WaitFailed old new =
     Went class schedules 1 1 1 (old (round_state names round latest) (Begun false) wire ends)
     (new (round_state names (suc round) latest) (Sending 0 0) wire ends)
 
--- this datagram was read with these names in force, as the first of a round or a later one, and what happened to it is what its class says
-abbrev pub Came : Sorting → List RouteName → Arrival → (old new : RoundState → Phase → Heard → World) → Type 0
-Came class names a old new =
+-- this datagram was read with these names in force, as the first of a round or a later one, and what happened to it is what its class defines
+abbrev pub Arrived : Sorting → List RouteName → Arrival → (old new : RoundState → Phase → Heard → World) → Type 0
+Arrived class names a old new =
     (schedules : List Schedule) (round latest reads : ℕ) (source : Heard) →
     Went class schedules 1 0 1 (old (round_state names round latest) (Reading reads) source)
     (new (round_state names round (max latest a.moment)) (reading (reads + 1)) (heard_more source (a ∷ []) (ReadGave a)))
@@ -107,7 +107,7 @@ Resent owes old new =
 abbrev pub IsUpTo : (route sends : ℕ) → Phase → Type 0
 IsUpTo r n phase = (route : ℕ) × (sends : ℕ) × (phase ≡ Sending route sends) × ((route < r) ⊎ ((route ≡ r) × (sends ≤ n)))
 
--- Replies were sent, with at most this many events, none of them a wait or a datagram that came. Before, at most `few` of route `first` and none of
+-- Replies were sent, with at most this many events, none of them a wait or a datagram that arrived. Before, at most `few` of route `first` and none of
 -- later routes had been sent in this round; afterwards at most `many` of route `last` and none of later ones
 abbrev pub Replies : (first few last many most : ℕ) → (old new : RoundState → Phase → Heard → World) → Type 0
 Replies first few last many most old new =
@@ -128,7 +128,7 @@ Rounds goes closes class schedules rounds routes old new =
     (phase : Phase) → IsOver phase → (next : Phase) × IsOver next × (closing : ℕ) × ((closing ≡ rounds) ⊎ goes) × ((closing ≡ 0) ⊎ closes) ×
     WentClosing class schedules closing (rounds * (259 + 64 * routes)) rounds rounds (old phase) (new next)
 
--- the inbox was full at some moment, with these items of the poller's accepted
+-- the inbox was full at some time, with these items of the poller's accepted
 abbrev pub WasFull : Producer → Type 0
 WasFull p = Held p.capacity (StoodAsPolled p.offered)
 
@@ -137,7 +137,7 @@ abbrev pub IsOf : Producer → FoundFull → Type 0
 IsOf p full = (full.queue ≡ p.queue) × (full.polled ≡ p.offered)
 
 -- the poller's end before and after an offer of an arrival: the item is in the inbox; or nothing changed, and the inbox was full, or a copy of the
--- bytes after the first 16 allocates. That this was asked for and refused is told by no clause
+-- bytes after the first 16 allocates. No clause states that the allocation was tried and failed
 abbrev pub OfferedAs : Offered → Arrival → Buffers → (body : List ℕ) → Producer → Producer → Type 0
 OfferedAs Accepted a buffers body old new =
     (new.queue ≡ old.queue) × (new.capacity ≡ old.capacity) ×

@@ -39,10 +39,10 @@ pub record After : Type 0 where
 abbrev pub after : List RouteName → Heard → Carried → List Ends → Report → After
 after names source wire ends report = record { names = names; source = source; wire = wire; ends = ends; report = report }
 
--- These events happened, the oldest first, in whole rounds (`Fits`): each round began once and showed and hid routes as its schedule says, waited
--- once and read, and what happened to each datagram is what its class says, with the names then in force; `names` are those after the last round.
--- The source gave the datagrams of the events, and its calls, with its answers, are just theirs. The wire was handed the datagrams of the
--- events, and its sends, with their outcomes, are just theirs. Each route's inbox accepted the items, and each outbox gave the replies, of
+-- These events happened, the oldest first, in whole rounds (`Fits`): each round began once and made routes visible and hid them as its schedule states, waited
+-- once and read, and what happened to each datagram is what its class defines, with the names then in force; `names` are those after the last round.
+-- The source returned the datagrams of the events, and its calls, with its answers, are just theirs. The wire was handed the datagrams of the
+-- events, and its sends, with their outcomes, are just theirs. Each route's inbox accepted the items, and each outbox yielded the replies, of
 -- the events. The report
 -- counts the events; with at most 511 routes no count reaches its limit, and then it has the numbers of the devices' records. The source waited once in each
 -- round, and was read at least as often as it waited without a failure. A round that closes all began only if `closes` is known, and another one

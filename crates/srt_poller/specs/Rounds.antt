@@ -21,7 +21,7 @@ pub record World : Type 0 where
 abbrev pub world : Heard → Carried → List Ends → State → Report → World
 world source wire ends state report = record { source = source; wire = wire; ends = ends; state = state; report = report }
 
--- the ends of a route are of the same queues; the inbox accepted these items in addition, and the outbox gave these replies
+-- the ends of a route are of the same queues; the inbox accepted these items in addition, and the outbox yielded these replies
 pub record IsLater (accepted : List Item) (drained : List Datagram) (old new : Ends) : Type 0 where
   pub inbox : new.ingress.queue ≡ old.ingress.queue
   pub inbox_capacity : new.ingress.capacity ≡ old.ingress.capacity
@@ -30,7 +30,7 @@ pub record IsLater (accepted : List Item) (drained : List Datagram) (old new : E
   pub outbox_capacity : new.drain.capacity ≡ old.drain.capacity
   pub through : map written new.drain.through ≡ map written old.drain.through ++ drained
 
--- the same of all routes; these events gave nothing to, and took nothing from, a route that isn't among them
+-- the same of all routes; these events added nothing to, and took nothing from, a route that isn't among them
 pub record AreLater (events : List Event) (old new : List Ends) : Type 0 where
   pub as_many : length new ≡ length old
   pub each : (r : ℕ) (e : Ends) → r < length old → IsLater (accepted r events) (drained r events) (slice_index_or old r e) (slice_index_or new r e)

@@ -11,20 +11,20 @@ opened round [] names = names
 opened round (s ∷ schedules) [] = []
 opened round (s ∷ schedules) (name ∷ names) = (if s.open_round == round then as_shown name else name) ∷ opened round schedules names
 
--- the names after those that open in a round are shown: none, in a round that closes all
+-- the names after those that open in a round are visible: none, in a round that closes all
 abbrev pub opened_if : (closes_all : Bool) (round : ℕ) → List Schedule → List RouteName → List RouteName
 opened_if closes_all round schedules names = if closes_all then names else opened round schedules names
 
--- whether the round of a route's closing has come
+-- whether a route's closing round is this one or an earlier one
 abbrev pub has_come : (round : ℕ) → Option ℕ → Bool
 has_come round (Some close_round) = nat_le close_round round
 has_come round None = false
 
--- whether a route is closed in this round, if it is shown: the round closes all, or that of the route's closing has come
+-- whether a route is closed in this round, if it is visible: the round closes all, or the route's closing round is this one or an earlier one
 abbrev pub is_due : (closes_all : Bool) (round : ℕ) → Option ℕ → Bool
 is_due closes_all round close_round = closes_all || has_come round close_round
 
--- the indexes of the shown routes that are closed in this round; the first name has this index, and there is a schedule for each name
+-- the indexes of the visible routes that are closed in this round; the first name has this index, and there is a schedule for each name
 abbrev pub due_from : (index : ℕ) (closes_all : Bool) (round : ℕ) → List Schedule → List RouteName → List ℕ
 due_from index closes_all round [] names = []
 due_from index closes_all round (s ∷ schedules) [] = []
@@ -32,7 +32,7 @@ due_from index closes_all round (s ∷ schedules) (name ∷ names) =
     if is_due closes_all round s.close_round && name.is_shown
     then index ∷ due_from (suc index) closes_all round schedules names else due_from (suc index) closes_all round schedules names
 
--- the routes that are offered Close in this round: the shown ones whose round of closing has come, or all shown ones
+-- the routes that are offered Close in this round: the visible ones whose closing round is this one or an earlier one, or all visible ones
 abbrev pub due : (closes_all : Bool) (round : ℕ) → List Schedule → List RouteName → List ℕ
 due closes_all round schedules names = due_from 0 closes_all round schedules names
 
@@ -58,6 +58,6 @@ closed offers names = fold hidden_by names offers
 abbrev pub begun : (closes_all : Bool) (round : ℕ) → List Schedule → List CloseOffer → List RouteName → List RouteName
 begun closes_all round schedules offers names = closed offers (opened_if closes_all round schedules names)
 
--- no two routes have the same name, whether they are shown or not
+-- no two routes have the same name, whether they are visible or not
 abbrev pub AllDiffer : List RouteName → Type 0
 AllDiffer names = AreDistinct (map (λ name. as_shown name) names)

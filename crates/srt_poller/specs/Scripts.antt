@@ -17,7 +17,7 @@ use Rattle.srt_poller.specs.declared.scripts.SourceStep.{SourceStep}
 use Rattle.srt_poller.specs.declared.scripts.SourceStep.TheVariants.{Wait, WaitFails, Datagram, Empty, ReadFails}
 use Rattle.srt_poller.specs.Devices.{Arrival}
 
--- how a datagram of a script is given: at most its first 2048 bytes, at a moment below 2^62
+-- how a datagram of a script is given: at most its first 2048 bytes, at a time below 2^62
 abbrev pub moment_given : ℕ → ℕ
 moment_given moment = min moment (2 ^ 62 - 1)
 
@@ -78,7 +78,7 @@ abbrev pub answer_at : Option Sent → Sent
 answer_at (Some sent) = sent
 answer_at None = Taken
 
--- the moment that a clock in memory gives at this place of its script
+-- the time that a clock in memory gives at this place of its script
 abbrev pub moment_at : (moments : List ℕ) → (at : ℕ) → ℕ
 moment_at moments at = moment_given (slice_index moments at)
 

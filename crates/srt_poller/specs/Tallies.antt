@@ -8,7 +8,7 @@ use Rattle.srt_poller.specs.Devices.{Attempt, Call, WaitEnded, WaitFailed, ReadG
 use Rattle.srt_poller.specs.History.{Event, Begins, Waits, WaitFails, ReadsNothing, ReadFails, Answers, Accepts, Overflows, Refuses, Drops}
 use Rattle.srt_poller.specs.History.{Sends, Resends, Kept, kept_after, calls, attempts}
 
--- the number of datagrams that the source gave
+-- the number of datagrams that the source returned
 abbrev pub gives : Call → ℕ
 gives WaitEnded = 0
 gives WaitFailed = 0
@@ -81,7 +81,7 @@ abbrev pub one_kept : Option Kept → ℕ
 one_kept None = 0
 one_kept (Some k) = 1
 
--- what a report says of the devices' calls in these events: it counts the datagrams that the source gave, the sends that the wire took, the failed
+-- what a report states of the devices' calls in these events: it counts the datagrams that the source returned, the sends that the wire took, the failed
 -- calls of both, and as lost the failed sends, the answers that were put off and the reply that is kept at the end
 pub record TalliesWith (events : List Event) (report : Report) : Type 0 where
   pub read : report.read ≡ given_in (calls events)

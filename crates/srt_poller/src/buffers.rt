@@ -1,21 +1,19 @@
-//! The buffers of datagrams that routes have applied, which return with replies. They are filled again, so that the copies
+//! The buffers of datagrams that routes have processed, which return with replies. They are filled again, so that the copies
 //! of a steady stream seldom allocate: what one thread allocates and another one frees costs both a lock.
 
 ghost use Rattle.std.specs.Prelude.{◌≡◌, IfSome, IfNone};
 ghost use Rattle.srt_poller.specs.Buffers.{Allocates};
 
+use crate::tuning::SPARE_BUFFERS;
 use arrayvec::ArrayVec;
 use srt_mailbox::BUFFER_ROOM;
 use std::alloc::Global;
 
-// The most buffers that are kept: as many as a round of a worker over all routes returns.
-const MOST: usize = 512;
-
-/// Buffers to be filled again, at most 512. What they hold means nothing.
+/// Buffers to be filled again, at most 512. Their content is ignored.
 #[derive(Drop)]
 pub(crate) struct Buffers {
     // the one that was returned last is used first, since it is likely to be in a cache
-    kept: ArrayVec<Vec<u8>, MOST, Global>,
+    kept: ArrayVec<Vec<u8>, SPARE_BUFFERS, Global>,
 }
 
 impl Buffers {
@@ -34,8 +32,9 @@ impl Buffers {
         }
     }
 
-    /// A copy of these bytes. Allocates if there are any and no buffer is kept, or the one that was kept last has less
-    /// room; `None` if memory was refused. A new buffer has room for any packet's, however few bytes these are, so that it can be filled again.
+    /// Returns a copy of these bytes. Allocates if there are any and no buffer is kept, or the one that was kept last has
+    /// less room; `None` if the allocation failed. A new buffer has room for any packet's bytes, so that it can be filled
+    /// again.
     #[inline(always)]
     pub(crate) fn copy_of(&mut self, alloc: Global, bytes: &[u8]) -> Option<Vec<u8>>
         ensures copied { IfSome result (λ buffer. buffer.items ≡ bytes.now) }

@@ -1,4 +1,4 @@
-//! The beginning of a round while routes come and go.
+//! The beginning of a round while routes are added and removed.
 
 ghost use Rattle.std.specs.Prelude.{◌≡◌, ◌<◌, ◌≤◌, ◌+◌, ◌∷◌, [], ◌++◌, length};
 ghost use Rattle.std.specs.Vec.{vec_capacity};
@@ -8,22 +8,22 @@ use crate::ends::Ends;
 use crate::openings::{Newcomer, Openings};
 use crate::plans::{NEVER, Plan, Planned, close, next_due};
 use crate::schedule::Latest;
-use crate::signals::Signals;
+use crate::signals::Hints;
 use srt_lobby::Names;
 use srt_seq::Schedule;
 use srt_seq::limits::MAX_ROUTES;
 use std::alloc::{AllocError, Global};
 use std::sync::Wait;
 
-/// When the routes of a run open and close while routes come and go: room for the plans of 511 routes. What they are
-/// before a run means nothing.
+/// When the routes of a run open and close while routes are added and removed: room for the plans of 511 routes. Their
+/// content before a run is ignored.
 #[derive(Drop)]
 pub struct Plans {
     // one for each route, in the order of their indexes
     pub(crate) plans: Vec<Plan>,
-    // the first round in which a route may have to be shown or closed
+    // the first round in which a route may open or close
     pub(crate) due: u64,
-    // the latest arrival so far; a Close is given this moment
+    // the latest arrival so far; a Close gets its timestamp
     pub(crate) latest: Latest,
     pub(crate) ghost room: { 511 ≤ vec_capacity plans },
 }
@@ -31,9 +31,9 @@ pub struct Plans {
 impl Plans {
     ghost use Rattle.std.specs.Prelude.{IfOk};
     ghost use Rattle.srt_poller.specs.Beginnings.{RestBetween, AreClosed};
-    ghost use Rattle.srt_poller.specs.Openings.{news};
+    ghost use Rattle.srt_poller.specs.Openings.{route_reports};
     ghost use Rattle.srt_poller.specs.Plans.{never, waiting, closed_from, update_at, AreTimely};
-    ghost use Rattle.srt_poller.specs.Changes.{plans_in, TookNewcomers, TookClosings, TookNews, OpensOne, Opens, BeganAfter};
+    ghost use Rattle.srt_poller.specs.Changes.{plans_in, TookNewcomers, TookClosings, TookChanges, OpensOne, Opens, BeganAfter};
 
     /// Allocates room for the plans of 511 routes.
     pub fn new(alloc: Global) -> Result<Plans, AllocError>
@@ -62,7 +62,7 @@ impl Plans {
         self.latest = Latest { moment: 0 };
     }
 
-    // Appends a route, which waits until no shown route has its name. Doesn't allocate.
+    // Appends a route, which waits until no visible route has its name. Doesn't allocate.
     fn append(&mut self, names: &mut Names, ends: &mut Vec<Ends>, newcomer: Newcomer)
         requires known { length (plans_in self.old) ≡ length (names_of names.old) }
         requires ends { length ends.old.items ≡ length (names_of names.old) }
@@ -87,7 +87,7 @@ impl Plans {
         self.plans.push(plan).unwrap();
     }
 
-    // Appends all routes that come, as long as there are fewer than 511. Doesn't allocate.
+    // Appends all routes that are added, as long as there are fewer than 511. Doesn't allocate.
     fn take_newcomers<O: Openings>(
         &mut self,
         openings: &mut O,
@@ -97,9 +97,9 @@ impl Plans {
         requires known { length (plans_in self.old) ≡ length (names_of names.old) }
         requires ends { length ends.old.items ≡ length (names_of names.old) }
         requires room { 511 ≤ vec_capacity ends.old }
-        ensures came { TookNewcomers (O.came openings.old) (O.came openings.new) (plans_in self.old) (plans_in self.new)
+        ensures added { TookNewcomers (O.added openings.old) (O.added openings.new) (plans_in self.old) (plans_in self.new)
             (names_of names.old) (names_of names.new) ends.old.items ends.new.items }
-        ensures asked { O.asked openings.new ≡ O.asked openings.old }
+        ensures requested { O.requested openings.new ≡ O.requested openings.old }
         ensures room { 511 ≤ vec_capacity ends.new }
         ensures latest { self.new.latest ≡ self.old.latest }
     {
@@ -120,10 +120,10 @@ impl Plans {
         self.plans[route] = self.plans[route].closed_from(round);
     }
 
-    // Closes the routes that are asked to close, at most 511, from this round on, which hasn't begun.
+    // Closes the routes that are requested to close, at most 511, from this round on, which hasn't begun.
     fn take_closings<O: Openings>(&mut self, openings: &mut O, round: u64)
-        ensures asked { TookClosings round (O.asked openings.old) (O.asked openings.new) (plans_in self.old) (plans_in self.new) }
-        ensures came { O.came openings.new ≡ O.came openings.old }
+        ensures requested { TookClosings round (O.requested openings.old) (O.requested openings.new) (plans_in self.old) (plans_in self.new) }
+        ensures added { O.added openings.new ≡ O.added openings.old }
         ensures latest { self.new.latest ≡ self.old.latest }
     {
         for _ in 0..MAX_ROUTES {
@@ -134,9 +134,9 @@ impl Plans {
         }
     }
 
-    // Takes what is new before a round begins.
+    // Takes all changes before a round begins.
     #[inline(always)]
-    fn take_news<O: Openings>(
+    fn take_changes<O: Openings>(
         &mut self,
         openings: &mut O,
         names: &mut Names,
@@ -147,13 +147,14 @@ impl Plans {
         requires ends { length ends.old.items ≡ length (names_of names.old) }
         requires room { 511 ≤ vec_capacity ends.old }
         requires rest { RestBetween round self.old.due (plans_in self.old) (names_of names.old) }
-        ensures took { TookNews round self.new.due (news (O.came openings.old) (O.asked openings.old)) (news (O.came openings.new) (O.asked openings.new))
+        ensures took { TookChanges round self.new.due (route_reports (O.added openings.old) (O.requested openings.old))
+            (route_reports (O.added openings.new) (O.requested openings.new))
             (plans_in self.old) (plans_in self.new) (names_of names.old) (names_of names.new) ends.old.items ends.new.items }
         ensures rest { RestBetween round self.new.due (plans_in self.new) (names_of names.new) }
         ensures room { 511 ≤ vec_capacity ends.new }
         ensures latest { self.new.latest ≡ self.old.latest }
     {
-        if !openings.has_news() {
+        if !openings.has_changes() {
             return;
         }
         self.take_newcomers(openings, names, ends);
@@ -161,7 +162,7 @@ impl Plans {
         self.due = round;
     }
 
-    // Shows a route in this round if no other shown route has its name; otherwise it waits.
+    // Makes a route visible in this round if no other visible route has its name; otherwise it waits.
     fn open_one(&mut self, names: &mut Names, route: usize, round: u64)
         requires known { length (plans_in self.old) ≡ length (names_of names.old) }
         requires route { route < length (plans_in self.old) }
@@ -176,8 +177,8 @@ impl Plans {
         }
     }
 
-    // Shows the routes that open in this round, and those that wait, in the order of their indexes; one whose name
-    // another shown route has waits.
+    // Makes the routes visible that open in this round, and those that wait, in the order of their indexes. One whose
+    // name another visible route has waits.
     fn open(&mut self, names: &mut Names, round: u64)
         requires known { length (plans_in self.old) ≡ length (names_of names.old) }
         requires fits { round < never }
@@ -192,7 +193,7 @@ impl Plans {
     }
 
     // Closes the routes that are to close in this round.
-    fn close<R: Wait, G: Signals>(
+    fn close<R: Wait, G: Hints>(
         &mut self,
         rt: &R,
         signals: &G,
@@ -225,12 +226,12 @@ impl Plans {
         self.due = next_due(plans, names, round);
     }
 
-    /// Begins a round: takes the routes that come and those that are to close, and then does what the beginning of a
-    /// round is without them. A route is shown only while no other shown route has its name; one that comes, or whose
-    /// round of opening comes, and can't be shown waits. Costs a call of `has_news` and two comparisons in a round with
-    /// nothing to do, else some for each route, in each round in which one waits.
+    /// Begins a round: takes the routes that are added and those that are to close, and then does what the beginning of a
+    /// round is without changes. A route becomes visible only while no other visible route has its name; an added one, or
+    /// one in its opening round, waits until then. Costs a call of `has_changes` and two comparisons in a round with
+    /// nothing to do, otherwise some for each route, and so in each round in which one waits.
     #[inline(always)]
-    pub(crate) fn begin<R: Wait, G: Signals, O: Openings>(
+    pub(crate) fn begin<R: Wait, G: Hints, O: Openings>(
         &mut self,
         rt: &R,
         signals: &G,
@@ -245,14 +246,14 @@ impl Plans {
         requires room { 511 ≤ vec_capacity ends.old }
         requires rest { RestBetween round self.old.due (plans_in self.old) (names_of names.old) }
         requires fits { round < never }
-        ensures began { BeganAfter closes_all round self.old.latest.moment (news (O.came openings.old) (O.asked openings.old))
-            (news (O.came openings.new) (O.asked openings.new)) (plans_in self.old) (plans_in self.new)
+        ensures began { BeganAfter closes_all round self.old.latest.moment (route_reports (O.added openings.old) (O.requested openings.old))
+            (route_reports (O.added openings.new) (O.requested openings.new)) (plans_in self.old) (plans_in self.new)
             (names_of names.old) (names_of names.new) ends.old.items ends.new.items }
         ensures rest { RestBetween (round + 1) self.new.due (plans_in self.new) (names_of names.new) }
         ensures room { 511 ≤ vec_capacity ends.new }
         ensures latest { self.new.latest ≡ self.old.latest }
     {
-        self.take_news(openings, names, ends, round);
+        self.take_changes(openings, names, ends, round);
         if closes_all {
             self.close(rt, signals, names, ends, round, true);
             return;

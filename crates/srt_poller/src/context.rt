@@ -1,13 +1,13 @@
-//! What a round uses besides its devices and the ends of the routes.
+//! The inputs of a round, apart from its devices and the ends of the routes.
 
 ghost use Rattle.std.specs.Prelude.{◌≤◌};
 
-use crate::signals::Signals;
+use crate::signals::Hints;
 use srt_cookie::Secret;
 use srt_lobby::Names;
 use std::alloc::Global;
 
-/// What the lobby sorts datagrams by.
+/// The inputs of the lobby's classification.
 #[derive(Clone, Copy)]
 pub(crate) struct Classifier<'a, 'b> {
     /// The secret of its cookies.
@@ -16,23 +16,23 @@ pub(crate) struct Classifier<'a, 'b> {
     pub(crate) names: &'b Names,
 }
 
-/// What a round uses besides its devices and the ends of the routes.
+/// The inputs of a round, apart from its devices and the ends of the routes.
 #[derive(Drop)]
 pub(crate) struct RoundContext<'a, 'b, R, G> {
     /// The host, whose locks the queues use.
     pub(crate) rt: &'a R,
     /// Allocates copies of datagrams.
     pub(crate) alloc: Global,
-    /// Sorts datagrams.
+    /// Classifies datagrams.
     pub(crate) lobby: Classifier<'a, 'b>,
     /// The hints.
     pub(crate) signals: &'a G,
-    /// The round looks at all outboxes, whatever their hints are.
+    /// The round checks all outboxes, whatever their hints are.
     pub(crate) all: bool,
 }
 
-impl<R, G: Signals> RoundContext<'_, '_, R, G> {
-    /// The first route from this one on with a hint that its outbox may have a reply.
+impl<R, G: Hints> RoundContext<'_, '_, R, G> {
+    /// Returns the first route from this one on with a hint that its outbox may have a reply.
     #[inline(always)]
     pub(crate) fn next_hinted(&self, route: usize) -> usize
         ensures { route ≤ result }
@@ -40,8 +40,8 @@ impl<R, G: Signals> RoundContext<'_, '_, R, G> {
         self.signals.next_outbox_ready(route).max(route)
     }
 
-    /// The first route from this one on to take replies from: this one if the round looks at all, else the first one
-    /// with a hint.
+    /// Returns the first route from this one on to take replies from: this one if the round checks all, otherwise the
+    /// first one with a hint.
     #[inline(always)]
     pub(crate) fn next_route(&self, route: usize) -> usize
         ensures { route ≤ result }

@@ -1,15 +1,14 @@
-//! How densely datagrams come.
+//! How densely datagrams arrive.
 
 ghost use Rattle.std.specs.Prelude.{◌≡◌};
 ghost use Rattle.srt_poller.specs.inside.Pauses.{counted};
 
+use crate::tuning::TOO_DENSE;
+
 // A millisecond, in microseconds.
 const MILLISECOND: u64 = 1000;
 
-// The counters saturate at this value.
-const MOST: u32 = 100;
-
-/// A count of datagrams by the millisecond. The counters saturate at 100.
+/// A count of datagrams by the millisecond. The counters saturate at 100, which is too dense already.
 #[derive(Clone, Copy)]
 pub(crate) struct Density {
     /// When the millisecond that is counted began, in microseconds.
@@ -32,13 +31,13 @@ impl Density {
         }
     }
 
-    /// A datagram arrived at this moment, in microseconds.
-    pub(crate) fn came(&mut self, moment: u64)
+    /// Counts a datagram that arrived at this time, in microseconds.
+    pub(crate) fn arrived(&mut self, moment: u64)
         ensures { self.new ≡ counted moment self.old }
     {
         let passed = moment.saturating_sub(self.began);
         if passed < MILLISECOND {
-            if self.count < MOST {
+            if self.count < TOO_DENSE {
                 self.count += 1;
             }
             return;

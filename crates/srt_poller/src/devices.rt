@@ -57,14 +57,14 @@ pub trait Source {
     /// Waits until there may be datagrams, or until the source's own limit of time is over.
     fn wait(&mut self) -> Polled
         ensures failed { result ≡ PollFailed → Grew (failures self.old) (failures self.new) }
-        ensures tells { gave self.new ≡ gave self.old }
+        ensures records { gave self.new ≡ gave self.old }
         ensures called { calls self.new ≡ joined (calls self.old) (call_of_wait result ∷ []) };
 
     /// Reads the next datagram to the front of the buffer, and doesn't wait for one. A datagram of more than 2048 bytes
     /// may be cut to its first 2048.
     fn next(&mut self, buffer: &mut [u8; 2048]) -> Read
         ensures well { ReadsWell result (failures self.old) (failures self.new) }
-        ensures tells { gave self.new ≡ joined (gave self.old) (given_by_read result buffer.new) }
+        ensures records { gave self.new ≡ joined (gave self.old) (given_by_read result buffer.new) }
         ensures called { calls self.new ≡ joined (calls self.old) (call_of_read result buffer.new ∷ []) };
 
     /// The number of failures of waits and reads. Saturates at 2^64 - 1.
@@ -94,7 +94,7 @@ pub trait Wire {
     /// Sends a datagram, and doesn't wait for room.
     fn send(&mut self, to: Peer, bytes: &[u8]) -> Sent
         ensures failed { result ≡ SendFailed → Grew (failures self.old) (failures self.new) }
-        ensures tells { handed self.new ≡ joined (handed self.old) (handed_by_send result (datagram to bytes.now)) }
+        ensures records { handed self.new ≡ joined (handed self.old) (handed_by_send result (datagram to bytes.now)) }
         ensures attempted { attempts self.new ≡ joined (attempts self.old) (attempt (datagram to bytes.now) result ∷ []) };
 
     /// The number of failed sends. Saturates at 2^64 - 1.

@@ -25,7 +25,7 @@ pub(crate) enum Offered {
     Accepted,
     /// The inbox was full, by this evidence; the datagram is lost.
     Full(InboxFull),
-    /// The memory for its copy was refused; the datagram is lost.
+    /// The allocation of its copy failed; the datagram is lost.
     Refused,
 }
 
@@ -33,7 +33,7 @@ impl Ends {
     ghost use Rattle.srt_poller.specs.Devices.{arrival};
     ghost use Rattle.srt_poller.specs.Pollers.{OfferedAs, ClosedAs, IsOf};
 
-    /// Offers a copy of a datagram of 16 bytes or more to the route. The moment is in microseconds. The bytes after the
+    /// Offers a copy of a datagram of 16 bytes or more to the route. Its timestamp is in microseconds. The bytes after the
     /// first 16 are copied into a body that was returned, or into a new one, which is all that a poller allocates.
     #[inline(always)]
     pub(crate) fn offer<R: Wait, G>(

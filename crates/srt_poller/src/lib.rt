@@ -3,22 +3,24 @@
 //! It runs in the thread of its caller and starts none (`srt_serve` does). It doesn't decide where a datagram belongs
 //! (`srt_lobby` does) nor what a route replies (`srt_route`), and it serves no route (`srt_mailbox`).
 //!
-//! Types: a `Source` gives datagrams and a `Wire` takes them; `Ends` are the poller's ends of one route's queues; a
-//! `Report` has the counts; `Signals` are what is asked of a poller before a round (`Order`), and hints that save looks
-//! at empty outboxes. `Report` and `Order` are `srt_supervision`'s. Devices in memory are `SourceScript`, `WireScript`
-//! and `ClockScript`; `MioSource` and `MioWire` share one UDP socket.
+//! Types: a `Source` returns datagrams and a `Wire` takes them; `Ends` are the poller's ends of one route's queues; a
+//! `Report` has the counts. `Signals` are four traits: `Orders` before a round (`Order`), `Hints` that save checks of empty
+//! outboxes, a `PollerObserver`, and the `InlineService` of the polling thread. `Report` and `Order` are
+//! `srt_supervision`'s. Devices in memory are `SourceScript`, `WireScript` and `ClockScript`; `MioSource` and `MioWire`
+//! share one UDP socket.
 //!
 //! Calls: open the routes (`srt_mailbox::open_route`), hide those that open later (`srt_lobby::Names::hide`), bind or
-//! make the devices, then `pump` once for n rounds; or `pump_under`, until it is asked to end. Routes are shown and
-//! closed at the beginning of the rounds that their `srt_seq::Schedule` names. With `pump_changing` routes come and go
-//! besides, as its `Openings` tell; it keeps their `Plans`.
+//! make the devices, then `pump` once for n rounds; or `pump_under`, until the order is to end. Routes open and close at
+//! the beginning of the rounds that their `srt_seq::Schedule` has. With `pump_changing` routes are added and removed too,
+//! as its `Openings` report; it keeps their `Plans`.
 //!
-//! Files: the beginning of a round is in `schedule.rt`, and while routes come and go in `changing.rt`; what both do with the
-//! plans of all routes is in `plans.rt`, what openings are in `openings.rt`. The other steps are in `poller.rt` (limits, the
-//! reply that is kept), what they use in `context.rt`, the memory of copies in `buffers.rt`, the rounds in `pumping.rt` and
-//! `changing_rounds.rt`, what is counted in `report.rt`, what devices in memory tell of their calls in `journal.rt`, how a
-//! socket's source waits in `pace.rt` and `density.rt`, what holds of the definitions in `laws.rt`. `specs/History.antt` has
-//! the events of a poller, `specs/Plans.antt` what becomes of the routes' schedules while routes come and go.
+//! Files: the beginning of a round is in `schedule.rt`, and while routes are added and removed in `changing.rt`; what both
+//! do with the plans of all routes is in `plans.rt`, openings are in `openings.rt`. The other steps are in `poller.rt` (the
+//! reply that is kept), their inputs in `context.rt`, the memory of copies in `buffers.rt`, the rounds in `pumping.rt` and
+//! `changing_rounds.rt`, the counts in `report.rt`, the calls that devices in memory record in `journal.rt`, how a socket's
+//! source waits in `pace.rt` and `density.rt`, tuned constants in `tuning.rt`, laws of the definitions in `laws.rt`.
+//! `specs/History.antt` has the events of a poller, `specs/Plans.antt` what becomes of schedules while routes are added and
+//! removed.
 #![tactic(auto)]
 
 mod buffers;
@@ -40,6 +42,7 @@ mod schedule;
 mod scripts;
 mod signals;
 mod sockets;
+mod tuning;
 
 pub use changing::Plans;
 pub use changing_rounds::pump_changing;
@@ -50,7 +53,7 @@ pub use pumping::{Pumping, pump, pump_under};
 pub use scripts::{
     ClockScript, ScriptDatagram, SentDatagram, SourceScript, SourceStep, WireScript,
 };
-pub use signals::{Signals, Unsignalled};
+pub use signals::{Hints, InlineService, Orders, PollerObserver, Signals, Unsignalled};
 pub use sockets::{BindFault, MioSource, MioWire};
 pub use srt_mailbox::{Gate, Ungated};
 pub use srt_supervision::{Order, Report};

@@ -4,42 +4,30 @@ ghost use Rattle.std.specs.Prelude.{◌≡◌, true, false};
 ghost use Rattle.srt_poller.specs.inside.Pauses.{pause, after_wait, after_datagram, after_end, after_put_off};
 
 use crate::density::Density;
-
-// The number of short waits after a datagram arrived or a send returned Later.
-const SHORT_WAITS: u32 = 100;
-
-// After a round that read or sent this many datagrams there may be more to do at once. A nap could then leave a route
-// with more replies than a round sends.
-const MANY: u32 = 64;
-
-// Datagrams come densely if a millisecond had this many, and too densely for naps if it had `TOO_DENSE`: then many are
-// there at each wait without them.
-const DENSE: u32 = 20;
-
-const TOO_DENSE: u32 = 100;
+use crate::tuning::{DENSE, MANY_DATAGRAMS, SHORT_WAITS, TOO_DENSE};
 
 /// A wait.
 #[derive(Clone, Copy, Debug, PartialEq, Eq)]
 pub(crate) enum Pause {
     /// Until the socket has a datagram, for at most this many milliseconds.
     Poll(u64),
-    /// A tenth of a millisecond, whatever comes meanwhile.
+    /// A tenth of a millisecond, whatever arrives meanwhile.
     Nap,
 }
 
 /// Which wait is next. One that ends with a datagram lasts at most 0 ms while there may be more to read, 1 ms for the
 /// 100 waits after a datagram arrived or a send returned Later, else 10 ms. In place of one of 1 ms the source naps, if 20
-/// to 99 datagrams come in a millisecond and the round before had some to read, but few to read and to send: then a nap
+/// to 99 datagrams arrive in a millisecond and the round before had some to read, but few to read and to send: then a nap
 /// costs less than the waits for each of the next datagrams.
 #[derive(Clone, Copy)]
 pub(crate) struct Pace {
-    /// The last read gave a datagram, so there may be more.
+    /// The last read returned a datagram, so there may be more.
     pub(crate) more: bool,
     /// The number of short waits left.
     pub(crate) warm: u32,
     /// The number of datagrams that arrived since the last wait; saturates at 64.
     pub(crate) read: u32,
-    /// How densely datagrams come.
+    /// How densely datagrams arrive.
     pub(crate) density: Density,
 }
 
@@ -72,23 +60,23 @@ impl Pace {
         }
         self.warm -= 1;
         let is_dense = DENSE <= self.density.last && self.density.last < TOO_DENSE;
-        if is_dense && 0 < read && read < MANY && sent < MANY {
+        if is_dense && 0 < read && read < MANY_DATAGRAMS && sent < MANY_DATAGRAMS {
             Pause::Nap
         } else {
             Pause::Poll(1)
         }
     }
 
-    /// A datagram arrived at this moment, in microseconds, so there may be more.
-    pub(crate) fn came(&mut self, moment: u64)
+    /// A datagram arrived at this time, in microseconds, so there may be more.
+    pub(crate) fn arrived(&mut self, moment: u64)
         ensures { self.new ≡ after_datagram moment self.old }
     {
         self.more = true;
         self.warm = SHORT_WAITS;
-        if self.read < MANY {
+        if self.read < MANY_DATAGRAMS {
             self.read += 1;
         }
-        self.density.came(moment);
+        self.density.arrived(moment);
     }
 
     /// A read found no datagram, or failed.

@@ -8,18 +8,18 @@ ghost use Rattle.srt_poller.specs.Beginnings.{RouteRests, RestBetween, Closes, A
 
 use crate::ends::Ends;
 use crate::schedule::Latest;
-use crate::signals::Signals;
+use crate::signals::Hints;
 use srt_lobby::Names;
 use srt_seq::Schedule;
 use std::sync::Wait;
 
-/// The number of no round: a route with this round of opening hasn't opened, and opens only once it is given another.
+/// The number of no round: a route with this opening round hasn't opened, and opens only once it gets another one.
 pub(crate) const NEVER: u64 = u64::MAX;
 
 /// When a route opens and closes.
 #[derive(Clone, Copy)]
 pub(crate) struct Plan {
-    /// The round in which it is shown, or `NEVER`.
+    /// The round in which it becomes visible, or `NEVER`.
     pub(crate) open_round: u64,
     /// The round from which it is closed, if there is one.
     pub(crate) close_round: Option<u64>,
@@ -77,7 +77,7 @@ impl Plan {
     ghost use Rattle.srt_poller.specs.Schedules.{has_come};
     ghost use Rattle.srt_poller.specs.Plans.{never, may_open, closed_from};
 
-    /// Whether the round of its closing has come in this round.
+    /// Whether its closing round is this one or an earlier one.
     #[inline(always)]
     pub(crate) fn closes_by(self, round: u64) -> bool
         ensures { result ≡ has_come round self.close_round }
@@ -88,8 +88,8 @@ impl Plan {
         }
     }
 
-    /// Whether the route is closed in this round, if it is shown: the round closes all, or that of the route's closing
-    /// has come.
+    /// Whether the route is closed in this round, if it is visible: the round closes all, or the route's closing round is
+    /// this one or an earlier one.
     #[inline(always)]
     fn is_over(self, round: u64, closes_all: bool) -> bool
         ensures { result ≡ is_due closes_all round self.close_round }
@@ -97,8 +97,8 @@ impl Plan {
         closes_all | self.closes_by(round)
     }
 
-    /// Whether the route is to be shown as soon as no shown route has its name: it has no round of opening, and that of
-    /// its closing hasn't come in this round.
+    /// Whether the route becomes visible as soon as no visible route has its name: it has no opening round, and no closing
+    /// round up to this one.
     #[inline(always)]
     fn waits(self, round: u64) -> bool
         ensures { result ≡ ((self.open_round == never) && not (has_come round self.close_round)) }
@@ -106,8 +106,8 @@ impl Plan {
         self.open_round == NEVER && !self.closes_by(round)
     }
 
-    /// Whether the route is to be shown in this round, if no shown route has its name: it waits, or this is the round of
-    /// its opening.
+    /// Whether the route becomes visible in this round, if no visible route has its name: it waits, or this is its opening
+    /// round.
     #[inline(always)]
     pub(crate) fn may_open(self, round: u64) -> bool
         ensures { result ≡ may_open round (schedule_of self) }
@@ -115,7 +115,8 @@ impl Plan {
         self.open_round == round || self.waits(round)
     }
 
-    /// The same plan for a route that is asked to close before this round begins: if it hasn't opened yet, it never does.
+    /// Returns the plan of a route that is requested to close before this round begins: if it hasn't opened yet, it never
+    /// does.
     pub(crate) fn closed_from(self, round: u64) -> Plan
         ensures { schedule_of result ≡ closed_from round (schedule_of self) }
     {
@@ -134,8 +135,8 @@ impl Plan {
         }
     }
 
-    /// The first round after this one in which the route may have to be shown or closed, if the rounds until then don't
-    /// close all; 2^64 - 1 if there is none.
+    /// Returns the first round after this one in which the route may open or close, if the rounds until then don't close
+    /// all; 2^64 - 1 if there is none.
     fn next_of(self, is_shown: bool, round: u64) -> u64
         ensures { (k : ℕ) → round < k → k < result → RouteRests k (schedule_of self) is_shown }
     {
@@ -161,8 +162,8 @@ impl Plan {
     }
 }
 
-// Offers Close of this moment to a route, and hides it if its inbox accepted that. Returns whether it did.
-fn close_one<R: Wait, G: Signals>(
+// Offers Close with the latest timestamp to a route, and hides it if its inbox accepted that. Returns whether it did.
+fn close_one<R: Wait, G: Hints>(
     latest: Latest,
     rt: &R,
     signals: &G,
@@ -182,8 +183,8 @@ fn close_one<R: Wait, G: Signals>(
     true
 }
 
-/// Offers Close to each shown route whose round of closing has come, or to each shown one, in the order of their indexes.
-pub(crate) fn close<P: Planned, R: Wait, G: Signals>(
+/// Offers Close to each visible route that is due, or to each visible one, in the order of their indexes.
+pub(crate) fn close<P: Planned, R: Wait, G: Hints>(
     plans: &[P],
     latest: Latest,
     rt: &R,
@@ -206,8 +207,8 @@ pub(crate) fn close<P: Planned, R: Wait, G: Signals>(
     }
 }
 
-/// The first round after this one in which a route may have to be shown or closed, if the rounds until then don't close
-/// all; 2^64 - 1 if there is none.
+/// Returns the first round after this one in which a route may open or close, if the rounds until then don't close all;
+/// 2^64 - 1 if there is none.
 pub(crate) fn next_due<P: Planned>(plans: &[P], names: &Names, round: u64) -> u64
     requires { length plans.now ≡ length (names_of names.now) }
     ensures { RestBetween (round + 1) result (map P.schedule plans.now) (names_of names.now) }

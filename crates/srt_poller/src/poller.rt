@@ -14,7 +14,8 @@ use crate::report::{
     count_reply,
 };
 use crate::schedule::Latest;
-use crate::signals::Signals;
+use crate::signals::{Hints, InlineService, PollerObserver, Signals};
+use crate::tuning::{READS_PER_ROUND, REPLIES_PER_ROUTE, ROUNDS_PER_FULL_CHECK};
 use srt_lobby::{Class, classify};
 use srt_seq::Peer;
 use srt_supervision::Report;
@@ -62,7 +63,7 @@ enum Drained {
 pub(crate) struct Poller {
     // the last datagram that was read
     datagram: [u8; 2048],
-    // a copy of the kept reply's bytes, if there is one, so that its box can go back; no other reply is copied
+    // a copy of the kept reply's bytes, if there is one, so that its box can be returned; no other reply is copied
     reply_bytes: [u8; 1472],
     kept: Option<KeptReply>,
     // for copies of datagrams
@@ -72,18 +73,26 @@ pub(crate) struct Poller {
     left: bool,
 }
 
-// Tells a send that failed.
+// Reports a send that failed.
 #[inline(always)]
-fn tell_failure<G: Signals>(signals: &G, sent: Sent) {
+fn report_failure<G: PollerObserver>(signals: &G, sent: Sent) {
     match sent {
         Sent::Failed => signals.failed(),
         Sent::Taken | Sent::Later => {}
     }
 }
 
-// Tells a reply that is a handshake.
+// Lets the polling thread serve routes, unless the wait of this round failed.
 #[inline(always)]
-fn tell_handshake<G: Signals>(signals: &G, route: usize, peer: Peer, reply: &[u8]) {
+fn serve_inline<G: InlineService>(signals: &G, datagrams: Option<u32>) {
+    if let Some(datagrams) = datagrams {
+        signals.serve_inline(datagrams);
+    }
+}
+
+// Reports a reply that is a handshake.
+#[inline(always)]
+fn report_handshake<G: PollerObserver>(signals: &G, route: usize, peer: Peer, reply: &[u8]) {
     if let [0x80, 0, 0, 0, ..] = reply {
         signals.replied(route, peer, reply);
     }
@@ -94,8 +103,8 @@ impl Poller {
     ghost use Rattle.srt_poller.specs.declared.ends.Ends.{Ends as TheEnds};
     ghost use Rattle.srt_poller.specs.declared.poller.Drained.TheVariants.{Empty, Gone};
     ghost use Rattle.srt_poller.specs.Reports.{nothing, with_kept};
-    ghost use Rattle.srt_poller.specs.Pollers.{sorted_by, named_in, came, kept_in, begun_phase, waiting, sending, listening, Waited};
-    ghost use Rattle.srt_poller.specs.Pollers.{WaitFailed, Came, Listened, Resent, Replies};
+    ghost use Rattle.srt_poller.specs.Pollers.{sorted_by, named_in, arrival_in, kept_in, begun_phase, waiting, sending, listening, Waited, RoundMade};
+    ghost use Rattle.srt_poller.specs.Pollers.{WaitFailed, Arrived, Listened, Resent, Replies};
 
     /// A poller with no reply kept and all counts 0. Doesn't allocate.
     pub(crate) fn new(alloc: Global) -> Poller
@@ -112,20 +121,20 @@ impl Poller {
         }
     }
 
-    /// Whether the next round that takes replies looks at all outboxes.
-    pub(crate) fn looks_at_all(&self) -> bool {
-        self.left
+    /// Whether the round with this number checks all outboxes, whatever their hints are.
+    pub(crate) fn checks_all(&self, round: u64) -> bool {
+        self.left | (round % ROUNDS_PER_FULL_CHECK == 0)
     }
 
-    /// Tells the counts so far, in which a reply that is kept doesn't stand.
+    /// Reports the counts so far, without a reply that is kept.
     #[inline(always)]
-    pub(crate) fn tell_report<G: Signals>(&self, signals: &G) {
+    pub(crate) fn report_counts<G: PollerObserver>(&self, signals: &G) {
         signals.reported(&self.report);
     }
 
     /// Sends the kept reply again, if there is one.
     #[inline(always)]
-    pub(crate) fn resend<W: Wire, G: Signals>(&mut self, signals: &G, wire: &mut W)
+    pub(crate) fn resend<W: Wire, G: PollerObserver>(&mut self, signals: &G, wire: &mut W)
         ensures { (ends : List TheEnds) →
             Resent (begun_phase self.old) (sending (carried (W.handed wire.old) (W.attempts wire.old)) ends self.old)
             (sending (carried (W.handed wire.new) (W.attempts wire.new)) ends self.new) }
@@ -134,7 +143,7 @@ impl Poller {
             return;
         };
         let sent = wire.send(kept.peer, &self.reply_bytes[..kept.len]);
-        tell_failure(signals, sent);
+        report_failure(signals, sent);
         count_reply(&mut self.report, sent);
         match sent {
             Sent::Later => {}
@@ -144,7 +153,7 @@ impl Poller {
 
     /// Waits for datagrams. False if the wait failed.
     #[inline(always)]
-    fn wait<S: Source, G: Signals>(&mut self, signals: &G, source: &mut S) -> bool
+    fn wait<S: Source, G: PollerObserver>(&mut self, signals: &G, source: &mut S) -> bool
         ensures ready { result ≡ true →
             Waited (waiting (heard (S.gave source.old) (S.calls source.old)) self.old) (waiting (heard (S.gave source.new) (S.calls source.new)) self.new) }
         ensures failed { result ≡ false →
@@ -162,7 +171,7 @@ impl Poller {
 
     /// Offers a datagram to its route, and counts the outcome.
     #[inline(always)]
-    fn offer<R: Wait, G: Signals>(
+    fn offer<R: Wait, G: Hints>(
         &mut self,
         context: &RoundContext<R, G>,
         ends: &mut [Ends],
@@ -171,9 +180,9 @@ impl Poller {
     )
         requires header { 16 ≤ incoming.len }
         requires route { route < length ends.old }
-        ensures { (class : Sorting) (names : List RouteName) (wire : Carried) → let arrival = came incoming self.old in
+        ensures { (class : Sorting) (names : List RouteName) (wire : Carried) → let arrival = arrival_in incoming self.old in
             class names arrival.datagram arrival.moment ≡ Route route →
-            Came class names arrival (sending wire ends.old self.old) (sending wire ends.new self.new) }
+            Arrived class names arrival (sending wire ends.old self.old) (sending wire ends.new self.new) }
     {
         let bytes = &self.datagram[..incoming.len];
         let Incoming { peer, moment, .. } = incoming;
@@ -197,7 +206,7 @@ impl Poller {
         incoming: Incoming,
     )
         requires { length ends.old ≡ length (named_in context.now.lobby) }
-        ensures { Came (sorted_by context.now.lobby) (named_in context.now.lobby) (came incoming self.old)
+        ensures { Arrived (sorted_by context.now.lobby) (named_in context.now.lobby) (arrival_in incoming self.old)
             (sending (carried (W.handed wire.old) (W.attempts wire.old)) ends.old self.old)
             (sending (carried (W.handed wire.new) (W.attempts wire.new)) ends.new self.new) }
     {
@@ -209,7 +218,7 @@ impl Poller {
                 context
                     .signals
                     .answered(names, incoming.peer, bytes, &answer);
-                tell_failure(context.signals, sent);
+                report_failure(context.signals, sent);
                 count_answer(&mut self.report, sent);
             }
             Class::Dropped(cause) => count_dropped(&mut self.report, cause),
@@ -218,7 +227,7 @@ impl Poller {
     }
 
     /// Waits, and reads at most 256 datagrams unless the wait failed. A read that finds none or fails is the last one.
-    /// `latest` sees the moment of each datagram.
+    /// `latest` gets the timestamp of each datagram. Returns their number; `None` if the wait failed.
     #[inline(always)]
     pub(crate) fn listen<R: Wait, S: Source, W: Wire, G: Signals>(
         &mut self,
@@ -227,7 +236,7 @@ impl Poller {
         wire: &mut W,
         ends: &mut [Ends],
         latest: &mut Latest,
-    )
+    ) -> Option<u32>
         requires { length ends.old ≡ length (named_in context.now.lobby) }
         ensures { Listened (sorted_by context.now.lobby) (named_in context.now.lobby) 257
             (listening (heard (S.gave source.old) (S.calls source.old)) (carried (W.handed wire.old) (W.attempts wire.old)) ends.old self.old)
@@ -235,28 +244,24 @@ impl Poller {
             latest.old.moment latest.new.moment }
     {
         if !self.wait(context.signals, source) {
-            return;
+            return None;
         }
-        for came in 0..256u32 {
+        for reads in 0..READS_PER_ROUND {
             match source.next(&mut self.datagram) {
                 Read::Datagram(peer, len, moment) => {
                     let incoming = Incoming { peer, len, moment };
                     self.arrive(context, wire, ends, incoming);
                     latest.see(moment);
                 }
-                Read::Empty => {
-                    context.signals.read_ended(came);
-                    return;
-                }
+                Read::Empty => return Some(reads),
                 Read::Failed => {
                     context.signals.failed();
                     count_fault(&mut self.report);
-                    context.signals.read_ended(came);
-                    return;
+                    return Some(reads);
                 }
             }
         }
-        context.signals.read_ended(256);
+        Some(READS_PER_ROUND)
     }
 
     /// Takes a reply from an outbox and sends it. No reply may be kept.
@@ -284,8 +289,8 @@ impl Poller {
         let reply = end.drain.reply();
         let peer = reply.peer;
         let sent = wire.send(peer, reply.packet.bytes());
-        tell_handshake(context.signals, route, peer, reply.packet.bytes());
-        tell_failure(context.signals, sent);
+        report_handshake(context.signals, route, peer, reply.packet.bytes());
+        report_failure(context.signals, sent);
         count_reply(&mut self.report, sent);
         match sent {
             Sent::Taken | Sent::Failed => Drained::Gone,
@@ -297,8 +302,8 @@ impl Poller {
         }
     }
 
-    /// Sends at most 64 replies of a route, until one is kept, unless its hint says that its outbox has none and the
-    /// round doesn't look at all. True if no reply is kept.
+    /// Sends at most 64 replies of a route, until one is kept, unless its outbox has none by its hint and the round doesn't
+    /// check all. True if no reply is kept.
     #[inline(always)]
     fn drain_route<R: Wait, W: Wire, G: Signals>(
         &mut self,
@@ -317,7 +322,7 @@ impl Poller {
         if !context.signals.take_outbox_ready(route) && !context.all {
             return true;
         }
-        for _ in 0..64u32 {
+        for _ in 0..REPLIES_PER_ROUTE {
             match self.drain_one(context, wire, ends, route) {
                 Drained::Gone => {}
                 Drained::Empty => return true,
@@ -331,9 +336,9 @@ impl Poller {
         true
     }
 
-    /// Looks at the outboxes of all routes with a hint. Those of many routes are mostly out of the caches, and here the
-    /// processor fetches several at the same time; the drain then finds them.
-    fn look_ahead<R, G: Signals>(context: &RoundContext<R, G>, ends: &mut [Ends])
+    /// Reads the outboxes of all routes with a hint. Those of many routes are mostly out of the caches, and here the
+    /// processor fetches several at the same time, before the drain uses them.
+    fn prefetch<R, G: Hints>(context: &RoundContext<R, G>, ends: &mut [Ends])
         ensures { ends.new ≡ ends.old }
     {
         if ends.len() < 2 {
@@ -365,7 +370,7 @@ impl Poller {
         if self.kept.is_some() {
             return;
         }
-        Poller::look_ahead(context, ends);
+        Poller::prefetch(context, ends);
         self.left = false;
         let mut route = 0;
         while route < ends.len() {
@@ -380,7 +385,32 @@ impl Poller {
         }
     }
 
-    /// The counts so far, in which a reply that is still kept counts as lost.
+    /// Makes the rest of a round, which has begun: sends the kept reply again, waits and reads, lets the polling thread
+    /// serve routes, and sends replies.
+    #[inline(always)]
+    pub(crate) fn make_round<R: Wait, S: Source, W: Wire, G: Signals>(
+        &mut self,
+        context: &RoundContext<R, G>,
+        source: &mut S,
+        wire: &mut W,
+        ends: &mut [Ends],
+        latest: &mut Latest,
+    )
+        requires { length ends.old ≡ length (named_in context.now.lobby) }
+        ensures { RoundMade (sorted_by context.now.lobby) (named_in context.now.lobby) (length ends.old) (begun_phase self.old)
+            (listening (heard (S.gave source.old) (S.calls source.old)) (carried (W.handed wire.old) (W.attempts wire.old)) ends.old self.old)
+            (listening (heard (S.gave source.new) (S.calls source.new)) (carried (W.handed wire.new) (W.attempts wire.new)) ends.new self.new)
+            latest.old.moment latest.new.moment }
+    {
+        self.resend(context.signals, wire);
+        serve_inline(
+            context.signals,
+            self.listen(context, source, wire, ends, latest),
+        );
+        self.drain(context, wire, ends);
+    }
+
+    /// Returns the counts so far, in which a reply that is still kept counts as lost.
     pub(crate) fn report(&self) -> Report
         ensures { result ≡ with_kept self.now.report (kept_in self.now) }
     {

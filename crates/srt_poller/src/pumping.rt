@@ -3,7 +3,7 @@
 ghost use Rattle.std.specs.Prelude.{◌≡◌, ◌+◌, ◌^◌, ◌<◌, ◌≤◌, ◌⊎◌, true, false, IfSome, IfNone, length};
 ghost use Rattle.srt_lobby.specs.Names.{names_of};
 ghost use Rattle.srt_poller.specs.Schedules.{AllDiffer};
-ghost use Rattle.srt_poller.specs.Pollers.{sorting, begun_phase, round_state, listening, RoundMade, Rounds};
+ghost use Rattle.srt_poller.specs.Pollers.{sorting, round_state, listening, Rounds};
 ghost use Rattle.srt_poller.specs.Devices.{heard, carried};
 ghost use Rattle.srt_poller.specs.Beginnings.{RestBetween};
 ghost use Rattle.srt_poller.specs.Pumped.{Pumped, PumpedUnder, before, after};
@@ -12,8 +12,8 @@ use crate::context::{Classifier, RoundContext};
 use crate::devices::{Source, Wire};
 use crate::ends::Ends;
 use crate::poller::Poller;
-use crate::schedule::{Latest, RouteSchedules};
-use crate::signals::{Signals, Unsignalled};
+use crate::schedule::RouteSchedules;
+use crate::signals::{Orders, Signals, Unsignalled};
 use srt_cookie::Secret;
 use srt_lobby::Names;
 use srt_seq::Schedule;
@@ -21,7 +21,7 @@ use srt_supervision::{Order, Report};
 use std::alloc::Global;
 use std::sync::Wait;
 
-/// What a poller did.
+/// The outcome of a poller's rounds.
 #[derive(Clone, Copy, Debug, PartialEq, Eq)]
 pub struct Pumping {
     /// The counts.
@@ -30,22 +30,22 @@ pub struct Pumping {
     pub rounds: u64,
 }
 
-/// Does `rounds` rounds and returns the counts. `schedules` and `ends` are those of the routes of `names`, in the order
+/// Makes `rounds` rounds and returns the counts. `schedules` and `ends` are those of the routes of `names`, in the order
 /// of their indexes, hidden routes included.
 ///
-/// A round, the first of which has number 0, begins with the routes that open in it: they are shown. Then `Close` is
-/// offered to each shown route whose round of closing has come, with the greatest moment that the source has given (0
-/// for none). A route whose inbox accepts it is hidden; one whose inbox is full is offered it again in the next round.
-/// The report doesn't count this.
+/// A round, the first of which has number 0, begins with the routes that open in it: they become visible. Then `Close` is
+/// offered to each visible route whose closing round is this one or an earlier one, with the greatest timestamp of the
+/// source (0 for none). A route whose inbox accepts it is hidden; one whose inbox is full is offered it again in the next
+/// round. The report doesn't count this.
 ///
 /// Then the kept reply is sent again, if there is one. Then the source waits, and at most 256 datagrams are
 /// read; each is answered by the lobby, offered to its route or dropped. Then at most 64 replies of each route are
 /// sent.
 ///
-/// A reply for which the send returns Later is kept, and no other reply is taken until it went. An answer of the lobby
+/// A reply for which the send returns Later is kept, and no other reply is taken until it is sent. An answer of the lobby
 /// is lost in that case. A datagram whose send fails is lost. After a failed wait the round reads nothing; a failed
 /// read ends the reads of its round. Only the copy of a datagram that is offered allocates, if no body was
-/// returned with a reply; if memory is refused, the datagram is lost.
+/// returned with a reply; if the allocation fails, the datagram is lost.
 pub fn pump<R: Wait, S: Source, W: Wire>(
     rt: &R,
     alloc: Global,
@@ -79,10 +79,9 @@ pub fn pump<R: Wait, S: Source, W: Wire>(
     pumping.report
 }
 
-/// As `pump`, but before each round the poller is asked whether it is made, whether it closes all, or whether that is the
-/// end (`Order`), and there are hints. A round that closes all shows no route, and offers `Close` to each shown one. A
-/// route whose outbox has nothing by the hints is passed over, except in every 64th round, the first among them, and in
-/// the round after one that left an outbox before it was found empty.
+/// As `pump`, with an order before each round: to make it, to close all in it, or to end (`Order`). A round that closes all
+/// makes no route visible, and offers `Close` to each visible one. Outboxes without a hint are skipped, except in every
+/// 64th round, the first among them, and in the round after one that left an outbox before it was found empty.
 pub fn pump_under<R: Wait, S: Source, W: Wire, G: Signals>(
     rt: &R,
     alloc: Global,
@@ -129,51 +128,17 @@ pub fn pump_under<R: Wait, S: Source, W: Wire, G: Signals>(
     }
 }
 
-/// Whether the next round closes all. `None` if that is the end.
+/// Whether the next round closes all. `None` if the order is to end.
 #[inline(always)]
-pub(crate) fn ask<G: Signals>(signals: &G) -> Option<bool>
+pub(crate) fn ask<G: Orders>(signals: &G) -> Option<bool>
     ensures round { IfSome result (λ closes_all. (closes_all ≡ false → G.goes signals.now) × (closes_all ≡ true → G.closes signals.now)) }
     ensures end { IfNone result (G.stops signals.now) }
 {
-    match signals.asked() {
+    match signals.order() {
         Order::GoOn => Some(false),
         Order::CloseAll => Some(true),
         Order::End => None,
     }
-}
-
-/// Makes the rest of the round with this number, which has begun.
-#[inline(always)]
-pub(crate) fn make_round<R: Wait, S: Source, W: Wire, G: Signals>(
-    rt: &R,
-    alloc: Global,
-    secret: &Secret,
-    names: &Names,
-    source: &mut S,
-    wire: &mut W,
-    ends: &mut [Ends],
-    latest: &mut Latest,
-    poller: &mut Poller,
-    round: u64,
-    signals: &G,
-)
-    requires { length ends.old ≡ length (names_of names.now) }
-    ensures { RoundMade (sorting secret.now) (names_of names.now) (length ends.old) (begun_phase poller.old)
-        (listening (heard (S.gave source.old) (S.calls source.old)) (carried (W.handed wire.old) (W.attempts wire.old)) ends.old poller.old)
-        (listening (heard (S.gave source.new) (S.calls source.new)) (carried (W.handed wire.new) (W.attempts wire.new)) ends.new poller.new)
-        latest.old.moment latest.new.moment }
-{
-    let due = round % 64 == 0;
-    let context = RoundContext {
-        rt,
-        alloc,
-        lobby: Classifier { secret, names },
-        signals,
-        all: due | poller.looks_at_all(),
-    };
-    poller.resend(signals, wire);
-    poller.listen(&context, source, wire, ends, latest);
-    poller.drain(&context, wire, ends);
 }
 
 /// Makes at most `rounds` rounds, and returns how many were made. The first has the number `first`.
@@ -206,25 +171,20 @@ pub(crate) fn pump_from<R: Wait, S: Source, W: Wire, G: Signals>(
     ensures whole { (result ≡ rounds) ⊎ G.stops signals.now }
 {
     for made in 0..rounds {
-        poller.tell_report(signals);
+        poller.report_counts(signals);
         let Some(closes_all) = ask(signals) else {
             return made;
         };
         let round = first + made;
         route_schedules.begin(rt, signals, names, ends, round, closes_all);
-        make_round(
+        let context = RoundContext {
             rt,
             alloc,
-            secret,
-            names,
-            source,
-            wire,
-            ends,
-            &mut route_schedules.latest,
-            poller,
-            round,
+            lobby: Classifier { secret, names },
             signals,
-        );
+            all: poller.checks_all(round),
+        };
+        poller.make_round(&context, source, wire, ends, &mut route_schedules.latest);
     }
     rounds
 }

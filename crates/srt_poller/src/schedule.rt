@@ -1,4 +1,4 @@
-//! The schedule of a run's routes: which of them are shown and closed at the beginning of each round.
+//! The schedule of a run's routes: which of them open and close at the beginning of each round.
 
 ghost use Rattle.std.specs.Prelude.{◌≡◌, ◌<◌, ◌+◌, ◌^◌, true, max, length};
 ghost use Rattle.srt_lobby.specs.Names.{names_of};
@@ -7,21 +7,21 @@ ghost use Rattle.srt_poller.specs.Beginnings.{all_shown, RestBetween, Began};
 
 use crate::ends::Ends;
 use crate::plans::{close, next_due};
-use crate::signals::Signals;
+use crate::signals::Hints;
 use srt_lobby::Names;
 use srt_seq::Schedule;
 use std::sync::Wait;
 
-/// The greatest moment that the source has given, in microseconds; 0 if it has given none.
+/// The greatest timestamp of the source, in microseconds; 0 if it has returned none.
 #[derive(Clone, Copy)]
 pub(crate) struct Latest {
-    /// The moment, below 2^62.
+    /// The timestamp, below 2^62.
     pub(crate) moment: u64,
     ghost timely: { moment < 2 ^ 62 },
 }
 
 impl Latest {
-    /// A datagram arrived at this moment.
+    /// Takes the timestamp of a datagram into account.
     #[inline(always)]
     pub(crate) fn see(&mut self, moment: u64)
         requires { moment < 2 ^ 62 }
@@ -33,19 +33,19 @@ impl Latest {
     }
 }
 
-/// Which routes are shown and closed at the beginning of a round.
+/// Which routes open and close at the beginning of a round.
 #[derive(Drop)]
 pub(crate) struct RouteSchedules<'a> {
     // one for each route, in the order of their indexes
     schedules: &'a [Schedule],
-    // the first round in which a route may have to be shown or closed
+    // the first round in which a route may open or close
     due: u64,
-    /// The latest arrival so far; a Close is given this moment.
+    /// The latest arrival so far; a Close gets its timestamp.
     pub(crate) latest: Latest,
 }
 
 impl<'a> RouteSchedules<'a> {
-    /// Those of routes with these schedules, before the first round.
+    /// For routes with these schedules, before the first round.
     pub(crate) fn new(schedules: &'a [Schedule]) -> RouteSchedules<'a>
         ensures schedules { result.schedules.now ≡ schedules.now }
         ensures due { result.due ≡ 0 }
@@ -58,7 +58,7 @@ impl<'a> RouteSchedules<'a> {
         }
     }
 
-    // Shows the routes that open in this round.
+    // Makes the routes visible that open in this round.
     fn open(&self, names: &mut Names, round: u64)
         requires known { length self.now.schedules.now ≡ length (names_of names.old) }
         requires differ { AllDiffer (names_of names.old) }
@@ -74,7 +74,7 @@ impl<'a> RouteSchedules<'a> {
     }
 
     // Begins a round that closes all.
-    fn close_all<R: Wait, G: Signals>(
+    fn close_all<R: Wait, G: Hints>(
         &mut self,
         rt: &R,
         signals: &G,
@@ -103,12 +103,12 @@ impl<'a> RouteSchedules<'a> {
         self.due = next_due(self.schedules, names, round);
     }
 
-    /// Begins a round: shows the routes that open in it, and then offers Close to each shown route whose round of
-    /// closing has come, in the order of their indexes. A route whose inbox accepts it is hidden; one whose inbox is
-    /// full is offered it again in the next round. If the round closes all, none opens, and each shown route is closed
-    /// so. Costs two comparisons in a round with nothing to do, else some for each route.
+    /// Begins a round: makes the routes visible that open in it, and then offers Close to each visible route that is due,
+    /// in the order of their indexes. A route whose inbox accepts it is hidden; one whose inbox is full is offered it
+    /// again in the next round. If the round closes all, none opens, and each visible route is closed so. Costs two
+    /// comparisons in a round with nothing to do, otherwise some for each route.
     #[inline(always)]
-    pub(crate) fn begin<R: Wait, G: Signals>(
+    pub(crate) fn begin<R: Wait, G: Hints>(
         &mut self,
         rt: &R,
         signals: &G,

@@ -77,7 +77,7 @@ impl SourceScript {
     pub fn new(steps: Vec<SourceStep>) -> SourceScript
         ensures steps { steps_of result ≡ steps.items }
         ensures done { steps_done result ≡ 0 }
-        ensures tells { ⟦<SourceScript as Source>⟧.gave result ≡ Some [] }
+        ensures records { ⟦<SourceScript as Source>⟧.gave result ≡ Some [] }
         ensures called { ⟦<SourceScript as Source>⟧.calls result ≡ Some [] }
         ensures failures { ⟦<SourceScript as Source>⟧.failures result ≡ 0 }
     {
@@ -113,7 +113,7 @@ impl Source for SourceScript {
 
     fn wait(&mut self) -> Polled
         ensures failed { result ≡ PollFailed → Grew self.old.failures self.new.failures }
-        ensures tells { ⟦<SourceScript as Source>⟧.gave self.new ≡ ⟦<SourceScript as Source>⟧.gave self.old }
+        ensures records { ⟦<SourceScript as Source>⟧.gave self.new ≡ ⟦<SourceScript as Source>⟧.gave self.old }
         ensures called { ⟦<SourceScript as Source>⟧.calls self.new ≡
             joined (⟦<SourceScript as Source>⟧.calls self.old) (call_of_wait result ∷ []) }
         ensures does { result ≡ wait_at (next_step self.old) }
@@ -141,7 +141,7 @@ impl Source for SourceScript {
 
     fn next(&mut self, buffer: &mut [u8; 2048]) -> Read
         ensures well { ReadsWell result self.old.failures self.new.failures }
-        ensures tells { ⟦<SourceScript as Source>⟧.gave self.new ≡
+        ensures records { ⟦<SourceScript as Source>⟧.gave self.new ≡
             joined (⟦<SourceScript as Source>⟧.gave self.old) (given_by_read result buffer.new) }
         ensures called { ⟦<SourceScript as Source>⟧.calls self.new ≡
             joined (⟦<SourceScript as Source>⟧.calls self.old) (call_of_read result buffer.new ∷ []) }
@@ -215,7 +215,7 @@ impl WireScript {
     pub fn new(alloc: Global, answers: Vec<Sent>) -> WireScript
         ensures answers { answers_of result ≡ answers.items }
         ensures given { answers_given result ≡ 0 }
-        ensures tells { ⟦<WireScript as Wire>⟧.handed result ≡ Some [] }
+        ensures records { ⟦<WireScript as Wire>⟧.handed result ≡ Some [] }
         ensures attempted { ⟦<WireScript as Wire>⟧.attempts result ≡ Some [] }
         ensures failures { ⟦<WireScript as Wire>⟧.failures result ≡ 0 }
     {
@@ -270,7 +270,7 @@ impl WireScript {
     /// Does what the script says for a send.
     fn act(&mut self, to: Peer, bytes: &[u8]) -> Sent
         ensures failed { result ≡ SendFailed → Grew self.old.failures self.new.failures }
-        ensures tells { ⟦<WireScript as Wire>⟧.handed self.new ≡
+        ensures records { ⟦<WireScript as Wire>⟧.handed self.new ≡
             joined (⟦<WireScript as Wire>⟧.handed self.old) (handed_by_send result (datagram to bytes.now)) }
         ensures does { (result ≡ Later) ⊎ (result ≡ next_answer self.old) }
         ensures journal { self.new.journal ≡ self.old.journal }
@@ -316,7 +316,7 @@ impl Wire for WireScript {
 
     fn send(&mut self, to: Peer, bytes: &[u8]) -> Sent
         ensures failed { result ≡ SendFailed → Grew self.old.failures self.new.failures }
-        ensures tells { ⟦<WireScript as Wire>⟧.handed self.new ≡
+        ensures records { ⟦<WireScript as Wire>⟧.handed self.new ≡
             joined (⟦<WireScript as Wire>⟧.handed self.old) (handed_by_send result (datagram to bytes.now)) }
         ensures attempted { ⟦<WireScript as Wire>⟧.attempts self.new ≡
             joined (⟦<WireScript as Wire>⟧.attempts self.old) (attempt (datagram to bytes.now) result ∷ []) }

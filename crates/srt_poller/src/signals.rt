@@ -1,4 +1,4 @@
-//! Hints between a poller and the threads that serve the routes, and the asking of a poller before a round.
+//! What a poller shares with the other threads of a run: orders, hints, reports, and the routes that it serves itself.
 
 ghost use Rattle.std.specs.Prelude.{◌≡◌};
 
@@ -6,36 +6,32 @@ use srt_lobby::Names;
 use srt_seq::Peer;
 use srt_supervision::{Order, Report};
 
-/// What is asked of a poller, and hints in both directions. No contract but those of the rounds that are made depends on
-/// what is asked, and none on a hint: a wrong one makes replies leave up to 64 rounds later, and loses nothing. Calls
-/// come from the poller's thread.
-pub trait Signals {
+/// Orders to a poller. Calls come from the poller's thread.
+pub trait Orders {
     ghost use Rattle.std.specs.Prelude.{◌≡◌};
     ghost use Rattle.srt_supervision.specs.declared.order.Order.TheVariants.{GoOn, CloseAll, End};
 
-    /// What is known once `asked` has returned `GoOn`. It may be nothing.
+    /// What is known once `order` has returned `GoOn`. It may be nothing.
     ghost goes: { Self → Type 0 };
 
-    /// What is known once `asked` has returned `CloseAll`. It may be nothing.
+    /// What is known once `order` has returned `CloseAll`. It may be nothing.
     ghost closes: { Self → Type 0 };
 
-    /// What is known once `asked` has returned `End`. It may be nothing.
+    /// What is known once `order` has returned `End`. It may be nothing.
     ghost stops: { Self → Type 0 };
 
-    /// What is asked of the poller; called before each round, the first among them.
-    fn asked(&self) -> Order
+    /// The order for the next round; called before each round, the first among them.
+    fn order(&self) -> Order
         ensures goes { result ≡ GoOn → goes self.now }
         ensures closes { result ≡ CloseAll → closes self.now }
         ensures stops { result ≡ End → stops self.now };
+}
 
-    /// The counts so far; called each time before `asked`. A reply that is kept counts neither as sent nor as lost.
-    fn reported(&self, report: &Report);
-
+/// Hints in both directions between a poller and the threads that serve the routes. No contract depends on one: a wrong
+/// hint makes replies leave up to 64 rounds later, and loses nothing. Calls come from the poller's thread.
+pub trait Hints {
     /// The inbox of the route with this index accepted something from the poller: a datagram or Close.
     fn polled(&self, route: usize);
-
-    /// The reads of a round are over; they gave this many datagrams, 0 to 256. Not called in a round whose wait failed.
-    fn read_ended(&self, datagrams: u32);
 
     /// Whether the outbox of the route with this index may have a reply. It may clear that mark, since the poller then
     /// drains the outbox, and remembers if it left before that was empty.
@@ -44,6 +40,13 @@ pub trait Signals {
     /// The least index from this one on for which `take_outbox_ready` may return true; the route count or more if there
     /// is none.
     fn next_outbox_ready(&self, route: usize) -> usize;
+}
+
+/// Gets reports of a poller. No contract depends on it. Calls come from the poller's thread.
+pub trait PollerObserver {
+    /// The counters so far; called each time before `Orders::order`. A reply that is kept counts neither as sent nor as
+    /// lost.
+    fn reported(&self, report: &Report);
 
     /// The lobby, which has these names, answered this datagram of this peer, and the answer was handed to the wire or
     /// lost. Called for every answer.
@@ -57,26 +60,36 @@ pub trait Signals {
     fn failed(&self);
 }
 
-/// No hints: all rounds are made, none closes all, and every outbox may have a reply, so each round looks at all of them.
+/// Serves routes in the polling thread, between the reads and the sends of a round. No contract depends on it: a route's
+/// replies are those of its definition, whichever thread serves it.
+pub trait InlineService {
+    /// Serves routes, or leaves them to other threads. The reads of the round returned this many datagrams, 0 to 256. Not
+    /// called in a round whose wait failed.
+    fn serve_inline(&self, datagrams: u32);
+}
+
+/// All that a poller uses of the other threads of a run.
+pub trait Signals: Orders + Hints + PollerObserver + InlineService {}
+
+/// All rounds are made, none closes all, and every outbox may have a reply, so each round checks all of them. Nothing is
+/// reported, and no route is served.
 #[derive(Clone, Copy, Debug, PartialEq, Eq)]
 pub struct Unsignalled;
 
-impl Signals for Unsignalled {
+impl Orders for Unsignalled {
     ghost goes = { λ s. Unit {0} };
 
     ghost closes = { λ s. ⊥ };
 
     ghost stops = { λ s. ⊥ };
 
-    fn asked(&self) -> Order {
+    fn order(&self) -> Order {
         Order::GoOn
     }
+}
 
-    fn reported(&self, _report: &Report) {}
-
+impl Hints for Unsignalled {
     fn polled(&self, _route: usize) {}
-
-    fn read_ended(&self, _datagrams: u32) {}
 
     fn take_outbox_ready(&self, _route: usize) -> bool {
         true
@@ -85,6 +98,10 @@ impl Signals for Unsignalled {
     fn next_outbox_ready(&self, route: usize) -> usize {
         route
     }
+}
+
+impl PollerObserver for Unsignalled {
+    fn reported(&self, _report: &Report) {}
 
     fn answered(&self, _names: &Names, _peer: Peer, _datagram: &[u8], _answer: &[u8]) {}
 
@@ -92,3 +109,9 @@ impl Signals for Unsignalled {
 
     fn failed(&self) {}
 }
+
+impl InlineService for Unsignalled {
+    fn serve_inline(&self, _datagrams: u32) {}
+}
+
+impl Signals for Unsignalled {}

@@ -6,6 +6,7 @@ ghost use Rattle.srt_poller.specs.inside.Sockets.{mapped};
 
 use crate::devices::{Clock, Polled, Read, Sent, Source, Wire};
 use crate::pace::{Pace, Pause};
+use crate::tuning::{NAP_NS, RECEIVE_BUFFER};
 use libc::net;
 use libc::types::timespec;
 use mio::net::UdpSocket;
@@ -23,12 +24,6 @@ use thiserror::Error;
 #[cfg(test)]
 mod refused;
 
-// The size of the receive buffer that is requested from the system, in bytes (SO_RCVBUF).
-const RECEIVE_BUFFER: u32 = 4_194_304;
-
-// A nap.
-const NAP_NS: i64 = 100_000;
-
 /// Why a socket could not be bound. Nothing is kept then. Its text is the line that the program prints.
 #[derive(Clone, Copy, Debug, Error, PartialEq, Eq)]
 pub enum BindFault {
@@ -36,7 +31,7 @@ pub enum BindFault {
     /// `std::io::Error::from_raw_os_error` has its words.
     #[error("socket fault")]
     Socket(Option<i32>),
-    /// Memory was refused.
+    /// Out of memory.
     #[error("memory")]
     OutOfMemory,
 }
@@ -86,7 +81,7 @@ fn ask_for_room(socket: &UdpSocket) {
 
 /// Sleeps for a tenth of a millisecond, or until a signal.
 fn nap() {
-    let asked = timespec {
+    let requested = timespec {
         tv_sec: 0,
         tv_nsec: NAP_NS,
     };
@@ -94,7 +89,7 @@ fn nap() {
         tv_sec: 0,
         tv_nsec: 0,
     };
-    let _ = libc::nanosleep(&asked, &mut left);
+    let _ = libc::nanosleep(&requested, &mut left);
 }
 
 /// The peer with this IPv4 address, which becomes `::ffff:a.b.c.d`.
@@ -254,7 +249,7 @@ impl<C: Clock> Source for MioSource<C> {
         match self.shared.socket.recv_from(buffer.as_mut_slice()) {
             Ok((len, from)) => {
                 let moment = self.clock.next();
-                self.pace.came(moment);
+                self.pace.arrived(moment);
                 Read::Datagram(peer_of(from), len, moment)
             }
             Err(error) => {

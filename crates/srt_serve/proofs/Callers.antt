@@ -1,4 +1,4 @@
--- What the poller puts into a route's inbox is of callers that may call the route.
+-- What the poller puts into a route's inbox is of callers that the route admits.
 use Rattle.std.proofs.Common.{◌≡◌, ℕ, zero, suc, ◌<◌, ◌==◌, Bool, true, false, cond, Some, List, [], ◌∷◌, ◌++◌, length, map, slice_get}
 use Rattle.std.proofs.Common.{slice_index_or, refl, ap, subst, ◌∙◌, arith}
 use Rattle.std.proofs.lemmas.Bool.Decides.{nat_tests}
@@ -20,7 +20,7 @@ use Rattle.srt_poller.specs.Schedules.{CloseOffer}
 use Rattle.srt_poller.proofs.ShownInRound.{texts_after}
 use Rattle.srt_serve.specs.Callers.{IsOfCaller, CallersMayCall}
 
--- the route with this index is there among the names in force, with who may call it
+-- the route with this index is there among the names in force, with the clients that it admits
 record HasAccess (names : List RouteName) (r : ℕ) (access : AccessTerms) : Type 0 where
   name : RouteName
   there : slice_get names r ≡ Some name

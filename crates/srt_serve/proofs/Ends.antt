@@ -7,24 +7,24 @@ use Rattle.srt_mailbox.specs.Cells.{CellIdentity}
 use Rattle.srt_mailbox.specs.Ends.{Producer}
 use Rattle.srt_supervision.specs.declared.report.Report.{Report}
 use Rattle.srt_poller.specs.History.{Sorting}
-use Rattle.srt_poller.specs.Openings.{News}
+use Rattle.srt_poller.specs.Openings.{RouteReports}
 use Rattle.srt_poller.specs.Pumped.{Before, After}
 use Rattle.srt_serve.specs.Opened.{new_clocks}
 use Rattle.srt_serve.specs.inside.Polled.{Polled}
-use Rattle.srt_serve.specs.Ran.{Ran, RanUnder, Told}
-use Rattle.srt_serve.specs.Ticks.{Ticked, moments_of, came_in}
-use Rattle.srt_serve.proofs.Moments.{itself, untold, HaveTicks, have_ticks, have_further}
+use Rattle.srt_serve.specs.Ran.{Ran, RanUnder, Recorded}
+use Rattle.srt_serve.specs.Ticks.{Ticked, moments_of, added_in}
+use Rattle.srt_serve.proofs.Moments.{itself, unrecorded, HaveTicks, have_ticks, have_further}
 
--- the ends that the clock had, those that came while it ticked, and those that came after it, have ticks of the moments
-pub all_ticked : (routes routes' routes'' : List CellIdentity) (clocks clocks' clocks'' more : List Producer) (told told' : Option (List ℕ))
-    (ticked : Ticked itself untold told told' (new_clocks routes) (new_clocks routes') clocks clocks')
+-- the ends that the clock had, those added while it ticked, and those added after it, have ticks of the times
+pub all_ticked : (routes routes' routes'' : List CellIdentity) (clocks clocks' clocks'' more : List Producer) (reported reported' : Option (List ℕ))
+    (ticked : Ticked itself unrecorded reported reported' (new_clocks routes) (new_clocks routes') clocks clocks')
     → clocks ≡ new_clocks routes → new_clocks routes'' ≡ new_clocks routes' ++ more → clocks'' ≡ clocks' ++ more
     → HaveTicks (moments_of ticked.0) (new_clocks routes'') clocks''
-all_ticked routes routes' routes'' clocks clocks' clocks'' more told told' ticked first came taken =
-    let all : clocks ++ came_in ticked.0 ≡ new_clocks routes' = ap (λ (cs : List Producer). cs ++ came_in ticked.0) first ∙ sym ticked.2 in
+all_ticked routes routes' routes'' clocks clocks' clocks'' more reported reported' ticked first added taken =
+    let all : clocks ++ added_in ticked.0 ≡ new_clocks routes' = ap (λ (cs : List Producer). cs ++ added_in ticked.0) first ∙ sym ticked.2 in
     let were : HaveTicks (moments_of ticked.0) (new_clocks routes') clocks' =
     subst (λ (cs : List Producer). HaveTicks (moments_of ticked.0) cs clocks') all (have_ticks ticked.0 clocks clocks' ticked.3) in
-    rw (came, taken) (have_further (moments_of ticked.0) (new_clocks routes') clocks' more were)
+    rw (added, taken) (have_further (moments_of ticked.0) (new_clocks routes') clocks' more were)
 
 -- two tests of which each holds if the other one does
 pub same_test : (a b : Bool) → (a ≡ true → b ≡ true) → (b ≡ true → a ≡ true) → a ≡ b
@@ -33,16 +33,17 @@ same_test false true there back = back refl
 same_test false false there back = refl
 
 -- what is known of the rounds that were made
-pub rounds_for : {closes : Type 0} (class : Sorting) (schedules : List Schedule) (rounds made : ℕ) (told told' : News) (before : Before) (after : After)
-    → Polled closes class schedules rounds made told told' before after → (made ≤ rounds) × ((made ≡ rounds) ⊎ closes)
+pub rounds_for : {closes : Type 0} (class : Sorting) (schedules : List Schedule) (rounds made : ℕ) (reported reported' : RouteReports) (before : Before)
+    (after : After)
+    → Polled closes class schedules rounds made reported reported' before after → (made ≤ rounds) × ((made ≡ rounds) ⊎ closes)
 unfolding Polled
-rounds_for class schedules rounds made told told' before after polled = (polled.1, polled.2)
+rounds_for class schedules rounds made reported reported' before after polled = (polled.1, polled.2)
 
 never : {A : Type 0} → false ≡ true → A
 never h = absurd (let bad : false ≡ true = h in cc)
 
 -- nobody watched: all rounds were made, and none closed all
-pub all_made : (class : Sorting) (schedules : List Schedule) (entries : List Terms) (rounds made : ℕ) (old new : Told) (report : Report)
+pub all_made : (class : Sorting) (schedules : List Schedule) (entries : List Terms) (rounds made : ℕ) (old new : Recorded) (report : Report)
     (accounts : List Account)
     →
     (made ≤ rounds) × ((made ≡ rounds) ⊎ (false ≡ true)) → RanUnder (false ≡ true) class schedules entries made old new report accounts

@@ -1,11 +1,9 @@
--- Routes that came after the poller's last round: it did what it does if they had been there, hidden, from the beginning on.
-use Rattle.std.proofs.Common.{◌≡◌, ◌⊎◌, inl, inr, sym, ap, subst, ◌∙◌, ℕ, zero, suc, ◌+◌, ◌-◌, ◌*◌, ◌^◌, ◌<◌, ◌≤◌, Bool, true, false, refl}
-use Rattle.std.proofs.Common.{Option, None, Some, List, [], ◌∷◌, ◌++◌, length, map, slice_get, slice_index_or, append_assoc, append-nil, arith}
+-- Routes added after the poller's last round: it did what it does if they had been there, hidden, from the beginning on.
+use Rattle.std.proofs.Common.{◌≡◌, ◌⊎◌, inl, inr, sym, ap, subst, ◌∙◌, ℕ, ◌+◌, ◌*◌, ◌^◌, ◌<◌, ◌≤◌, false}
+use Rattle.std.proofs.Common.{List, [], ◌∷◌, ◌++◌, length, map, append-nil, arith}
 use Rattle.std.proofs.Math.Nat.{mul-le-mul_left}
-use Rattle.std.proofs.lemmas.Bool.{cases_lt}
-use Rattle.std.proofs.lemmas.List.{map-append, length-append, length-map, get_or_append_left, get_or-append-add}
+use Rattle.std.proofs.lemmas.List.{map-append, length-append, length-map}
 use Rattle.std.proofs.lemmas.List.Sums.{sum_by-cons}
-use Rattle.std.proofs.lemmas.Option.{slice_get_within, slice_get_past}
 use Rattle.srt_cookie.specs.declared.secret.Secret.{Secret}
 use Rattle.srt_seq.specs.declared.shared.Schedule.{Schedule}
 use Rattle.srt_lobby.specs.Names.{RouteName}
@@ -15,16 +13,17 @@ use Rattle.srt_poller.specs.Beforehand.{AgreeBefore}
 use Rattle.srt_poller.specs.Changes.{PumpedChanging, with_routes}
 use Rattle.srt_poller.specs.Devices.{joined}
 use Rattle.srt_poller.specs.History.{Event, Begins, Waits, WaitFails, ReadsNothing, ReadFails, Answers, Accepts, Overflows, Refuses, Drops}
-use Rattle.srt_poller.specs.History.{Sends, Resends, State, IsOver, at_first, round_by, state_by, state_after, waits_by, waits_in, accepted, drained}
-use Rattle.srt_poller.specs.Openings.{NewRoute, ToldRoute, told_route, names_in, ends_in, News, news_more}
-use Rattle.srt_poller.specs.Plans.{never, texts_of, IsAlone, is_asked, IsNewPlan, IsPlanOf, ArePlans, waiting}
+use Rattle.srt_poller.specs.History.{Sends, Resends, State, IsOver, at_first, round_by, state_by, state_after, waits_by, waits_in}
+use Rattle.srt_poller.specs.Openings.{NewRoute, reported_route, names_in, ends_in, RouteReports, route_reports_more}
+use Rattle.srt_poller.specs.Plans.{never, texts_of, ArePlans, waiting}
 use Rattle.srt_poller.specs.Pollers.{sorting}
 use Rattle.srt_poller.specs.Pumped.{Before, After, PumpedUnder, after}
-use Rattle.srt_poller.specs.Rounds.{IsLater, AreLater}
 use Rattle.srt_poller.proofs.Beforehand.{earlier_rounds_are_same, lobby_ignores_later}
-use Rattle.srt_poller.proofs.Joined.{joined_none, joined_twice}
-use Rattle.srt_poller.proofs.Replanning.{agree_append, wait_later}
-use Rattle.srt_poller.proofs.Steps.{later_none}
+use Rattle.srt_poller.proofs.Additions.{hidden_more, nothing_more}
+use Rattle.srt_poller.proofs.Extending.{are_later_more}
+use Rattle.srt_poller.proofs.Joined.{joined_none}
+use Rattle.srt_poller.proofs.Remaking.{all_names, all_ends, reports_twice}
+use Rattle.srt_poller.proofs.Replanning.{agree_append, wait_later, plans_with}
 use Rattle.srt_serve.specs.inside.Polled.{Polled}
 
 -- the number of the round is that of the waits
@@ -50,127 +49,16 @@ round_after schedules s (event ∷ events) =
     let all = sum_by-cons waits_by event events in
     rest ∙ (let same : round_by s.round event + waits_in events ≡ s.round + waits_in (event ∷ events) = omega (arith, one, all) in same)
 
--- lists that go on
-get_left : {A : Type 0} (xs ys : List A) (r : ℕ) → r < length xs → slice_get (xs ++ ys) r ≡ slice_get xs r
-get_left [] ys r within = absurd (omega (arith, within))
-get_left (x ∷ xs) ys zero within = refl
-get_left (x ∷ xs) ys (suc r) within = get_left xs ys r (omega (arith, within))
+-- what was reported, and the names and ends of the routes, with further ones after them
+reported_with : (reported : RouteReports) (added more : List NewRoute) (requested : List ℕ) →
+    route_reports_more (route_reports_more reported added requested) more [] ≡ route_reports_more reported (added ++ more) requested
+reported_with reported added more requested =
+    reports_twice reported added more requested []
+    ∙ ap (λ (rs : List ℕ). route_reports_more reported (added ++ more) rs) (append-nil requested)
 
-get_right : {A : Type 0} (xs ys : List A) (n : ℕ) → slice_get (xs ++ ys) (length xs + n) ≡ slice_get ys n
-get_right [] ys n = let same : 0 + n ≡ n = omega arith in ap (slice_get ys) same
-get_right (x ∷ xs) ys n =
-    let same : suc (length xs) + n ≡ suc (length xs + n) = omega arith in
-    ap (slice_get (x ∷ xs ++ ys)) same ∙ get_right xs ys n
-
--- the ends of further routes stay as they are
-later_with : (events : List Event) (x y more : List Ends) → AreLater events x y → AreLater events (x ++ more) (y ++ more)
-later_with events x y more h = record {
-  as_many = let a = h.as_many in omega (arith, a, length-append x more, length-append y more);
-  each = λ r e below. by r e (cases_lt r (length x));
-  others = λ r past. h.others r (omega (arith, past, length-append x more));
-}
-  where
-    beyond : (r n : ℕ) (e : Ends) → r ≡ length x + n →
-        IsLater (accepted r events) (drained r events) (slice_index_or (x ++ more) r e) (slice_index_or (y ++ more) r e)
-    beyond r n e at =
-        let none = h.others r (omega (arith, at)) in
-        let as_many : r ≡ length y + n = omega (arith, at, h.as_many) in
-        rw (
-          none.0,
-          none.1,
-          ap (λ k. slice_index_or (x ++ more) k e) at ∙ get_or-append-add x more n e,
-          ap (λ k. slice_index_or (y ++ more) k e) as_many ∙ get_or-append-add y more n e,
-        ) (later_none (slice_index_or more n e))
-
-    by : (r : ℕ) (e : Ends) → (r < length x) ⊎ (length x ≤ r) →
-        IsLater (accepted r events) (drained r events) (slice_index_or (x ++ more) r e) (slice_index_or (y ++ more) r e)
-    by r e (inl within) =
-        let there : r < length y = omega (arith, within, h.as_many) in
-        rw (get_or_append_left x more e r within, get_or_append_left y more e r there) (h.each r e within)
-    by r e (inr past) = beyond r (r - length x) e (omega (arith, past))
-
--- plans are the same with further names behind the others
-alone_before : (texts more : List (List ℕ)) (r : ℕ) → IsAlone (texts ++ more) r → IsAlone texts r
-alone_before texts more r alone i text here there =
-    alone i text (get_left texts more r (slice_get_within texts r text here) ∙ here) (get_left texts more i (slice_get_within texts i text there) ∙ there)
-
-plan_before : (k : ℕ) (W A A' : Type 0) (a : Bool) (o : Option Schedule) (t : Schedule) → (A' → A) → IsPlanOf k W A a o t → IsPlanOf k W A' a o t
-plan_before k W A A' a None t f h = record { opens = λ alone. h.opens (f alone); kept = h.kept; closes = h.closes }
-plan_before k W A A' a (Some s) t f h =
-    record {
-      same = λ alone. h.same (f alone);
-      later = h.later;
-      missed = h.missed;
-      kept = h.kept;
-      sooner = h.sooner;
-      closes = h.closes;
-    }
-
-plan_waits : (k : ℕ) (W A : Type 0) (a : Bool) (t : Schedule) → W → t ≡ waiting → (a ≡ true → ⊥) → IsNewPlan k W A a t
-plan_waits k W A a t w is unasked = record {
-  opens = λ alone no. inr (ap (λ (s : Schedule). s.open_round) is, w);
-  kept = λ no. ap (λ (s : Schedule). s.close_round) is;
-  closes = λ asked. absurd (unasked asked);
-}
-
-all_wait : (more : List NewRoute) (i : ℕ) (t : Schedule) → slice_get (map (λ n. waiting) more) i ≡ Some t → t ≡ waiting
-all_wait [] i t h = cc
-all_wait (n ∷ more) zero t h = let same : waiting ≡ t = cc in sym same
-all_wait (n ∷ more) (suc i) t h = all_wait more i t h
-
-plans_with : (k : ℕ) (W : Type 0) (schedules : List Schedule) (texts others : List (List ℕ)) (asked : List ℕ) (ps : List Schedule) (more : List NewRoute)
-    → W → length others ≡ length more → ArePlans k (λ r. W) schedules texts asked ps
-    → ArePlans k (λ r. W) schedules (texts ++ others) asked (ps ++ map (λ n. waiting) more)
-plans_with k W schedules texts others asked ps more w many h = record {
-  as_many = let a = h.as_many in omega (arith, a, many, length-append ps ws, length-append texts others, length-map more (λ n. waiting));
-  fewer = omega (arith, h.fewer, length-append ps ws);
-  known = λ r is. omega (arith, h.known r is, length-append ps ws);
-  each = λ r t at. by r t at (cases_lt r (length ps));
-}
-  where
-    ws : List Schedule
-    ws = map (λ n. waiting) more
-
-    new : (r n : ℕ) (t : Schedule) → r ≡ length ps + n → slice_get (ps ++ ws) r ≡ Some t →
-        IsPlanOf k W (IsAlone (texts ++ others) r) (is_asked asked r) (slice_get schedules r) t
-    new r n t same at =
-        let none : slice_get schedules r ≡ None = slice_get_past schedules r (omega (arith, same, h.fewer)) in
-        let here : t ≡ waiting = all_wait more n t (sym (get_right ps ws n) ∙ ap (slice_get (ps ++ ws)) (sym same) ∙ at) in
-        let unasked : is_asked asked r ≡ true → ⊥ = λ is. let within = h.known r is in omega (arith, within, same) in
-        subst (λ (o : Option Schedule). IsPlanOf k W (IsAlone (texts ++ others) r) (is_asked asked r) o t) (sym none)
-        (plan_waits k W (IsAlone (texts ++ others) r) (is_asked asked r) t w here unasked)
-
-    by : (r : ℕ) (t : Schedule) → slice_get (ps ++ ws) r ≡ Some t → (r < length ps) ⊎ (length ps ≤ r) →
-        IsPlanOf k W (IsAlone (texts ++ others) r) (is_asked asked r) (slice_get schedules r) t
-    by r t at (inl within) =
-        plan_before k W (IsAlone texts r) (IsAlone (texts ++ others) r) (is_asked asked r) (slice_get schedules r) t (alone_before texts others r)
-        (h.each r t (sym (get_left ps ws r within) ∙ at))
-    by r t at (inr past) = new r (r - length ps) t (omega (arith, past)) at
-
--- what was told, and the names and ends of the routes, with further ones behind them
-told_with : (told : News) (came more : List NewRoute) (asked : List ℕ) → news_more (news_more told came asked) more [] ≡ news_more told (came ++ more) asked
-told_with told came more asked =
-    λ i. record {
-      came = (joined_twice told.came (map told_route came) (map told_route more)
-          ∙ ap (λ (l : List ToldRoute). joined told.came l) (sym (map-append told_route came more))) i;
-      asked = joined_none (joined told.asked asked) i;
-    }
-
-told_same : (told : News) → news_more told [] [] ≡ told
-told_same told = λ i. record { came = joined_none told.came i; asked = joined_none told.asked i }
-
-all_names : (names : List RouteName) (came more : List NewRoute) → (names ++ names_in came) ++ names_in more ≡ names ++ names_in (came ++ more)
-all_names names came more =
-    append_assoc names (names_in came) (names_in more)
-    ∙ ap (λ (l : List RouteName). names ++ l) (sym (map-append (λ (n : NewRoute). n.name) came more))
-
-all_ends : (ends : List Ends) (came more : List NewRoute) → (ends ++ ends_in came) ++ ends_in more ≡ ends ++ ends_in (came ++ more)
-all_ends ends came more =
-    append_assoc ends (ends_in came) (ends_in more) ∙ ap (λ (l : List Ends). ends ++ l) (sym (map-append (λ (n : NewRoute). n.ends) came more))
-
-routes_with : (b : Before) (came more : List NewRoute) → with_routes more (with_routes came b) ≡ with_routes (came ++ more) b
-routes_with b came more =
-    λ i. record { names = all_names b.names came more i; source = b.source; wire = b.wire; ends = all_ends b.ends came more i }
+routes_with : (b : Before) (added more : List NewRoute) → with_routes more (with_routes added b) ≡ with_routes (added ++ more) b
+routes_with b added more =
+    λ i. record { names = all_names b.names added more i; source = b.source; wire = b.wire; ends = all_ends b.ends added more i }
 
 abbrev with_late : List NewRoute → After → After
 with_late more a = after (a.names ++ names_in more) a.source a.wire (a.ends ++ ends_in more) a.report
@@ -203,7 +91,7 @@ module _ {closes : Type 0} (secret : Secret) (made : ℕ) (more : List NewRoute)
           called = p.called;
           handed = p.handed;
           attempted = p.attempted;
-          ends = later_with events b.ends a.ends (ends_in more) p.ends;
+          ends = are_later_more events b.ends a.ends (ends_in more) p.ends;
           origins = p.origins;
           report = p.report;
           sums = λ few. p.sums (omega (arith, few, fewer));
@@ -218,40 +106,40 @@ module _ {closes : Type 0} (secret : Secret) (made : ℕ) (more : List NewRoute)
         },
       )
 
-  changed_with : (schedules : List Schedule) (b : Before) (a : After) (told told' : News) → closes → made ≤ never
-      → PumpedChanging (Unit {0}) closes (sorting secret) schedules made told told' b a
-      → PumpedChanging (Unit {0}) closes (sorting secret) schedules made told (news_more told' more []) b (with_late more a)
-  changed_with schedules b a told told' known small changed =
-      let came = changed.0 in
-      let asked = changed.1 in
+  changed_with : (schedules : List Schedule) (b : Before) (a : After) (reported reported' : RouteReports) → closes → made ≤ never
+      → PumpedChanging (Unit {0}) closes (sorting secret) schedules made reported reported' b a
+      → PumpedChanging (Unit {0}) closes (sorting secret) schedules made reported (route_reports_more reported' more []) b (with_late more a)
+  changed_with schedules b a reported reported' known small changed =
+      let added = changed.0 in
+      let requested = changed.1 in
       let plans = changed.2 in
       let by = changed.3 in
-      let first = b.names ++ names_in came in
+      let first = b.names ++ names_in added in
       let later = plans ++ map (λ n. waiting) more in
       let many : length plans ≡ length first = by.planned.as_many ∙ length-map first (λ name. name.text) in
       let others : length (texts_of (names_in more)) ≡ length more = length-map (names_in more) (λ name. name.text) ∙ length-map more (λ n. n.name) in
-      let planned : ArePlans made (λ r. closes) schedules (texts_of first ++ texts_of (names_in more)) asked later =
-      plans_with made closes schedules (texts_of first) (texts_of (names_in more)) asked plans more known others by.planned in
-      let texts : texts_of first ++ texts_of (names_in more) ≡ texts_of (b.names ++ names_in (came ++ more)) =
-      sym (map-append (λ name. name.text) first (names_in more)) ∙ ap texts_of (all_names b.names came more) in (
-        came ++ more,
-        asked,
+      let planned : ArePlans made (λ r. closes) schedules (texts_of first ++ texts_of (names_in more)) requested later =
+      plans_with made closes schedules (texts_of first) (texts_of (names_in more)) requested plans more known others by.planned in
+      let texts : texts_of first ++ texts_of (names_in more) ≡ texts_of (b.names ++ names_in (added ++ more)) =
+      sym (map-append (λ name. name.text) first (names_in more)) ∙ ap texts_of (all_names b.names added more) in (
+        added ++ more,
+        requested,
         later,
         record {
-          news = ap (λ (n : News). news_more n more []) by.news ∙ told_with told came more asked;
-          planned = subst (λ (ts : List (List ℕ)). ArePlans made (λ r. closes) schedules ts asked later) texts planned;
+          reports = ap (λ (n : RouteReports). route_reports_more n more []) by.reports ∙ reported_with reported added more requested;
+          planned = subst (λ (ts : List (List ℕ)). ArePlans made (λ r. closes) schedules ts requested later) texts planned;
           pumped =
-              subst (λ (old : Before). PumpedUnder (Unit {0}) closes (sorting secret) later made old (with_late more a)) (routes_with b came more)
-              (pumped_with (with_routes came b) a plans small many by.pumped);
+              subst (λ (old : Before). PumpedUnder (Unit {0}) closes (sorting secret) later made old (with_late more a)) (routes_with b added more)
+              (pumped_with (with_routes added b) a plans small many by.pumped);
         },
       )
 
-  -- the same of a poller that may not have been told of routes
-  polled_with : (schedules : List Schedule) (rounds : ℕ) (b : Before) (a : After) (told told' : News) → rounds ≤ 2 ^ 48 → (more ≡ []) ⊎ closes
-      → Polled closes (sorting secret) schedules rounds made told told' b a
-      → Polled closes (sorting secret) schedules rounds made told (news_more told' more []) b (with_late more a)
+  -- the same of a poller to which no routes may have been reported
+  polled_with : (schedules : List Schedule) (rounds : ℕ) (b : Before) (a : After) (reported reported' : RouteReports) → rounds ≤ 2 ^ 48 → (more ≡ []) ⊎ closes
+      → Polled closes (sorting secret) schedules rounds made reported reported' b a
+      → Polled closes (sorting secret) schedules rounds made reported (route_reports_more reported' more []) b (with_late more a)
   unfolding Polled
-  polled_with schedules rounds b a told told' small may polled =
+  polled_with schedules rounds b a reported reported' small may polled =
       let within = polled.1 in
       let early : made ≤ never = omega (arith, small, within) in (
         elim polled.0 [
@@ -259,7 +147,7 @@ module _ {closes : Type 0} (secret : Secret) (made : ℕ) (more : List NewRoute)
             | inl nothing ↦
                 inl (
                   none.0,
-                  ap (λ (rs : List NewRoute). news_more told' rs []) nothing ∙ told_same told' ∙ none.1,
+                  ap (λ (rs : List NewRoute). route_reports_more reported' rs []) nothing ∙ sym (nothing_more reported') ∙ none.1,
                   subst (λ (new : After). PumpedUnder (Unit {0}) closes (sorting secret) schedules made b new)
                       (λ i. record {
                         names = (sym (append-nil a.names) ∙ ap (λ (rs : List NewRoute). a.names ++ names_in rs) (sym nothing)) i;
@@ -271,52 +159,48 @@ module _ {closes : Type 0} (secret : Secret) (made : ℕ) (more : List NewRoute)
                 )
             | inr known ↦ absurd (none.0 known)
           ]
-          | inr some ↦ inr (some.0, changed_with schedules b a told told' some.0 early some.1)
+          | inr some ↦ inr (some.0, changed_with schedules b a reported reported' some.0 early some.1)
         ],
         polled.1,
         polled.2,
       )
 
--- What a poller did, after these routes were taken. They came only if `watched` is known
+-- What a poller did, after these routes were taken. They were added only if `watched` is known
 pub polled_late : {closes watched : Type 0} (secret : Secret) (schedules : List Schedule) (rounds made : ℕ) (b : Before) (a : After) (ends : List Ends)
-    (told told' told'' : News)
+    (reported reported' reported'' : RouteReports)
     →
     rounds ≤ 2 ^ 48 → (watched → closes)
-    → (late : (more : List NewRoute) × ((more ≡ []) ⊎ watched) × AreHidden (names_in more) × (told'' ≡ news_more told' more [])
+    → (late : (more : List NewRoute) × ((more ≡ []) ⊎ watched) × AreHidden (names_in more) × (reported'' ≡ route_reports_more reported' more [])
     × (ends ≡ a.ends ++ ends_in more))
-    → Polled closes (sorting secret) schedules rounds made told told' b a
-    → Polled closes (sorting secret) schedules rounds made told told'' b (after (a.names ++ names_in late.0) a.source a.wire ends a.report)
-polled_late {closes} secret schedules rounds made b a ends told told' told'' small known late polled =
+    → Polled closes (sorting secret) schedules rounds made reported reported' b a
+    → Polled closes (sorting secret) schedules rounds made reported reported'' b (after (a.names ++ names_in late.0) a.source a.wire ends a.report)
+polled_late {closes} secret schedules rounds made b a ends reported reported' reported'' small known late polled =
     let may : (late.0 ≡ []) ⊎ closes = elim late.1 [
       | inl nothing ↦ inl nothing
       | inr some ↦ inr (known some)
     ] in
     subst
     (λ (es : List Ends).
-    Polled closes (sorting secret) schedules rounds made told told'' b (after (a.names ++ names_in late.0) a.source a.wire es a.report))
+    Polled closes (sorting secret) schedules rounds made reported reported'' b (after (a.names ++ names_in late.0) a.source a.wire es a.report))
     (sym late.4)
-    (subst (λ (news : News). Polled closes (sorting secret) schedules rounds made told news b (with_late late.0 a)) (sym late.3)
-    (polled_with secret made late.0 late.2 schedules rounds b a told told' small may polled))
+    (subst (λ (reports : RouteReports). Polled closes (sorting secret) schedules rounds made reported reports b (with_late late.0 a)) (sym late.3)
+    (polled_with secret made late.0 late.2 schedules rounds b a reported reported' small may polled))
 
 -- these routes were taken so far
-abbrev pub TakenLate : (told told' : News) → (ends ends' : List Ends) → Type 0
-TakenLate told told' ends ends' =
-    (more : List NewRoute) × AreHidden (names_in more) × (told' ≡ news_more told more []) × (ends' ≡ ends ++ ends_in more)
-
-hidden_then : (more : List NewRoute) (n : NewRoute) → AreHidden (names_in more) → n.name.is_shown ≡ false → AreHidden (names_in (more ++ n ∷ []))
-hidden_then [] n hidden this = (this, tt)
-hidden_then (m ∷ more) n hidden this = (hidden.0, hidden_then more n hidden.1 this)
+abbrev pub TakenLate : (reported reported' : RouteReports) → (ends ends' : List Ends) → Type 0
+TakenLate reported reported' ends ends' =
+    (more : List NewRoute) × AreHidden (names_in more) × (reported' ≡ route_reports_more reported more []) × (ends' ≡ ends ++ ends_in more)
 
 -- one route more
-pub late_more : (told told' told'' : News) (ends ends' ends'' : List Ends) (n : NewRoute) → n.name.is_shown ≡ false
-    → told''.came ≡ joined told'.came (told_route n ∷ []) → told''.asked ≡ told'.asked → ends'' ≡ ends' ++ n.ends ∷ []
-    → TakenLate told told' ends ends' → TakenLate told told'' ends ends''
-late_more told told' told'' ends ends' ends'' n hidden came asked grew late =
+pub late_more : (reported reported' reported'' : RouteReports) (ends ends' ends'' : List Ends) (n : NewRoute) → n.name.is_shown ≡ false
+    → reported''.added ≡ joined reported'.added (reported_route n ∷ []) → reported''.requested ≡ reported'.requested → ends'' ≡ ends' ++ n.ends ∷ []
+    → TakenLate reported reported' ends ends' → TakenLate reported reported'' ends ends''
+late_more reported reported' reported'' ends ends' ends'' n hidden added requested grew late =
     let more = late.0 in
-    let next : told'' ≡ news_more told' (n ∷ []) [] =
-    λ i. record { came = came i; asked = (asked ∙ sym (joined_none told'.asked)) i } in (
+    let next : reported'' ≡ route_reports_more reported' (n ∷ []) [] =
+    λ i. record { added = added i; requested = (requested ∙ sym (joined_none reported'.requested)) i } in (
       more ++ n ∷ [],
-      hidden_then more n late.1 hidden,
-      next ∙ ap (λ (t : News). news_more t (n ∷ []) []) late.2 ∙ told_with told more (n ∷ []) [],
+      hidden_more more n late.1 hidden,
+      next ∙ ap (λ (t : RouteReports). route_reports_more t (n ∷ []) []) late.2 ∙ reported_with reported more (n ∷ []) [],
       grew ∙ ap (λ (es : List Ends). es ++ n.ends ∷ []) late.3 ∙ all_ends ends more (n ∷ []),
     )

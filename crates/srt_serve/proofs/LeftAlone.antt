@@ -20,7 +20,7 @@ use Rattle.srt_poller.specs.Devices.{Arrival}
 use Rattle.srt_poller.specs.Schedules.{CloseOffer}
 use Rattle.srt_poller.specs.History.{Event, Begins, Waits, WaitFails, ReadsNothing, ReadFails, Answers, Accepts, Overflows, Refuses, Drops, Sends, Resends}
 use Rattle.srt_poller.specs.History.{at_route, closing_by, closings, accepted_by, accepted}
-use Rattle.srt_poller.specs.Plans.{texts_of, IsAlone, is_asked, Became, IsPlanOf, ArePlans, never}
+use Rattle.srt_poller.specs.Plans.{texts_of, IsAlone, is_requested, Became, IsPlanOf, ArePlans, never}
 use Rattle.srt_serve.specs.NamesAtStart.{until, later_hidden, first_names}
 use Rattle.srt_serve.specs.Unchanged.{sorted_by, sorted_to, missed_by, missed, is_received, received, item_of, OwnScheduleDecides, AcceptedAreSorted}
 use Rattle.srt_serve.specs.Unchanged.{closes_route, beginning_by, beginnings, own_marks, LeftAsItWas, NothingChanged, ChangingRunsAreSo, UnchangingRunsAreSo}
@@ -161,41 +161,41 @@ name_at_first schedules entries r s terms at there =
 same_schedule : (s t : Schedule) → t.open_round ≡ s.open_round → t.close_round ≡ s.close_round → t ≡ s
 same_schedule s t opens closes = λ i. record { open_round = opens i; close_round = closes i }
 
--- what a schedule has become, if the route's name is its own and it wasn't asked to close
-same_opening : (asked : Bool) (s t : Schedule) → asked ≡ false → (t.open_round ≡ s.open_round) ⊎ ((asked ≡ true) × (t.open_round ≡ never))
+-- what a schedule has become, if the route's name is its own and it wasn't requested to close
+same_opening : (requested : Bool) (s t : Schedule) → requested ≡ false → (t.open_round ≡ s.open_round) ⊎ ((requested ≡ true) × (t.open_round ≡ never))
     → t.open_round ≡ s.open_round
-same_opening asked s t unasked (inl same) = same
-same_opening asked s t unasked (inr bad) = let both : false ≡ true = sym unasked ∙ bad.0 in cc
+same_opening requested s t unrequested (inl same) = same
+same_opening requested s t unrequested (inr bad) = let both : false ≡ true = sym unrequested ∙ bad.0 in cc
 
-kept_as : (rounds : ℕ) (alone : Type 0) (asked : Bool) (s t : Schedule) → alone → asked ≡ false → Became rounds alone asked s t → t ≡ s
-kept_as rounds alone asked s t is unasked became =
-    same_schedule s t (same_opening asked s t unasked (became.same is)) (became.kept unasked)
+kept_as : (rounds : ℕ) (alone : Type 0) (requested : Bool) (s t : Schedule) → alone → requested ≡ false → Became rounds alone requested s t → t ≡ s
+kept_as rounds alone requested s t is unrequested became =
+    same_schedule s t (same_opening requested s t unrequested (became.same is)) (became.kept unrequested)
 
-schedule_kept : (rounds : ℕ) (schedules : List Schedule) (texts : List (List ℕ)) (asked : List ℕ) (later : List Schedule) (r : ℕ) (s : Schedule)
-    → ArePlans rounds (λ k. Unit {0}) schedules texts asked later → slice_get schedules r ≡ Some s → is_asked asked r ≡ false → IsAlone texts r
+schedule_kept : (rounds : ℕ) (schedules : List Schedule) (texts : List (List ℕ)) (requested : List ℕ) (later : List Schedule) (r : ℕ) (s : Schedule)
+    → ArePlans rounds (λ k. Unit {0}) schedules texts requested later → slice_get schedules r ≡ Some s → is_requested requested r ≡ false → IsAlone texts r
     → slice_get later r ≡ Some s
-schedule_kept rounds schedules texts asked later r s plans at unasked alone = by (slice_get later r) refl
+schedule_kept rounds schedules texts requested later r s plans at unrequested alone = by (slice_get later r) refl
   where
     by : (o : Option Schedule) → slice_get later r ≡ o → slice_get later r ≡ Some s
     by (Some t) h =
-        h ∙ ap Some (kept_as rounds (IsAlone texts r) (is_asked asked r) s t alone unasked
-        (subst (λ (o : Option Schedule). IsPlanOf rounds (Unit {0}) (IsAlone texts r) (is_asked asked r) o t) at (plans.each r t h)))
+        h ∙ ap Some (kept_as rounds (IsAlone texts r) (is_requested requested r) s t alone unrequested
+        (subst (λ (o : Option Schedule). IsPlanOf rounds (Unit {0}) (IsAlone texts r) (is_requested requested r) o t) at (plans.each r t h)))
     by None h =
         let within : r < length schedules = slice_get_within schedules r s at in
         let bad : Some (get_or later r s) ≡ None = sym (slice_get-get_or later r s (omega (arith, within, plans.fewer))) ∙ h in
         cc
 
 pub left_as_it_was : LeftAsItWas
-left_as_it_was schedules entries came asked t is r terms s there at unasked alone = (
+left_as_it_was schedules entries added requested t is r terms s there at unrequested alone = (
   record {
     named =
         ap (λ (ns : List RouteName). slice_get ns r) is.names_are
-        ∙ get_left (first_names schedules entries) (map (λ e. as_hidden (name_of e)) came) r (until s.open_round (name_of terms))
+        ∙ get_left (first_names schedules entries) (map (λ e. as_hidden (name_of e)) added) r (until s.open_round (name_of terms))
         (name_at_first schedules entries r s terms at there);
     alone = alone;
-    scheduled = schedule_kept t.rounds schedules (texts_of t.names) asked t.schedules r s is.planned at unasked alone;
+    scheduled = schedule_kept t.rounds schedules (texts_of t.names) requested t.schedules r s is.planned at unrequested alone;
   },
-  ap (λ (es : List Terms). slice_get es r) is.entries_are ∙ get_left entries came r terms there,
+  ap (λ (es : List Terms). slice_get es r) is.entries_are ∙ get_left entries added r terms there,
 )
 
 pub nothing_changed : NothingChanged
@@ -216,7 +216,7 @@ pub unchanging_runs_are_so : UnchangingRunsAreSo
 unchanging_runs_are_so class schedules entries rounds old new report accounts ran =
     (ran.0, ran.1, record { names_are = refl; entries_are = refl; schedules_are = refl; ran = ran.2 })
 
--- the names of entries are shown, so that a text among theirs is a name
+-- the names of entries are visible, so that a text among theirs is a name
 is_named : (entries : List Terms) (r : ℕ) (text : List ℕ) → slice_get (texts_of (map name_of entries)) r ≡ Some text
     → has_name_at (map name_of entries) r text ≡ true
 is_named [] r text h = cc
@@ -263,8 +263,8 @@ refused_changes_nothing schedules entries t sound many is =
     }
 
 pub as_if_nothing_happened : AsIfNothingHappened
-as_if_nothing_happened secret schedules entries came asked t u r terms s h =
-    let is = (left_as_it_was schedules entries came asked t h.changing r terms s h.there h.scheduled h.unasked h.alone).0 in
+as_if_nothing_happened secret schedules entries added requested t u r terms s h =
+    let is = (left_as_it_was schedules entries added requested t h.changing r terms s h.there h.scheduled h.unrequested h.alone).0 in
     let alone_there : IsAlone (texts_of u.names) r =
     subst (λ (ns : List RouteName). IsAlone (texts_of ns) r) (sym h.unchanging.names_are) (names_are_alone schedules entries h.sound r) in
     let is' = (nothing_changed schedules entries u h.unchanging r terms s h.there h.scheduled alone_there).0 in
@@ -286,9 +286,9 @@ as_if_nothing_happened secret schedules entries came asked t u r terms s h =
     )
 
 pub sent_as_if_nothing_happened : SentAsIfNothingHappened
-sent_as_if_nothing_happened secret schedules entries came asked t u r terms s h a b ran ran' served served' ticks places =
+sent_as_if_nothing_happened secret schedules entries added requested t u r terms s h a b ran ran' served served' ticks places =
     routes_are_isolated terms r t.events u.events t.moments u.moments a b ran ran'
     (same_items_are_taken terms terms r t.events u.events t.moments u.moments a b ran ran'
-    ((as_if_nothing_happened secret schedules entries came asked t u r terms s h).2 served.none_missed served'.none_missed served.stays_open)
+    ((as_if_nothing_happened secret schedules entries added requested t u r terms s h).2 served.none_missed served'.none_missed served.stays_open)
     ticks places served.none_left served'.none_left)
     served.sent_all served'.sent_all

@@ -1,4 +1,4 @@
--- Whether a route is shown in each round, by its own schedule and its own closings.
+-- Whether a route is visible in each round, by its own schedule and its own closings.
 use Rattle.std.proofs.Common.{◌≡◌, ℕ, zero, suc, ◌+◌, ◌==◌, ◌&&◌, ◌||◌, Bool, true, false, not, Some, List, [], ◌∷◌, slice_get, refl, sym, ap, ◌∙◌}
 use Rattle.std.proofs.Common.{◌≢◌, ◌⊎◌, inl, inr}
 use Rattle.std.specs.Prelude.{if◌then◌else◌}
@@ -17,7 +17,7 @@ use Rattle.srt_poller.proofs.ShownInRound.{texts_after}
 use Rattle.srt_serve.specs.Unchanged.{marks_from, Beginning, closes_route, beginnings, mark_after, own_marks, MarksAreOwn}
 use Rattle.srt_serve.proofs.Sorted.{has_place}
 
--- the names once those are shown that open in a round
+-- the names once those are visible that open in a round
 opened_mark : (round : ℕ) (schedules : List Schedule) (names : List RouteName) (r : ℕ) (s : Schedule) (n : RouteName)
     → slice_get schedules r ≡ Some s → slice_get names r ≡ Some n
     → is_shown_at (opened round schedules names) r ≡ (is_shown_at names r || (s.open_round == round))

@@ -5,7 +5,7 @@ use Rattle.std.proofs.lemmas.List.{map-append}
 use Rattle.std.proofs.Math.Seq.{take-append_seam}
 use Rattle.srt_mailbox.specs.Ends.{Producer, producer}
 use Rattle.srt_poller.specs.Devices.{joined}
-use Rattle.srt_serve.specs.Ticks.{IsWithin, TickOf, tick, accepts, accepts_all, moments_of, came_in, WasTicked, WereTicked, WereTickedIn, Ticked}
+use Rattle.srt_serve.specs.Ticks.{IsWithin, TickOf, tick, accepts, accepts_all, moments_of, added_in, WasTicked, WereTicked, WereTickedIn, Ticked}
 use Rattle.srt_poller.proofs.Joined.{joined_none, joined_twice}
 use Rattle.srt_serve.proofs.Within.{within_append}
 
@@ -21,7 +21,7 @@ accepts_again xs ys a b c h k =
 module _ {E : Type 0} (inbox : E → Producer) (tried : E → Option (List ℕ)) where
   pub was_again : (ms ns : List ℕ) (a b c : E) → WasTicked inbox tried ms a b → WasTicked inbox tried ns b c → WasTicked inbox tried (ms ++ ns) a c
   was_again ms ns a b c h k = (
-    k.0 ∙ ap (λ told. joined told ns) h.0 ∙ joined_twice (tried a) ms ns,
+    k.0 ∙ ap (λ reported. joined reported ns) h.0 ∙ joined_twice (tried a) ms ns,
     h.1 ++ k.1,
     within_append h.1 ms k.1 ns h.2 k.2,
     accepts_again h.1 k.1 (inbox a) (inbox b) (inbox c) h.3 k.3,
@@ -36,8 +36,8 @@ module _ {E : Type 0} (inbox : E → Producer) (tried : E → Option (List ℕ))
 
   pub was_one : (m : ℕ) (a b : E)
       → (inbox b ≡ inbox a) ⊎ (inbox b ≡ accepts m (inbox a)) → tried b ≡ joined (tried a) (m ∷ []) → WasTicked inbox tried (m ∷ []) a b
-  was_one m a b (inl h) told = (told, [], tt, h ∙ accepts_none (inbox a))
-  was_one m a b (inr h) told = (told, m ∷ [], inl (refl, tt), h)
+  was_one m a b (inl h) reported = (reported, [], tt, h ∙ accepts_none (inbox a))
+  was_one m a b (inr h) reported = (reported, m ∷ [], inl (refl, tt), h)
 
   pub were_not : (was : List E) → WereTicked inbox tried [] was was
   were_not [] = tt
@@ -101,15 +101,15 @@ module _ {E : Type 0} (inbox : E → Producer) (tried : E → Option (List ℕ))
       let same : length bs ≡ length was = as_many ms was bs h in
       rw (places ∙ sym same, take-append_seam bs (drop (length bs) was)) h
 
-  -- a tick more, and the ends that came before it
-  pub one_tick_more : (gave given given' : Option (List ℕ)) (came came' came'' : List E) (old bs cs : List E) (m : ℕ) (more : List E)
-      → Ticked inbox tried gave given came came' old bs
-      → given' ≡ joined given (m ∷ []) → came'' ≡ came' ++ more → WereTicked inbox tried (m ∷ []) (bs ++ more) cs
-      → Ticked inbox tried gave given' came came'' old cs
-  one_tick_more gave given given' came came' came'' old bs cs m more h told grew k = (
-    record { came = more; moment = m } ∷ h.0,
-    told ∙ ap (λ was. joined was (m ∷ [])) h.1 ∙ joined_twice gave (moments_of h.0) (m ∷ []),
-    grew ∙ ap (λ was. was ++ more) h.2 ∙ append_assoc came (came_in h.0) more,
+  -- a tick more, and the ends added before it
+  pub one_tick_more : (gave given given' : Option (List ℕ)) (added added' added'' : List E) (old bs cs : List E) (m : ℕ) (more : List E)
+      → Ticked inbox tried gave given added added' old bs
+      → given' ≡ joined given (m ∷ []) → added'' ≡ added' ++ more → WereTicked inbox tried (m ∷ []) (bs ++ more) cs
+      → Ticked inbox tried gave given' added added'' old cs
+  one_tick_more gave given given' added added' added'' old bs cs m more h reported grew k = (
+    record { added = more; moment = m } ∷ h.0,
+    reported ∙ ap (λ was. joined was (m ∷ [])) h.1 ∙ joined_twice gave (moments_of h.0) (m ∷ []),
+    grew ∙ ap (λ was. was ++ more) h.2 ∙ append_assoc added (added_in h.0) more,
     (bs, h.3, k),
   )
 
@@ -117,10 +117,10 @@ module _ {E : Type 0} (inbox : E → Producer) (tried : E → Option (List ℕ))
 abbrev pub itself : Producer → Producer
 itself c = c
 
-abbrev pub untold : Producer → Option (List ℕ)
-untold c = None
+abbrev pub unrecorded : Producer → Option (List ℕ)
+unrecorded c = None
 
--- the inbox of this end accepted ticks of some of these moments
+-- the inbox of this end accepted ticks of some of these times
 abbrev pub HasTicks : (moments : List ℕ) → Producer → Producer → Type 0
 HasTicks ms a b = (accepted : List ℕ) × IsWithin accepted ms × (b ≡ accepts_all accepted a)
 
@@ -141,7 +141,7 @@ have_further ms (a ∷ was) [] more h = absurd h
 have_further ms (a ∷ was) (b ∷ bs) more h = (h.0, have_further ms was bs more h.1)
 
 have_again : (ms : List ℕ) (m : ℕ) (was bs cs : List Producer)
-    → HaveTicks ms was bs → WereTicked itself untold (m ∷ []) bs cs → HaveTicks (ms ++ m ∷ []) was cs
+    → HaveTicks ms was bs → WereTicked itself unrecorded (m ∷ []) bs cs → HaveTicks (ms ++ m ∷ []) was cs
 have_again ms m [] [] [] h k = tt
 have_again ms m [] [] (c ∷ cs) h k = absurd k
 have_again ms m [] (b ∷ bs) cs h k = absurd h
@@ -156,11 +156,11 @@ have_again ms m (a ∷ was) (b ∷ bs) (c ∷ cs) h k = (
   have_again ms m was bs cs h.1 k.1,
 )
 
--- ends that were there, followed by those that came, have ticks of the moments
+-- ends that were there, followed by the added ones, have ticks of the times
 pub have_ticks : (ticks : List (TickOf Producer)) (was bs : List Producer)
-    → WereTickedIn itself untold ticks was bs → HaveTicks (moments_of ticks) (was ++ came_in ticks) bs
+    → WereTickedIn itself unrecorded ticks was bs → HaveTicks (moments_of ticks) (was ++ added_in ticks) bs
 have_ticks [] was bs h = rw (append-nil was) (subst (λ (xs : List Producer). HaveTicks [] was xs) (sym h) (have_none [] was))
 have_ticks (t ∷ ticks) was bs h =
-    subst (λ (xs : List Producer). HaveTicks (moments_of (t ∷ ticks)) xs bs) (append_assoc was (came_in ticks) t.came)
-    (have_again (moments_of ticks) t.moment ((was ++ came_in ticks) ++ t.came) (h.0 ++ t.came) bs
-    (have_further (moments_of ticks) (was ++ came_in ticks) h.0 t.came (have_ticks ticks was h.0 h.1)) h.2)
+    subst (λ (xs : List Producer). HaveTicks (moments_of (t ∷ ticks)) xs bs) (append_assoc was (added_in ticks) t.added)
+    (have_again (moments_of ticks) t.moment ((was ++ added_in ticks) ++ t.added) (h.0 ++ t.added) bs
+    (have_further (moments_of ticks) (was ++ added_in ticks) h.0 t.added (have_ticks ticks was h.0 h.1)) h.2)

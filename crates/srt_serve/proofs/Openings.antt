@@ -46,13 +46,13 @@ terms_grow entries i entry routes routes' n below there whose grew h =
     ∙ ap (λ (ts : List Terms). ts ++ n.terms ∷ []) h
     ∙ ap (λ (t : Terms). map terms_of (take i entries) ++ t ∷ []) whose)
 
--- the clock's ends are those of the routes to which its reader came, and of one more
+-- the clock's ends are those of the routes that its reader has reached, and of one more
 pub clocks_grow : (routes routes' : List CellIdentity) (clocks clocks' : List Producer) (n : CellIdentity)
     → routes' ≡ routes ++ n ∷ [] → clocks' ≡ clocks ++ new_clock n ∷ [] → clocks ≡ new_clocks routes → clocks' ≡ new_clocks routes'
-clocks_grow routes routes' clocks clocks' n came taken h =
-    taken ∙ ap (λ (cs : List Producer). cs ++ new_clock n ∷ []) h ∙ sym (map-append new_clock routes (n ∷ [])) ∙ ap new_clocks (sym came)
+clocks_grow routes routes' clocks clocks' n added taken h =
+    taken ∙ ap (λ (cs : List Producer). cs ++ new_clock n ∷ []) h ∙ sym (map-append new_clock routes (n ∷ [])) ∙ ap new_clocks (sym added)
 
--- the lock of a place stands at its index
+-- the lock of a place is at its index
 pub place_put : {S : Type 0} (id : S → ℕ) (places : List S) (locks : List ℕ) (i n : ℕ) (p : S) (of : ℕ)
     → locks ≡ map id places → i ≡ n → p ≡ get_or places i p → i < length places → of ≡ id p → slice_get locks n ≡ Some of
 place_put id places locks i n p of shown same there within put =
@@ -76,15 +76,15 @@ tokens_grow of who id places tokens tokens' t routes routes' n h pushed grew who
     )
 
 -- the route that was taken from a place is that which was put there
-pub first_taken : (came came' : List CellIdentity) (n there put : CellIdentity) (e : Ends) (i : ℕ)
-    → came' ≡ came ++ n ∷ [] → n.index ≡ length came → e.ingress ≡ producer n.inbox n.terms.inbox []
-    → e.drain ≡ drained n.outbox n.terms.outbox [] e.drain.hand → i ≡ length came → slice_get came' i ≡ Some there → there ≡ put
-    → (came' ≡ came ++ put ∷ []) × IsOpened (length came) put e
-first_taken came came' n there put e i grew index ingress drain at found same =
-    let here : slice_get came' i ≡ Some n = ap (λ ns. slice_get ns i) grew ∙ ap (λ j. slice_get (came ++ n ∷ []) j) at ∙ at_end came n in
+pub first_taken : (added added' : List CellIdentity) (n there put : CellIdentity) (e : Ends) (i : ℕ)
+    → added' ≡ added ++ n ∷ [] → n.index ≡ length added → e.ingress ≡ producer n.inbox n.terms.inbox []
+    → e.drain ≡ drained n.outbox n.terms.outbox [] e.drain.hand → i ≡ length added → slice_get added' i ≡ Some there → there ≡ put
+    → (added' ≡ added ++ put ∷ []) × IsOpened (length added) put e
+first_taken added added' n there put e i grew index ingress drain at found same =
+    let here : slice_get added' i ≡ Some n = ap (λ ns. slice_get ns i) grew ∙ ap (λ j. slice_get (added ++ n ∷ []) j) at ∙ at_end added n in
     let whose : n ≡ put = some_same (sym here ∙ found) ∙ same in (
-      grew ∙ ap (λ m. came ++ m ∷ []) whose,
-      subst (λ m. IsOpened (length came) m e) whose (record { index_is = index; ingress = ingress; drain = drain }),
+      grew ∙ ap (λ m. added ++ m ∷ []) whose,
+      subst (λ m. IsOpened (length added) m e) whose (record { index_is = index; ingress = ingress; drain = drain }),
     )
   where
     at_end : (xs : List CellIdentity) (x : CellIdentity) → slice_get (xs ++ x ∷ []) (length xs) ≡ Some x

@@ -12,7 +12,7 @@ use Rattle.srt_lobby.proofs.Finds.{no_name, found_name}
 use Rattle.srt_lobby.proofs.Kept.{IsFoundAgain, packet_follows}
 use Rattle.srt_serve.specs.Unchanged.{HasOwnName, LobbySortsByOwnName}
 
--- a name that no other shown route has is found
+-- a name that no other visible route has is found
 other_before : (names : List RouteName) (r : ℕ) (name : RouteName) (asked : List ℕ)
     → HasOwnName names r name → is_asked asked name ≡ true → r < length names → (k : ℕ) → k < r → is_asked asked (get_or names k no_name) ≡ false
 other_before names r name asked has is inside k below =

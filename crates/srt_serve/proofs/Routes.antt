@@ -28,7 +28,7 @@ use Rattle.srt_poller.specs.History.{Sorting, Event, handed, of_route, kept_of, 
 use Rattle.srt_poller.specs.Pumped.{HaveOrigins, PumpedUnder, before, after}
 use Rattle.srt_poller.specs.Rounds.{IsLater, AreLater}
 use Rattle.srt_serve.specs.Opened.{IsOpened, AreOpened, terms_in, new_clock, new_clocks}
-use Rattle.srt_serve.specs.Ran.{RouteRan, RanUnderFrom, told_by}
+use Rattle.srt_serve.specs.Ran.{RouteRan, RanUnderFrom, recorded_by}
 use Rattle.srt_serve.specs.Settled.{AreJoined, AreSettled}
 use Rattle.srt_serve.proofs.Callers.{callers_may_call}
 use Rattle.srt_serve.proofs.Moments.{HasTicks, HaveTicks}
@@ -81,7 +81,7 @@ some_of : {X : Type 0} (xs : List X) (r : ℕ) → r < length xs → X
 some_of [] r h = absurd (omega arith)
 some_of (x ∷ xs) r h = x
 
--- the clock's end of a route among those that came, which may be more
+-- the clock's end of a route among the added ones, which may be more
 ticked_at : (ms : List ℕ) (routes more : List CellIdentity) (clocks : List Producer) → HaveTicks ms (new_clocks (routes ++ more)) clocks
     → (r : ℕ) (n : CellIdentity) (c : Producer) → r < length routes
     → HasTicks ms (new_clock (slice_index_or routes r n)) (slice_index_or clocks r c)
@@ -178,7 +178,7 @@ pub all_ran : (goes closes : Type 0) (class : Sorting) (schedules : List Schedul
     → PumpedUnder goes closes class schedules rounds (before names gave to ends) (after names' gave' to' ends' report)
     → told_after ≡ joined told_before moments → HaveTicks moments (new_clocks (routes ++ more)) clocks → AreSettled accounts routes ends' clocks
     →
-    RanUnderFrom names closes class schedules entries rounds (told_by gave to told_before) (told_by gave' to' told_after) report accounts
+    RanUnderFrom names closes class schedules entries rounds (recorded_by gave to told_before) (recorded_by gave' to' told_after) report accounts
 all_ran goes closes class schedules entries rounds names names' gave gave' to to' told_before told_after routes more ends ends' clocks moments
     report accounts named whose small opened pumped told ticked settled =
     let p = pumped.1 in

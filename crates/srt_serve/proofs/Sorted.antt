@@ -1,4 +1,4 @@
--- Which datagrams of a run are sorted to a route, by the calls of the source and by whether the route is shown in each round.
+-- Which datagrams of a run are sorted to a route, by the calls of the source and by whether the route is visible in each round.
 use Rattle.std.proofs.Common.{◌≡◌, ℕ, zero, suc, ◌+◌, ◌==◌, Bool, true, false, Option, Some, None, List, [], ◌∷◌}
 use Rattle.std.proofs.Common.{◌++◌, map, slice_get, refl, sym, ap, subst, ◌∙◌}
 use Rattle.std.specs.Prelude.{if◌then◌else◌}
@@ -157,7 +157,7 @@ marks_after (m ∷ ms) = ms
 
 module _ (class : Sorting) (sorts : SortsByOwnName class) (base : List RouteName) (r : ℕ) (name : RouteName) (named : slice_get base r ≡ Some name)
     (alone : IsAlone (texts_of base) r) where
-  -- whether a datagram is the route's, if the route is shown or isn't
+  -- whether a datagram is the route's, if the route is visible or isn't
   abbrev takes : (mark : Bool) → Arrival → Bool
   takes mark a = is_for r (class (marked_at mark r base) a.datagram a.moment)
 
@@ -195,7 +195,7 @@ module _ (class : Sorting) (sorts : SortsByOwnName class) (base : List RouteName
       taken_so names old a c same mark is =
           ap (λ (b : Bool). if b then a ∷ [] else []) (sym (takes_so names old a same mark ∙ ap (is_for r) is))
 
-      -- a read that gave a datagram
+      -- a read that returned a datagram
       read_more : (s : State) (next : State) (events : List Event) (a : Arrival) (c : Class) (old : Bool) → IsReading s.phase
           → old ≡ is_shown_at s.names r → all_shown s.names ≡ all_shown first → class s.names a.datagram a.moment ≡ c
           → next.names ≡ s.names → next.phase ≡ read_on s.phase

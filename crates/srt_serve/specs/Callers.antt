@@ -8,7 +8,7 @@ use Rattle.srt_lobby.specs.Laws.{MayCall}
 use Rattle.srt_lobby.specs.Lobby.{class_of}
 use Rattle.srt_poller.specs.History.{Sorting, Event, accepted}
 
--- an item of a route with these lists and keys is a tick or a Close, or a datagram whose sender may call the route
+-- an item of a route with these lists and keys is a tick or a Close, or a datagram whose sender the route admits
 abbrev pub IsOfCaller : AccessTerms → Item → Type 0
 IsOfCaller access (Received datagram moment) = MayCall access datagram
 IsOfCaller access (Tick moment) = Unit {0}

@@ -10,7 +10,7 @@ use Rattle.srt_mailbox.specs.declared.inbox_rule.InboxEntry.{InboxEntry}
 use Rattle.srt_mailbox.specs.Inbox.{ticked_of, applied}
 use Rattle.srt_supervision.specs.declared.report.Report.{Report}
 use Rattle.srt_poller.specs.History.{Sorting, Event, kept_after, kept_of, handed, of_route, accepted}
-use Rattle.srt_serve.specs.Ran.{RouteRan, Told, RanFrom}
+use Rattle.srt_serve.specs.Ran.{RouteRan, Recorded, RanFrom}
 
 -- a run: the names and schedules of all its routes from the beginning on, and what it did
 pub record Trace : Type 0 where
@@ -19,14 +19,14 @@ pub record Trace : Type 0 where
   pub schedules : List Schedule
   pub entries : List Terms
   pub rounds : ℕ
-  pub old : Told
-  pub new : Told
+  pub old : Recorded
+  pub new : Recorded
   pub report : Report
   pub accounts : List Account
   pub events : List Event
   pub moments : List ℕ
 
-abbrev pub trace : List RouteName → Sorting → List Schedule → List Terms → (rounds : ℕ) → (old new : Told) → Report → List Account → List Event
+abbrev pub trace : List RouteName → Sorting → List Schedule → List Terms → (rounds : ℕ) → (old new : Recorded) → Report → List Account → List Event
     → (moments : List ℕ) → Trace
 trace names class schedules entries rounds old new report accounts events moments =
     record {

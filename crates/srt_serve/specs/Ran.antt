@@ -23,8 +23,8 @@ use Rattle.srt_serve.specs.Callers.{CallersMayCall}
 use Rattle.srt_serve.specs.NamesAtStart.{first_names}
 use Rattle.srt_serve.specs.Ticks.{IsWithin, tick}
 
--- One route, if these events happened at the poller and the ticker gave these moments. The items taken, followed by those left, are, by
--- their marks, the datagrams and the closing that the inbox accepted from the poller and ticks of some of the moments, each in order. The
+-- One route, if these events happened at the poller and the ticker returned these times. The items taken, followed by those left, are, by
+-- their marks, the datagrams and the closing that the inbox accepted from the poller and ticks of some of the times, each in order. The
 -- replies of this route that were sent, then the kept one, those queued and those that wait are all that the route, alone, replies to the items taken. The
 -- account has their numbers
 pub record RouteRan (terms : Terms) (index : ℕ) (events : List Event) (moments : List ℕ) (a : Account) : Type 0 where
@@ -44,21 +44,21 @@ pub record RouteRan (terms : Terms) (index : ℕ) (events : List Event) (moments
   pub drained_is : a.drained ≡ counted (length (drained index events))
 
 -- what the source, the wire and the ticker have recorded
-pub record Told : Type 0 where
+pub record Recorded : Type 0 where
   pub source : Heard
   pub wire : Carried
   pub moments : Option (List ℕ)
 
-abbrev pub told_by : Heard → Carried → Option (List ℕ) → Told
-told_by source wire moments = record { source = source; wire = wire; moments = moments }
+abbrev pub recorded_by : Heard → Carried → Option (List ℕ) → Recorded
+recorded_by source wire moments = record { source = source; wire = wire; moments = moments }
 
--- These events happened at the poller, the oldest first, in whole rounds, and the ticker gave these moments. In each round the routes of its
--- schedules opened and closed; at first the names were these. The source gave the datagrams of the events, and what happened to each is
--- what its class says, with the names then in force; its calls, with its answers, are just those of the events. The wire was handed the datagrams of the
+-- These events happened at the poller, the oldest first, in whole rounds, and the ticker returned these times. In each round the routes of its
+-- schedules opened and closed; at first the names were these. The source returned the datagrams of the events, and what happened to each is
+-- what its class defines, with the names then in force; its calls, with its answers, are just those of the events. The wire was handed the datagrams of the
 -- events, and its sends, with their outcomes, are just theirs. The report counts them, and has the numbers of the devices' records. The source waited
 -- once a round, and was read at least as often as it waited without a failure. If the datagrams are sorted as the lobby does, each that entered a
--- route's inbox is of a caller that may call the route. There is an account of each route, in the order of their indexes
-pub record RanFrom (names : List RouteName) (class : Sorting) (schedules : List Schedule) (entries : List Terms) (rounds : ℕ) (old new : Told)
+-- route's inbox is of a caller that the route admits. There are final counters of each route, in the order of their indexes
+pub record RanFrom (names : List RouteName) (class : Sorting) (schedules : List Schedule) (entries : List Terms) (rounds : ℕ) (old new : Recorded)
     (report : Report) (accounts : List Account) (events : List Event) (moments : List ℕ) : Type 0 where
   pub follow : Follow class schedules (at_first names) events
   pub over : IsOver (state_after schedules (at_first names) events).phase
@@ -79,42 +79,42 @@ pub record RanFrom (names : List RouteName) (class : Sorting) (schedules : List 
       → r < length entries → RouteRan (slice_index_or entries r terms) r events moments (slice_index_or accounts r a)
 
 -- the same, and at first those that open later were hidden
-abbrev pub RanBy : Sorting → List Schedule → List Terms → (rounds : ℕ) → (old new : Told) → Report → List Account → List Event → (moments : List ℕ)
+abbrev pub RanBy : Sorting → List Schedule → List Terms → (rounds : ℕ) → (old new : Recorded) → Report → List Account → List Event → (moments : List ℕ)
     → Type 0
 RanBy class schedules entries rounds old new report accounts events moments =
     RanFrom (first_names schedules entries) class schedules entries rounds old new report accounts events moments
 
 -- A run of this many rounds, of which some may have closed all
-abbrev pub RanUntil : Sorting → List Schedule → List Terms → (rounds : ℕ) → (old new : Told) → Report → List Account → Type 0
+abbrev pub RanUntil : Sorting → List Schedule → List Terms → (rounds : ℕ) → (old new : Recorded) → Report → List Account → Type 0
 RanUntil class schedules entries rounds old new report accounts =
     (events : List Event) × (moments : List ℕ) × RanBy class schedules entries rounds old new report accounts events moments
 
 -- the same, and a round closed all only if `closes` is known; the names that it began with are given
-abbrev pub RanUnderFrom : (names : List RouteName) → (closes : Type 0) → Sorting → List Schedule → List Terms → (rounds : ℕ) → (old new : Told) → Report
+abbrev pub RanUnderFrom : (names : List RouteName) → (closes : Type 0) → Sorting → List Schedule → List Terms → (rounds : ℕ) → (old new : Recorded) → Report
     → List Account → Type 0
 RanUnderFrom names closes class schedules entries rounds old new report accounts =
     (events : List Event) × (moments : List ℕ) × RanFrom names class schedules entries rounds old new report accounts events moments ×
     ((closes_all_in events ≡ 0) ⊎ closes)
 
-abbrev pub RanUnder : (closes : Type 0) → Sorting → List Schedule → List Terms → (rounds : ℕ) → (old new : Told) → Report → List Account → Type 0
+abbrev pub RanUnder : (closes : Type 0) → Sorting → List Schedule → List Terms → (rounds : ℕ) → (old new : Recorded) → Report → List Account → Type 0
 RanUnder closes class schedules entries rounds old new report accounts =
     RanUnderFrom (first_names schedules entries) closes class schedules entries rounds old new report accounts
 
 -- the same, and none closed all
-abbrev pub Ran : Sorting → List Schedule → List Terms → (rounds : ℕ) → (old new : Told) → Report → List Account → Type 0
+abbrev pub Ran : Sorting → List Schedule → List Terms → (rounds : ℕ) → (old new : Recorded) → Report → List Account → Type 0
 Ran class schedules entries rounds old new report accounts =
     (events : List Event) × (moments : List ℕ) × RanBy class schedules entries rounds old new report accounts events moments × (closes_all_in events ≡ 0)
 
--- the names with which a run begins, and behind them those of the routes that come to it, hidden
-abbrev pub names_before : List Schedule → (entries came : List Terms) → List RouteName
-names_before schedules entries came = first_names schedules entries ++ map (λ t. as_hidden (name_of t)) came
+-- the names with which a run begins, and after them those of the routes that are added, hidden
+abbrev pub names_before : List Schedule → (entries added : List Terms) → List RouteName
+names_before schedules entries added = first_names schedules entries ++ map (λ t. as_hidden (name_of t)) added
 
--- A run of this many rounds, of which some may have closed all. Meanwhile routes with the terms `came` came, in the order of their indexes behind the
--- others, and those with the indexes `asked` were asked to close, at moments that nobody knew before. The run did what it does if all routes had been
--- written down beforehand, with the schedules `later`, those that came hidden at first. A route that wasn't asked to close, and whose name no other
+-- A run of this many rounds, of which some may have closed all. Meanwhile routes with the terms `added` were added, in the order of their indexes after the
+-- others, and those with the indexes `requested` were requested to close, at times that nobody knew before. The run did what it does if all routes had been
+-- known in advance, with the schedules `later`, the added ones hidden at first. A route that wasn't requested to close, and whose name no other
 -- one has, kept its schedule (`ArePlans`)
-abbrev pub RanChanging : Sorting → List Schedule → List Terms → (rounds : ℕ) → (old new : Told) → Report → List Account → Type 0
+abbrev pub RanChanging : Sorting → List Schedule → List Terms → (rounds : ℕ) → (old new : Recorded) → Report → List Account → Type 0
 RanChanging class schedules entries rounds old new report accounts =
-    (came : List Terms) × (asked : List ℕ) × (later : List Schedule) × (events : List Event) × (moments : List ℕ)
-    × ArePlans rounds (λ r. Unit {0}) schedules (texts_of (names_before schedules entries came)) asked later
-    × RanFrom (names_before schedules entries came) class later (entries ++ came) rounds old new report accounts events moments
+    (added : List Terms) × (requested : List ℕ) × (later : List Schedule) × (events : List Event) × (moments : List ℕ)
+    × ArePlans rounds (λ r. Unit {0}) schedules (texts_of (names_before schedules entries added)) requested later
+    × RanFrom (names_before schedules entries added) class later (entries ++ added) rounds old new report accounts events moments

@@ -1,4 +1,4 @@
--- What a refused conclusion says: the code of the answer, and the name that was asked for.
+-- Of a refused conclusion: the code of the answer, and the requested name.
 use Rattle.std.specs.Prelude.{ℕ, ◌^◌, List, [], Option, None, Some, Result, Ok, Err, length, take, nat_le, nat_lt, ◌&&◌, if◌then◌else◌}
 use Rattle.srt_seq.specs.Words.{word_at}
 use Rattle.srt_packet.specs.declared.reading.PacketFault.{PacketFault}
@@ -16,7 +16,7 @@ use Rattle.srt_streamid.specs.Reading.{ask_in, name_of}
 abbrev pub code_of : (type : ℕ) → Option ℕ
 code_of type = if nat_le 1000 type && nat_lt type (2 ^ 31) then Some type else None
 
--- the code of the refusal that a handshake packet is, if it is one: its type is the sixth word behind the header
+-- the code of the refusal that a handshake packet is, if it is one: its type is the sixth word after the header
 abbrev pub refusal_in : (packet : List ℕ) → Option ℕ
 refusal_in packet = if nat_le 40 (length packet) then code_of (word_at packet 36) else None
 
@@ -46,5 +46,5 @@ name_by_packet (Ok packet) = name_by_body packet.body
 name_by_packet (Err fault) = []
 
 -- the name that the Stream ID of a conclusion asks for, cut to 64 bytes; none where there is no such name
-abbrev pub name_asked : (datagram : List ℕ) → List ℕ
-name_asked datagram = name_by_packet (packet_in datagram)
+abbrev pub requested_name : (datagram : List ℕ) → List ℕ
+requested_name datagram = name_by_packet (packet_in datagram)

@@ -6,7 +6,7 @@ use Rattle.srt_mailbox.specs.Ends.{Producer}
 use Rattle.srt_mailbox.specs.Settled.{Settles}
 use Rattle.srt_poller.specs.declared.ends.Ends.{Ends}
 
--- the ends of each route are of its queues; there may be clock's ends behind those
+-- the ends of each route are of its queues; there may be clock's ends after those
 abbrev pub AreJoined : List CellIdentity → List Ends → List Producer → Type 0
 AreJoined [] [] clocks = Unit {0}
 AreJoined [] (e ∷ ends) clocks = ⊥

@@ -16,21 +16,21 @@ use Rattle.srt_poller.specs.Devices.{Arrival}
 use Rattle.srt_poller.specs.Schedules.{CloseOffer, begun}
 use Rattle.srt_poller.specs.History.{Sorting, Event, Begins, Accepts, Overflows, Refuses, State, at_first, state_by, Follow, calls, at_route, accepted}
 use Rattle.srt_poller.specs.History.{closes_all_in}
-use Rattle.srt_poller.specs.Plans.{IsAlone, is_asked, texts_of, ArePlans}
+use Rattle.srt_poller.specs.Plans.{IsAlone, is_requested, texts_of, ArePlans}
 use Rattle.srt_serve.specs.NamesAtStart.{until, first_names}
-use Rattle.srt_serve.specs.Ran.{RouteRan, Told, RanChanging, RanUntil, names_before}
+use Rattle.srt_serve.specs.Ran.{RouteRan, Recorded, RanChanging, RanUntil, names_before}
 use Rattle.srt_serve.specs.Isolation.{Trace, trace, IsTrace, sent_for, HasSentAll, places_of}
 
--- no other shown route has the name of this one
+-- no other visible route has the name of this one
 abbrev pub IsOnlyShown : (names : List RouteName) (r : ℕ) → Type 0
 IsOnlyShown names r = (i : ℕ) (text : List ℕ) → has_name_at names r text ≡ true → has_name_at names i text ≡ true → i ≡ r
 
--- the route with this index has this name, shown or not, and no other shown route has it
+-- the route with this index has this name, visible or not, and no other visible route has it
 pub record HasOwnName (names : List RouteName) (r : ℕ) (name : RouteName) : Type 0 where
   pub named : slice_get names r ≡ Some name
   pub only : IsOnlyShown names r
 
--- A way of sorting in which it depends on a route's own index and name, whether it is shown, who may call it, and a datagram alone whether that is
+-- A way of sorting in which it depends on a route's own index and name, whether it is visible, the clients that it admits, and a datagram alone whether that is
 -- the route's. Other routes may have any names, also the same ones among each other
 abbrev pub SortsByOwnName : Sorting → Type 0
 SortsByOwnName class =
@@ -41,8 +41,8 @@ SortsByOwnName class =
 abbrev pub LobbySortsByOwnName : Type 0
 LobbySortsByOwnName = (secret : List ℕ) → SortsByOwnName (class_of secret)
 
--- the datagrams that were sorted to this route, in order: those that its inbox accepted, those that found it full, and those for whose copy memory
--- was refused
+-- the datagrams that were sorted to this route, in order: those that its inbox accepted, those that found it full, and those whose copy
+-- failed to allocate
 abbrev pub sorted_by : (r : ℕ) → Event → List Arrival
 sorted_by r (Accepts arrival route) = at_route route r arrival
 sorted_by r (Overflows arrival route) = at_route route r arrival
@@ -73,7 +73,7 @@ received items = filter is_received items
 abbrev pub item_of : Arrival → Item
 item_of arrival = Received arrival.datagram arrival.moment
 
--- whether this route is shown after the beginning of each round, the first round first
+-- whether this route is visible after the beginning of each round, the first round first
 abbrev pub mark_by : (r : ℕ) → List Schedule → State → Event → List Bool
 mark_by r schedules s (Begins closes_all moment offers) = is_shown_at (begun closes_all s.round schedules offers s.names) r ∷ []
 mark_by r schedules s _ = []
@@ -104,8 +104,8 @@ beginnings r events = flat_map (beginning_by r) events
 abbrev pub is_closed_in : List Beginning → Bool
 is_closed_in bs = list_any (λ b. b.is_closed) bs
 
--- A route that opens in its round, unless that closes all, and that is hidden once its inbox accepts Close: whether it is shown after the beginning of
--- a round, and after those of all rounds from one of this number on. Before it, it was shown or wasn't
+-- A route that opens in its round, unless that closes all, and that is hidden once its inbox accepts Close: whether it is visible after the beginning of
+-- a round, and after those of all rounds from one of this number on. Before it, it was visible or hidden
 abbrev pub mark_after : Schedule → (is_shown : Bool) (round : ℕ) → Beginning → Bool
 mark_after s is_shown round b = (is_shown || (not b.closes_all && (s.open_round == round))) && not b.is_closed
 
@@ -123,20 +123,20 @@ pub record IsRouteOf (t : Trace) (r : ℕ) (name : RouteName) (s : Schedule) : T
   pub alone : IsAlone (texts_of t.names) r
   pub scheduled : slice_get t.schedules r ≡ Some s
 
--- whether a route is shown follows from its own schedule and from what the beginnings of rounds are to it
+-- whether a route is visible follows from its own schedule and from what the beginnings of rounds are to it
 abbrev pub MarksAreOwn : Type 0
 MarksAreOwn =
     (t : Trace) (r : ℕ) (name : RouteName) (s : Schedule) → Follows t → IsRouteOf t r name s
     → marks r t ≡ own_marks s name.is_shown 0 (beginnings r t.events)
 
--- Two runs that sort by own names, and in which the source gave the same answers to the same calls: so it gave the same datagrams in the same rounds
+-- Two runs that sort by own names, and in which the source returned the same answers to the same calls: so it returned the same datagrams in the same rounds
 pub record HeardAlike (t u : Trace) : Type 0 where
   pub sorts : SortsByOwnName t.class
   pub same_class : u.class ≡ t.class
   pub same_calls : calls t.events ≡ calls u.events
 
 -- In two such runs the same datagrams are sorted to a route that has the same name in both, in the same order, if after the beginning of each round it
--- is shown in both or hidden in both. Whatever other routes there are, and whatever opens and closes, makes no difference
+-- is visible in both or hidden in both. Whatever other routes there are, and whatever opens and closes, makes no difference
 abbrev pub SortedAlike : Type 0
 SortedAlike =
     (t u : Trace) (r : ℕ) (name : RouteName) (s s' : Schedule) → Follows t → Follows u → HeardAlike t u
@@ -168,45 +168,45 @@ AcceptedAreSorted =
     → (received (accepted r events) ≡ map item_of (sorted_to r events))
     × (is_closed_in (beginnings r events) ≡ false → accepted r events ≡ map item_of (sorted_to r events))
 
--- This run had routes with these schedules and entries at its beginning. Then those with the terms `came` came, and those with the indexes `asked` were
--- asked to close
-pub record IsChanging (schedules : List Schedule) (entries came : List Terms) (asked : List ℕ) (t : Trace) : Type 0 where
-  pub names_are : t.names ≡ names_before schedules entries came
-  pub entries_are : t.entries ≡ entries ++ came
-  pub planned : ArePlans t.rounds (λ r. Unit {0}) schedules (texts_of t.names) asked t.schedules
+-- This run had routes with these schedules and entries at its beginning. Then those with the terms `added` were added, and those with the indexes `requested`
+-- were requested to close
+pub record IsChanging (schedules : List Schedule) (entries added : List Terms) (requested : List ℕ) (t : Trace) : Type 0 where
+  pub names_are : t.names ≡ names_before schedules entries added
+  pub entries_are : t.entries ≡ entries ++ added
+  pub planned : ArePlans t.rounds (λ r. Unit {0}) schedules (texts_of t.names) requested t.schedules
   pub ran : IsTrace t
 
--- the same of a run to which none came and in which none was asked to close
+-- the same of a run to which none was added and in which none was requested to close
 pub record IsUnchanging (schedules : List Schedule) (entries : List Terms) (t : Trace) : Type 0 where
   pub names_are : t.names ≡ first_names schedules entries
   pub entries_are : t.entries ≡ entries
   pub schedules_are : t.schedules ≡ schedules
   pub ran : IsTrace t
 
--- a run to which routes may come is such a run
+-- a run to which routes may be added is such a run
 abbrev pub ChangingRunsAreSo : Type 0
 ChangingRunsAreSo =
-    (class : Sorting) (schedules : List Schedule) (entries : List Terms) (rounds : ℕ) (old new : Told) (report : Report) (accounts : List Account)
+    (class : Sorting) (schedules : List Schedule) (entries : List Terms) (rounds : ℕ) (old new : Recorded) (report : Report) (accounts : List Account)
     → RanChanging class schedules entries rounds old new report accounts
-    → (came : List Terms) × (asked : List ℕ) × (later : List Schedule) × (events : List Event) × (moments : List ℕ)
-    × IsChanging schedules entries came asked
-    (trace (names_before schedules entries came) class later (entries ++ came) rounds old new report accounts events moments)
+    → (added : List Terms) × (requested : List ℕ) × (later : List Schedule) × (events : List Event) × (moments : List ℕ)
+    × IsChanging schedules entries added requested
+    (trace (names_before schedules entries added) class later (entries ++ added) rounds old new report accounts events moments)
 
--- and one to which none may come is the other
+-- and one to which none may be added is the other
 abbrev pub UnchangingRunsAreSo : Type 0
 UnchangingRunsAreSo =
-    (class : Sorting) (schedules : List Schedule) (entries : List Terms) (rounds : ℕ) (old new : Told) (report : Report) (accounts : List Account)
+    (class : Sorting) (schedules : List Schedule) (entries : List Terms) (rounds : ℕ) (old new : Recorded) (report : Report) (accounts : List Account)
     → RanUntil class schedules entries rounds old new report accounts
     → (events : List Event) × (moments : List ℕ)
     × IsUnchanging schedules entries (trace (first_names schedules entries) class schedules entries rounds old new report accounts events moments)
 
--- A route of the beginning that wasn't asked to close, and whose name no other one has, has its own terms, name and schedule to the end of a run in which
--- others came and were asked to close
+-- A route of the beginning that wasn't requested to close, and whose name no other one has, has its own terms, name and schedule to the end of a run in which
+-- others were added and requested to close
 abbrev pub LeftAsItWas : Type 0
 LeftAsItWas =
-    (schedules : List Schedule) (entries came : List Terms) (asked : List ℕ) (t : Trace) → IsChanging schedules entries came asked t
+    (schedules : List Schedule) (entries added : List Terms) (requested : List ℕ) (t : Trace) → IsChanging schedules entries added requested t
     → (r : ℕ) (terms : Terms) (s : Schedule) → slice_get entries r ≡ Some terms → slice_get schedules r ≡ Some s
-    → is_asked asked r ≡ false → IsAlone (texts_of t.names) r
+    → is_requested requested r ≡ false → IsAlone (texts_of t.names) r
     → IsRouteOf t r (until s.open_round (name_of terms)) s × (slice_get t.entries r ≡ Some terms)
 
 -- and so has it in a run without changes
@@ -222,20 +222,20 @@ abbrev pub NamesAreAlone : Type 0
 NamesAreAlone =
     (schedules : List Schedule) (entries : List Terms) → fault_of entries ≡ None → (r : ℕ) → IsAlone (texts_of (first_names schedules entries)) r
 
--- A run to which none came and in which none was asked to close is one without changes: so a route that couldn't be opened, and hence didn't come, changes
--- nothing
+-- A run to which none was added and in which none was requested to close is one without changes: so a route that couldn't be opened, and hence wasn't
+-- added, changes nothing
 abbrev pub RefusedChangesNothing : Type 0
 RefusedChangesNothing =
     (schedules : List Schedule) (entries : List Terms) (t : Trace) → fault_of entries ≡ None → length schedules ≡ length entries
     → IsChanging schedules entries [] [] t → IsUnchanging schedules entries t
 
--- A run to which routes came and in which some were asked to close, and one without changes, of the same schedules and entries and the same secret, in
--- which the source gave the same. This route wasn't asked to close, and no other one has its name. The same rounds close all, and its inbox accepts Close
--- in the same rounds
-pub record AreAlike (secret : List ℕ) (schedules : List Schedule) (entries came : List Terms) (asked : List ℕ) (t u : Trace) (r : ℕ) (terms : Terms)
+-- A run to which routes were added and in which some were requested to close, and one without changes, of the same schedules and entries and the same
+-- secret, in which the source returned the same. This route wasn't requested to close, and no other one has its name. The same rounds close all, and
+-- its inbox accepts Close in the same rounds
+pub record AreAlike (secret : List ℕ) (schedules : List Schedule) (entries added : List Terms) (requested : List ℕ) (t u : Trace) (r : ℕ) (terms : Terms)
     (s : Schedule) : Type 0 where
   pub sound : fault_of entries ≡ None
-  pub changing : IsChanging schedules entries came asked t
+  pub changing : IsChanging schedules entries added requested t
   pub unchanging : IsUnchanging schedules entries u
   pub sorts : t.class ≡ class_of secret
   pub sorts_there : u.class ≡ class_of secret
@@ -243,15 +243,15 @@ pub record AreAlike (secret : List ℕ) (schedules : List Schedule) (entries cam
   pub there : slice_get entries r ≡ Some terms
   pub scheduled : slice_get schedules r ≡ Some s
   pub alone : IsAlone (texts_of t.names) r
-  pub unasked : is_asked asked r ≡ false
+  pub unrequested : is_requested requested r ≡ false
   pub same_beginnings : beginnings r t.events ≡ beginnings r u.events
 
 -- As if nothing had happened: the same datagrams are sorted to the route in both runs, in the same order. If its inbox turns none of them away, it accepts
 -- the same datagrams; and if it accepts no Close, it accepts nothing else, and so the same items
 abbrev pub AsIfNothingHappened : Type 0
 AsIfNothingHappened =
-    (secret : List ℕ) (schedules : List Schedule) (entries came : List Terms) (asked : List ℕ) (t u : Trace) (r : ℕ) (terms : Terms) (s : Schedule)
-    → AreAlike secret schedules entries came asked t u r terms s
+    (secret : List ℕ) (schedules : List Schedule) (entries added : List Terms) (requested : List ℕ) (t u : Trace) (r : ℕ) (terms : Terms) (s : Schedule)
+    → AreAlike secret schedules entries added requested t u r terms s
     → (sorted_to r t.events ≡ sorted_to r u.events)
     × (missed r t.events ≡ [] → missed r u.events ≡ [] → received (accepted r t.events) ≡ received (accepted r u.events))
     × (missed r t.events ≡ [] → missed r u.events ≡ [] → is_closed_in (beginnings r t.events) ≡ false → accepted r t.events ≡ accepted r u.events)
@@ -266,8 +266,8 @@ pub record IsServed (t : Trace) (r : ℕ) (a : Account) : Type 0 where
 -- then the same datagrams are sent for the route, byte for byte, if it took the same ticks at the same places
 abbrev pub SentAsIfNothingHappened : Type 0
 SentAsIfNothingHappened =
-    (secret : List ℕ) (schedules : List Schedule) (entries came : List Terms) (asked : List ℕ) (t u : Trace) (r : ℕ) (terms : Terms) (s : Schedule)
-    → AreAlike secret schedules entries came asked t u r terms s
+    (secret : List ℕ) (schedules : List Schedule) (entries added : List Terms) (requested : List ℕ) (t u : Trace) (r : ℕ) (terms : Terms) (s : Schedule)
+    → AreAlike secret schedules entries added requested t u r terms s
     → (a b : Account) → (ran : RouteRan terms r t.events t.moments a) → (ran' : RouteRan terms r u.events u.moments b)
     → IsServed t r a → IsServed u r b
     → ticked_of ran.taken ≡ ticked_of ran'.taken → places_of ran.taken ≡ places_of ran'.taken

@@ -1,11 +1,11 @@
-//! Places for the routes of a run, and how the polling thread and the ticking one come to the routes in them.
+//! Places for the routes of a run, and how the polling thread and the ticking one reach the routes in them.
 
 ghost use Rattle.std.specs.Prelude.{◌≡◌, ◌<◌, [], IfOk, IfSome, length, map};
 ghost use Rattle.srt_seq.specs.Terms.{terms_of};
 ghost use Rattle.srt_lobby.specs.Names.{as_hidden, name_of, new_name};
 ghost use Rattle.srt_mailbox.specs.Identities.{identity_in};
 ghost use Rattle.srt_mailbox.specs.Places.{came, locks_of};
-ghost use Rattle.srt_serve.specs.inside.Arrived.{AreIndexed, told_of};
+ghost use Rattle.srt_serve.specs.inside.Arrived.{AreIndexed, report_of};
 ghost use Rattle.srt_serve.specs.Opened.{new_clocks};
 
 use crate::ticking::TickEnds;
@@ -17,19 +17,19 @@ use srt_wakeups::AtomicBitSet;
 use std::alloc::{AllocError, Global};
 use std::sync::atomic::{AtomicBool, Ordering};
 
-/// What the polling thread is given with its ends of a route that comes.
+/// The polling thread's attachment of a route: it gets it with its ends of the route.
 #[derive(Drop)]
-pub struct Named {
+pub struct NameAttachment {
     /// The route's name.
     pub name: NewName,
 }
 
-impl Attachment for Named {
+impl Attachment for NameAttachment {
     ghost belongs = { λ terms index named. new_name named.name ≡ as_hidden (name_of terms) };
 }
 
 /// Allocates this many places, all of them empty.
-pub fn open_places(alloc: Global, places: usize) -> Result<Vec<Place<Named>>, AllocError>
+pub fn open_places(alloc: Global, places: usize) -> Result<Vec<Place<NameAttachment>>, AllocError>
     ensures { IfOk result (λ opened. length opened.items ≡ places) }
 {
     let mut opened = Vec::with_capacity(alloc, places)?;
@@ -39,27 +39,31 @@ pub fn open_places(alloc: Global, places: usize) -> Result<Vec<Place<Named>>, Al
     Ok(opened)
 }
 
-/// Opens the route of this entry, with a seat. Takes all memory that it will ever need. An error means that memory was
-/// refused, or that the entry or the index is out of its limits. Nothing is kept then.
-pub fn seat_route(alloc: Global, entry: &Entry, index: usize) -> Result<Seat<Named>, AllocError>
+/// Opens the route of this entry, with a seat. Allocates all memory that it will ever need. An error means out of memory,
+/// or that the entry or the index is out of its limits. Nothing is kept then.
+pub fn seat_route(
+    alloc: Global,
+    entry: &Entry,
+    index: usize,
+) -> Result<Seat<NameAttachment>, AllocError>
     ensures { IfOk result (λ s. ((identity_in s.cell).terms ≡ terms_of entry.now) × ((identity_in s.cell).index ≡ index)) }
 {
     let name = NewName::of(alloc, entry)?;
-    match open_seat(alloc, entry, index, Named { name }) {
+    match open_seat(alloc, entry, index, NameAttachment { name }) {
         Ok(seat) => Ok(seat),
         Err(_) => Err(AllocError),
     }
 }
 
-/// The clock's ends of the routes that come, in the order of their indexes.
+/// The clock's ends of the added routes, in the order of their indexes.
 #[derive(Drop)]
 pub struct ClockArrivals<'a> {
-    /// Comes to the routes.
-    pub reader: SeatReader<'a, Named>,
+    /// Reaches the routes.
+    pub reader: SeatReader<'a, NameAttachment>,
 }
 
 impl TickEnds<ClockEnd> for ClockArrivals<'_> {
-    ghost came = { λ s. new_clocks (came s.reader) };
+    ghost added = { λ s. new_clocks (came s.reader) };
 
     ghost places = { λ s. locks_of s.reader };
 
@@ -71,46 +75,46 @@ impl TickEnds<ClockEnd> for ClockArrivals<'_> {
     }
 }
 
-/// What the watching thread tells the polling one of the routes: that some have come, and which are to close.
+/// Notices of the watching thread to the polling one: that routes were added, and which are to close.
 #[derive(Drop)]
-pub struct News {
-    // something was told since the polling thread looked last
-    is_told: AtomicBool,
-    // the routes that were asked to close so far
-    asked: AtomicBitSet,
+pub struct RouteNotices {
+    // there was a notice since the polling thread last checked
+    is_pending: AtomicBool,
+    // the routes that were requested to close so far
+    requested: AtomicBitSet,
     // those of them that the polling thread hasn't taken
     closings: AtomicBitSet,
 }
 
-impl News {
-    /// For this many routes at most. Allocates two bits for each; an error means that memory was refused.
-    pub fn open(alloc: Global, routes: usize) -> Result<News, AllocError> {
-        Ok(News {
-            is_told: AtomicBool::new(false),
-            asked: AtomicBitSet::open(alloc, routes)?,
+impl RouteNotices {
+    /// For this many routes at most. Allocates two bits for each; an error means out of memory.
+    pub fn open(alloc: Global, routes: usize) -> Result<RouteNotices, AllocError> {
+        Ok(RouteNotices {
+            is_pending: AtomicBool::new(false),
+            requested: AtomicBitSet::open(alloc, routes)?,
             closings: AtomicBitSet::open(alloc, routes)?,
         })
     }
 
-    /// Asks that this route be closed, once `tell` is called. A route that was asked before isn't asked again.
+    /// Requests that this route be closed, once `notify` is called. A second request for a route is ignored.
     pub fn close(&self, route: usize) {
-        if self.asked.set(route) {
+        if self.requested.set(route) {
             self.closings.set(route);
         }
     }
 
-    /// Lets the polling thread look, before its next round. For the watching thread, after all else of a change.
-    pub fn tell(&self) {
-        self.is_told.store(true, Ordering::SeqCst);
+    /// Notifies the polling thread, which checks before its next round. For the watching thread, at the end of a change.
+    pub fn notify(&self) {
+        self.is_pending.store(true, Ordering::SeqCst);
     }
 
-    // Whether something was told since this was asked last. What is told after the store is told again by the flag.
-    fn is_new(&self) -> bool {
-        let is_told = self.is_told.load(Ordering::SeqCst);
-        if is_told {
-            self.is_told.store(false, Ordering::SeqCst);
+    // Whether there was a notice since the last call. A notice after the store sets the flag again.
+    fn take_pending(&self) -> bool {
+        let is_pending = self.is_pending.load(Ordering::SeqCst);
+        if is_pending {
+            self.is_pending.store(false, Ordering::SeqCst);
         }
-        is_told
+        is_pending
     }
 
     // The next route that is to close, among this many.
@@ -127,32 +131,32 @@ impl News {
     }
 }
 
-/// How the polling thread comes to the routes in the places, and learns which are to close.
+/// How the polling thread reaches the routes in the places, and gets those that are to close.
 #[derive(Drop)]
 pub struct PollerArrivals<'a, 'n> {
-    /// Comes to the routes.
-    pub reader: SeatReader<'a, Named>,
-    news: &'n News,
-    // the routes that were asked to close, the oldest first, each at most once
-    asked: Vec<usize>,
+    /// Reaches the routes.
+    pub reader: SeatReader<'a, NameAttachment>,
+    notices: &'n RouteNotices,
+    // the routes that were requested to close, the oldest first, each at most once
+    requested: Vec<usize>,
     ghost indexed: { AreIndexed (came reader) },
 }
 
 impl<'a, 'n> PollerArrivals<'a, 'n> {
-    /// With a reader that has come to the first routes. Allocates room for the routes that are to close.
+    /// With a reader that has reached the first routes. Allocates room for the routes that are to close.
     pub fn new(
         alloc: Global,
-        reader: SeatReader<'a, Named>,
-        news: &'n News,
+        reader: SeatReader<'a, NameAttachment>,
+        notices: &'n RouteNotices,
         routes: usize,
     ) -> Result<PollerArrivals<'a, 'n>, AllocError>
         requires { AreIndexed (came reader) }
-        ensures { IfOk result (λ a. (a.reader ≡ reader.entry) × (a.asked.items ≡ [])) }
+        ensures { IfOk result (λ a. (a.reader ≡ reader.entry) × (a.requested.items ≡ [])) }
     {
         Ok(PollerArrivals {
             reader,
-            news,
-            asked: Vec::with_capacity(alloc, routes)?,
+            notices,
+            requested: Vec::with_capacity(alloc, routes)?,
         })
     }
 }
@@ -161,13 +165,14 @@ impl Openings for PollerArrivals<'_, '_> {
     ghost use Rattle.std.specs.Prelude.{Some};
     ghost use Rattle.srt_serve.specs.inside.Arrived.{marked};
 
-    ghost came = { λ s. Some (map told_of (came s.reader)) };
+    ghost added = { λ s. Some (map report_of (came s.reader)) };
 
-    // The names of the places' locks stand before the routes that were asked to close: so it is known that a poller leaves them.
-    ghost asked = { λ s. Some (marked (locks_of s.reader) s.asked.items) };
+    // The names of the places' locks precede the routes that were requested to close: so it is known that a poller leaves
+    // them.
+    ghost requested = { λ s. Some (marked (locks_of s.reader) s.requested.items) };
 
-    fn has_news(&self) -> bool {
-        self.news.is_new()
+    fn has_changes(&self) -> bool {
+        self.notices.take_pending()
     }
 
     fn next(&mut self) -> Option<Newcomer> {
@@ -188,25 +193,25 @@ impl Openings for PollerArrivals<'_, '_> {
     }
 
     fn next_close(&mut self, routes: usize) -> Option<usize> {
-        if self.asked.len() >= self.asked.capacity() {
+        if self.requested.len() >= self.requested.capacity() {
             return None;
         }
-        let route = self.news.next_close(routes)?;
-        let Ok(()) = self.asked.push(route) else {
+        let route = self.notices.next_close(routes)?;
+        let Ok(()) = self.requested.push(route) else {
             unreachable!();
         };
         Some(route)
     }
 }
 
-/// A place that can be given a route. Code that opens routes while threads run is generic over this trait.
-pub trait Host {
+/// A place that a route can be put into. Code that opens routes while threads run is generic over this trait.
+pub trait RouteHost {
     /// Puts a route here. False if the place has one already; then the new one is dropped.
-    fn host(&self, seat: Seat<Named>) -> bool;
+    fn host(&self, seat: Seat<NameAttachment>) -> bool;
 }
 
-impl Host for Place<Named> {
-    fn host(&self, seat: Seat<Named>) -> bool {
+impl RouteHost for Place<NameAttachment> {
+    fn host(&self, seat: Seat<NameAttachment>) -> bool {
         self.put(seat).is_ok()
     }
 }

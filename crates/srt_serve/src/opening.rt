@@ -9,7 +9,7 @@ ghost use Rattle.srt_mailbox.specs.Places.{came, locks_of};
 ghost use Rattle.srt_poller.specs.declared.ends.Ends.{Ends as TheEnds};
 ghost use Rattle.srt_serve.specs.Opened.{IsOpened, AreOpened, terms_in, new_clock, new_clocks};
 
-use crate::arrivals::{ClockArrivals, Named, seat_route};
+use crate::arrivals::{ClockArrivals, NameAttachment, seat_route};
 use srt_mailbox::{ClockEnd, Place, PollerEnds, Seat, SeatReader};
 use srt_poller::Ends;
 use srt_seq::Entry;
@@ -20,25 +20,25 @@ use std::sync::OnceToken;
 /// room for as many as there are places.
 #[derive(Drop)]
 pub struct Opened<'a> {
-    /// The polling thread's, which has come to all of them.
-    pub routes: SeatReader<'a, Named>,
+    /// The polling thread's, which has reached all of them.
+    pub routes: SeatReader<'a, NameAttachment>,
     /// The poller's ends: of the inbox and of the outbox.
     pub ends: Vec<Ends>,
-    /// The ticking thread's, which has come to all of them.
+    /// The ticking thread's, which has reached all of them.
     pub arrivals: ClockArrivals<'a>,
     /// The clock's ends of the inboxes.
     pub clocks: Vec<ClockEnd>,
     /// Of each place, which route it was given. No bytes.
-    pub put: Vec<OnceToken<'a, Seat<Named>>>,
+    pub put: Vec<OnceToken<'a, Seat<NameAttachment>>>,
 }
 
 // Puts a route into the next place, and takes the poller's ends from there. Returns the knowledge that it is there.
 fn take_first<'a>(
-    routes: &mut SeatReader<'a, Named>,
+    routes: &mut SeatReader<'a, NameAttachment>,
     ends: &mut Vec<Ends>,
-    places: &'a [Place<Named>],
-    seat: Seat<Named>,
-) -> Result<OnceToken<'a, Seat<Named>>, AllocError>
+    places: &'a [Place<NameAttachment>],
+    seat: Seat<NameAttachment>,
+) -> Result<OnceToken<'a, Seat<NameAttachment>>, AllocError>
     requires { locks_of routes.old ≡ map (λ p. p.seat.id) places.now }
     ensures put { IfOk result (λ t. (slice_get (locks_of routes.old) (length (came routes.old)) ≡ Some t.of)
         × (identity_in t.value.cell ≡ identity_in seat.cell)) }
@@ -79,13 +79,13 @@ fn take_first_clock(
     Ok(())
 }
 
-/// Opens the routes of these entries, in order, in these places, which must be empty. Takes all memory that they will
-/// ever need. An error means that memory was refused, that an entry is out of its limits (`run` requires that none is), or
-/// that there are fewer places.
+/// Opens the routes of these entries, in order, in these places, which must be empty. Allocates all memory that they will
+/// ever need. An error means out of memory, that an entry is out of its limits (`run` requires that none is), or that there
+/// are fewer places.
 pub fn open_routes<'a>(
     alloc: Global,
     entries: &[Entry],
-    places: &'a [Place<Named>],
+    places: &'a [Place<NameAttachment>],
 ) -> Result<Opened<'a>, AllocError>
     ensures entries { IfOk result (λ o. terms_in (came o.routes) ≡ map terms_of entries.now) }
     ensures opened { IfOk result (λ o. AreOpened (came o.routes) o.ends.items) }

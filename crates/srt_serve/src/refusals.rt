@@ -1,4 +1,4 @@
-//! Refused conclusions: what a watcher is told about one.
+//! Refused conclusions, as they are reported to a watcher.
 
 ghost use Rattle.std.specs.Prelude.{◌≡◌, ◌≤◌, [], Ok, None, Some, length};
 ghost use Rattle.srt_lobby.specs.Names.{names_of};
@@ -7,7 +7,7 @@ ghost use Rattle.srt_packet.specs.View.{packet_of};
 ghost use Rattle.srt_hs.specs.View.{handshake_of};
 ghost use Rattle.srt_hs.specs.Reading.{handshake_in};
 ghost use Rattle.srt_streamid.specs.Reading.{ask_in};
-ghost use Rattle.srt_serve.specs.Refusals.{code_of, cut, refusal_in, name_by_ask, name_by_stream_id, name_by_handshake, name_by_packet, name_asked};
+ghost use Rattle.srt_serve.specs.Refusals.{code_of, cut, refusal_in, name_by_ask, name_by_stream_id, name_by_handshake, name_by_packet, requested_name};
 
 use arrayvec::ArrayVec;
 use srt_hs::{HsRef, stream_id};
@@ -30,7 +30,7 @@ fn code_of(kind: u32) -> Option<u32>
 }
 
 /// The code of the refusal that this handshake packet is; `None` if it is none. Its handshake type is the sixth word
-/// behind the header (section 3.2.1).
+/// after the header (section 3.2.1).
 pub fn refusal_in(packet: &[u8]) -> Option<u32>
     ensures { result ≡ refusal_in packet.now }
 {
@@ -99,10 +99,10 @@ fn name_in_packet(packet: PacketRef<'_>) -> ArrayVec<u8, MAX_NAME>
     }
 }
 
-/// The name that the Stream ID of a conclusion asks for, cut to 64 bytes. Empty if the datagram is none, or if its Stream
-/// ID asks for no name.
-pub fn name_asked(datagram: &[u8]) -> ArrayVec<u8, MAX_NAME>
-    ensures { result.items ≡ name_asked datagram.now }
+/// Returns the name that the Stream ID of a conclusion requests, cut to 64 bytes. Empty if the datagram is none, or if its
+/// Stream ID requests no name.
+pub fn requested_name(datagram: &[u8]) -> ArrayVec<u8, MAX_NAME>
+    ensures { result.items ≡ requested_name datagram.now }
 {
     match decode(datagram) {
         Ok(packet) => name_in_packet(packet),
@@ -110,24 +110,24 @@ pub fn name_asked(datagram: &[u8]) -> ArrayVec<u8, MAX_NAME>
     }
 }
 
-/// What a watcher is told of a conclusion that the lobby, which has these names, refused with this code.
+/// Returns the report of a conclusion that the lobby, which has these names, refused with this code.
 pub fn lobby_refusal(names: &Names, peer: Peer, code: u32, conclusion: &[u8]) -> Refusal
     ensures route { result.route ≡ None }
     ensures peer { result.peer ≡ peer }
     ensures code { result.code ≡ code }
-    ensures name { result.name.items ≡ name_asked conclusion.now }
+    ensures name { result.name.items ≡ requested_name conclusion.now }
     ensures cause { result.cause ≡ cause_of (names_of names.now) (record { peer = peer; bytes = conclusion.now }) }
 {
     Refusal {
         route: None,
         peer,
         code,
-        name: name_asked(conclusion),
+        name: requested_name(conclusion),
         cause: refusal_cause(names, peer, conclusion),
     }
 }
 
-/// What a watcher is told of a conclusion that the route with this index refused with this code.
+/// Returns the report of a conclusion that the route with this index refused with this code.
 pub fn route_refusal(route: usize, peer: Peer, code: u32) -> Refusal
     ensures route { result.route ≡ Some route }
     ensures peer { result.peer ≡ peer }

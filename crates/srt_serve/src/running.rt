@@ -13,18 +13,18 @@ ghost use Rattle.srt_mailbox.specs.Ends.{Producer};
 ghost use Rattle.srt_mailbox.specs.Identities.{identity_in};
 ghost use Rattle.srt_mailbox.specs.Places.{came, locks_of};
 ghost use Rattle.srt_poller.specs.Devices.{heard, carried};
-ghost use Rattle.srt_poller.specs.Openings.{NewRoute, names_in, ends_in, news, news_more};
+ghost use Rattle.srt_poller.specs.Openings.{NewRoute, names_in, ends_in, route_reports, route_reports_more};
 ghost use Rattle.srt_serve.specs.NamesAtStart.{later_hidden, first_names};
 ghost use Rattle.srt_serve.specs.inside.Polled.{AreReady};
 ghost use Rattle.srt_serve.specs.Opened.{AreOpened, terms_in, new_clocks};
-ghost use Rattle.srt_serve.specs.Ran.{told_by, RanChanging, RanUnder, Ran as TheRan};
+ghost use Rattle.srt_serve.specs.Ran.{recorded_by, RanChanging, RanUnder, Ran as TheRan};
 
-use crate::arrivals::{ClockArrivals, Named, News, PollerArrivals, open_places};
+use crate::arrivals::{ClockArrivals, NameAttachment, PollerArrivals, RouteNotices, open_places};
 use crate::opening::{Opened, open_routes};
-use crate::post::Post;
 use crate::serving::{OtherThreads, PollerState, RunContext, serve_routes};
 use crate::settling::{Busy, began_with, came_to_all, settle_routes};
 use crate::ticking::{Clocks, Ticker, take_new};
+use crate::watcher_channel::WatcherChannel;
 use crate::watching::watch_last;
 use srt_cookie::Secret;
 use srt_lobby::Names;
@@ -42,7 +42,7 @@ use thiserror::Error;
 /// Why a run failed. Its text is the line that the program prints.
 #[derive(Clone, Copy, Debug, Error, PartialEq, Eq)]
 pub enum RunFault {
-    /// Memory was refused. Nothing was read.
+    /// Out of memory. Nothing was read.
     #[error("memory")]
     OutOfMemory,
     /// A thread could not be started, or wasn't running after ten seconds. Nothing was read, and the threads that were
@@ -50,7 +50,7 @@ pub enum RunFault {
     #[error("thread fault")]
     Thread,
     /// A route could not be settled, since another call had claimed it. Datagrams were read and sent, but there are no
-    /// report and no accounts.
+    /// report and no final counters.
     #[error("busy")]
     Busy,
 }
@@ -94,11 +94,11 @@ pub struct Watched<K: Drop, T: Drop> {
 // What the threads of a run share. It is opened before any of them is started.
 #[derive(Drop)]
 struct Shared {
-    places: Vec<Place<Named>>,
-    news: News,
+    places: Vec<Place<NameAttachment>>,
+    notices: RouteNotices,
     wakeups: Wakeups,
     // none if the run isn't watched
-    post: Option<Post>,
+    channel: Option<WatcherChannel>,
 }
 
 // What a run allocates besides its routes and what its threads share.
@@ -110,7 +110,19 @@ struct Prepared {
     accounts: Vec<Account>,
 }
 
-// Who takes part in a run besides its poller.
+// The task of a run.
+#[derive(Clone, Copy)]
+struct Task<'a> {
+    secret: &'a Secret,
+    // the routes with which it begins, and their schedules
+    entries: &'a [Entry],
+    schedules: &'a [Schedule],
+    // the most rounds; their number if the run isn't watched
+    rounds: u64,
+    is_watched: bool,
+}
+
+// The parts of a run other than its poller.
 #[derive(Drop)]
 struct Crew<K: Drop, G: Drop, T: Drop> {
     ticker: K,
@@ -122,7 +134,7 @@ struct Crew<K: Drop, G: Drop, T: Drop> {
 #[derive(Drop)]
 struct Ending<'a> {
     // of each place, which route it was given before any thread was started
-    put: Vec<OnceToken<'a, Seat<Named>>>,
+    put: Vec<OnceToken<'a, Seat<NameAttachment>>>,
     // none, and room for those of all routes
     accounts: Vec<Account>,
 }
@@ -152,12 +164,12 @@ fn open_wakeups(
     Ok(wakeups)
 }
 
-fn open_post(alloc: Global, is_watched: bool) -> Result<Option<Post>, AllocError>
-    ensures { IfOk result (λ post. IsSome post ↔ (is_watched ≡ true)) }
+fn open_channel(alloc: Global, is_watched: bool) -> Result<Option<WatcherChannel>, AllocError>
+    ensures { IfOk result (λ channel. IsSome channel ↔ (is_watched ≡ true)) }
 {
     if is_watched {
-        let post = Post::open(alloc)?;
-        Ok(Some(post))
+        let channel = WatcherChannel::open(alloc)?;
+        Ok(Some(channel))
     } else {
         Ok(None)
     }
@@ -170,19 +182,19 @@ fn open_shared(
     workers: usize,
     is_watched: bool,
 ) -> Result<Shared, AllocError>
-    ensures post { IfOk result (λ s. IsSome s.post ↔ (is_watched ≡ true)) }
+    ensures channel { IfOk result (λ s. IsSome s.channel ↔ (is_watched ≡ true)) }
     ensures places { IfOk result (λ s. is_watched ≡ true → length s.places.items ≡ 511) }
 {
     let routes = if is_watched { MAX_ROUTES } else { first };
     Ok(Shared {
         places: open_places(alloc, routes)?,
-        news: News::open(alloc, routes)?,
+        notices: RouteNotices::open(alloc, routes)?,
         wakeups: open_wakeups(alloc, routes, workers, is_watched)?,
-        post: open_post(alloc, is_watched)?,
+        channel: open_channel(alloc, is_watched)?,
     })
 }
 
-// Takes the memory for the names, hides those of later routes, and makes room for plans and accounts.
+// Allocates the names, hides those of later routes, and makes room for plans and final counters.
 fn prepare(alloc: Global, entries: &[Entry], schedules: &[Schedule]) -> Result<Prepared, AllocError>
     requires { length schedules.now ≡ length entries.now }
     ensures names { IfOk result (λ p. names_of p.names ≡ first_names schedules.now (map terms_of entries.now)) }
@@ -199,14 +211,15 @@ fn prepare(alloc: Global, entries: &[Entry], schedules: &[Schedule]) -> Result<P
     })
 }
 
-// Takes the poller's ends of the routes that have come since its last round, as long as there is room for them. None are
+// Takes the poller's ends of the routes that were added since its last round, as long as there is room for them. None are
 // taken if the run isn't watched.
-fn take_late<O: Openings>(post: Option<&Post>, ends: &mut Vec<Ends>, openings: &mut O)
-    ensures { (more : List NewRoute) × ((more ≡ []) ⊎ IsSome post.entry) × AreHidden (names_in more)
-        × (news (O.came openings.new) (O.asked openings.new) ≡ news_more (news (O.came openings.old) (O.asked openings.old)) more [])
+fn take_late<O: Openings>(channel: Option<&WatcherChannel>, ends: &mut Vec<Ends>, openings: &mut O)
+    ensures { (more : List NewRoute) × ((more ≡ []) ⊎ IsSome channel.entry) × AreHidden (names_in more)
+        × (route_reports (O.added openings.new) (O.requested openings.new) ≡ route_reports_more
+        (route_reports (O.added openings.old) (O.requested openings.old)) more [])
         × (ends.new.items ≡ ends.old.items ++ ends_in more) }
 {
-    let Some(_) = post else {
+    let Some(_) = channel else {
         return;
     };
     for at in ends.len()..ends.capacity() {
@@ -219,38 +232,38 @@ fn take_late<O: Openings>(post: Option<&Post>, ends: &mut Vec<Ends>, openings: &
     }
 }
 
-// After all threads have ended: takes the clock's ends of the routes that have come since its last tick, and shows each
-// route once more to the watcher. Fails if the polling thread's reader hasn't come to all routes with which the run began,
-// or the ticking thread's to all to which that came, or if these are more than 511.
+// After all threads have ended: takes the clock's ends of the routes that were added since its last tick, and shows each
+// route once more to the watcher. Fails if the polling thread's reader hasn't reached all routes with which the run began,
+// or the ticking thread's all that the polling thread's has, or if these are more than 511.
 fn come_to_all<'a, R: Wait, K: Drop, T: Watch>(
-    context: &RunContext<'a, R, Place<Named>>,
-    put: &Vec<OnceToken<'a, Seat<Named>>>,
-    routes: &SeatReader<'a, Named>,
+    context: &RunContext<'a, R, Place<NameAttachment>>,
+    put: &Vec<OnceToken<'a, Seat<NameAttachment>>>,
+    routes: &SeatReader<'a, NameAttachment>,
     clocks: &mut Clocks<K, ClockEnd, ClockArrivals<'a>>,
     watch: &mut T,
 ) -> Result<(), Busy>
     requires put { map (λ t. t.of) put.now.items ≡ take (length put.now.items) (locks_of routes.now) }
-    requires places { locks_of clocks.old.coming.reader ≡ locks_of routes.now }
+    requires places { locks_of clocks.old.arrivals.reader ≡ locks_of routes.now }
     ensures began { OnOk result ((more : List CellIdentity) × (came routes.now ≡ map (λ t. identity_in t.value.cell) put.now.items ++ more)) }
     ensures few { OnOk result (length (came routes.now) ≤ 511) }
     ensures taken { OnOk result ((more : List Producer)
-        × (new_clocks (came clocks.new.coming.reader) ≡ new_clocks (came clocks.old.coming.reader) ++ more)
+        × (new_clocks (came clocks.new.arrivals.reader) ≡ new_clocks (came clocks.old.arrivals.reader) ++ more)
         × (clocks.new.ends.items ≡ clocks.old.ends.items ++ more)) }
-    ensures all { OnOk result ((more : List CellIdentity) × (came clocks.new.coming.reader ≡ came routes.now ++ more)) }
+    ensures all { OnOk result ((more : List CellIdentity) × (came clocks.new.arrivals.reader ≡ came routes.now ++ more)) }
     ensures ticker { clocks.new.ticker ≡ clocks.old.ticker }
 {
     let Ok(()) = began_with(routes, put) else {
         return Err(Busy);
     };
-    watch_last(context.rt, context.cells, context.post, watch);
-    take_new(&mut clocks.ends, &mut clocks.coming);
-    came_to_all(routes, &clocks.coming.reader)
+    watch_last(context.rt, context.cells, context.channel, watch);
+    take_new(&mut clocks.ends, &mut clocks.arrivals);
+    came_to_all(routes, &clocks.arrivals.reader)
 }
 
 // As `run_over`, over the routes with which the run begins.
 #[tactic(auto, unfolding(crate::specs::inside::Polled::AreUntouched))]
 fn run_opened<'a, R, S: Source, W: Wire, K, G, T>(
-    context: &RunContext<'a, R, Place<Named>>,
+    context: &RunContext<'a, R, Place<NameAttachment>>,
     source: &mut S,
     wire: &mut W,
     mut polling: PollerState<G, PollerArrivals<'a, 'a>>,
@@ -263,27 +276,27 @@ where
     G: Gate + Send + Drop,
     T: Watch + Send + Drop,
     requires ready { AreReady context.now.schedules.now (names_of polling.names) polling.ends.items }
-    requires room { IsSome context.now.post → 511 ≤ vec_capacity polling.ends }
+    requires room { IsSome context.now.channel → 511 ≤ vec_capacity polling.ends }
     requires few { context.now.rounds ≤ 2 ^ 48 }
     requires routes { length (terms_in (came polling.openings.reader)) ≤ 511 }
     requires names { names_of polling.names ≡ first_names context.now.schedules.now (terms_in (came polling.openings.reader)) }
     requires opened { AreOpened (came polling.openings.reader) polling.ends.items }
-    requires clocks { others.clocks.ends.items ≡ new_clocks (came others.clocks.coming.reader) }
-    requires places { locks_of others.clocks.coming.reader ≡ locks_of polling.openings.reader }
+    requires clocks { others.clocks.ends.items ≡ new_clocks (came others.clocks.arrivals.reader) }
+    requires places { locks_of others.clocks.arrivals.reader ≡ locks_of polling.openings.reader }
     requires put { (map (λ t. t.of) ending.put.items ≡ take (length ending.put.items) (locks_of polling.openings.reader))
         × (map (λ t. identity_in t.value.cell) ending.put.items ≡ came polling.openings.reader) }
     requires accounts { (ending.accounts.items ≡ []) × (511 ≤ vec_capacity ending.accounts) }
-    ensures fixed { (IsSome context.now.post → ⊥) → IfOk result (λ r. RanUnder (IsSome context.now.post)
+    ensures fixed { (IsSome context.now.channel → ⊥) → IfOk result (λ r. RanUnder (IsSome context.now.channel)
         (class_of (secret_bytes context.now.secret.now)) context.now.schedules.now (terms_in (came polling.entry.openings.reader)) r.rounds
-        (told_by (heard (S.gave source.old) (S.calls source.old)) (carried (W.handed wire.old) (W.attempts wire.old)) (K.gave others.entry.clocks.ticker))
-        (told_by (heard (S.gave source.new) (S.calls source.new)) (carried (W.handed wire.new) (W.attempts wire.new)) (K.gave r.ticker))
+        (recorded_by (heard (S.gave source.old) (S.calls source.old)) (carried (W.handed wire.old) (W.attempts wire.old)) (K.gave others.entry.clocks.ticker))
+        (recorded_by (heard (S.gave source.new) (S.calls source.new)) (carried (W.handed wire.new) (W.attempts wire.new)) (K.gave r.ticker))
         r.report r.accounts.items) }
-    ensures changing { IsSome context.now.post → IfOk result (λ r. RanChanging
+    ensures changing { IsSome context.now.channel → IfOk result (λ r. RanChanging
         (class_of (secret_bytes context.now.secret.now)) context.now.schedules.now (terms_in (came polling.entry.openings.reader)) r.rounds
-        (told_by (heard (S.gave source.old) (S.calls source.old)) (carried (W.handed wire.old) (W.attempts wire.old)) (K.gave others.entry.clocks.ticker))
-        (told_by (heard (S.gave source.new) (S.calls source.new)) (carried (W.handed wire.new) (W.attempts wire.new)) (K.gave r.ticker))
+        (recorded_by (heard (S.gave source.old) (S.calls source.old)) (carried (W.handed wire.old) (W.attempts wire.old)) (K.gave others.entry.clocks.ticker))
+        (recorded_by (heard (S.gave source.new) (S.calls source.new)) (carried (W.handed wire.new) (W.attempts wire.new)) (K.gave r.ticker))
         r.report r.accounts.items) }
-    ensures rounds { IfOk result (λ r. (r.rounds ≤ context.now.rounds) × ((r.rounds ≡ context.now.rounds) ⊎ IsSome context.now.post)) }
+    ensures rounds { IfOk result (λ r. (r.rounds ≤ context.now.rounds) × ((r.rounds ≡ context.now.rounds) ⊎ IsSome context.now.channel)) }
     ensures unread { (result ≡ Err RunFault.OutOfMemory) ⊎ (result ≡ Err RunFault.Thread) → (source.new ≡ source.old) × (wire.new ≡ wire.old) }
 {
     let Some(pumping) = serve_routes(context, source, wire, &mut polling, &mut others) else {
@@ -299,7 +312,7 @@ where
         mut watch,
         ..
     } = others;
-    take_late(context.post, &mut ends, &mut openings);
+    take_late(context.channel, &mut ends, &mut openings);
     let routes = openings.reader;
     let Ok(()) = come_to_all(context, &ending.put, &routes, &mut clocks, &mut watch) else {
         return Err(RunFault::Busy);
@@ -324,7 +337,7 @@ where
 
 // As `run_with`, over what its threads share and what was prepared: opens the routes.
 fn run_over<'a, R, S: Source, W: Wire, K, G, T>(
-    context: &RunContext<'a, R, Place<Named>>,
+    context: &RunContext<'a, R, Place<NameAttachment>>,
     entries: &[Entry],
     source: &mut S,
     wire: &mut W,
@@ -341,24 +354,24 @@ where
     requires few { context.now.rounds ≤ 2 ^ 48 }
     requires names { names_of prepared.names ≡ first_names context.now.schedules.now (map terms_of entries.now) }
     requires accounts { (prepared.accounts.items ≡ []) × (511 ≤ vec_capacity prepared.accounts) }
-    requires places { IsSome context.now.post → length context.now.cells.now ≡ 511 }
-    ensures fixed { (IsSome context.now.post → ⊥) → IfOk result (λ r. RanUnder (IsSome context.now.post)
+    requires places { IsSome context.now.channel → length context.now.cells.now ≡ 511 }
+    ensures fixed { (IsSome context.now.channel → ⊥) → IfOk result (λ r. RanUnder (IsSome context.now.channel)
         (class_of (secret_bytes context.now.secret.now)) context.now.schedules.now (map terms_of entries.now) r.rounds
-        (told_by (heard (S.gave source.old) (S.calls source.old)) (carried (W.handed wire.old) (W.attempts wire.old)) (K.gave crew.ticker))
-        (told_by (heard (S.gave source.new) (S.calls source.new)) (carried (W.handed wire.new) (W.attempts wire.new)) (K.gave r.ticker))
+        (recorded_by (heard (S.gave source.old) (S.calls source.old)) (carried (W.handed wire.old) (W.attempts wire.old)) (K.gave crew.ticker))
+        (recorded_by (heard (S.gave source.new) (S.calls source.new)) (carried (W.handed wire.new) (W.attempts wire.new)) (K.gave r.ticker))
         r.report r.accounts.items) }
-    ensures changing { IsSome context.now.post → IfOk result (λ r. RanChanging
+    ensures changing { IsSome context.now.channel → IfOk result (λ r. RanChanging
         (class_of (secret_bytes context.now.secret.now)) context.now.schedules.now (map terms_of entries.now) r.rounds
-        (told_by (heard (S.gave source.old) (S.calls source.old)) (carried (W.handed wire.old) (W.attempts wire.old)) (K.gave crew.ticker))
-        (told_by (heard (S.gave source.new) (S.calls source.new)) (carried (W.handed wire.new) (W.attempts wire.new)) (K.gave r.ticker))
+        (recorded_by (heard (S.gave source.old) (S.calls source.old)) (carried (W.handed wire.old) (W.attempts wire.old)) (K.gave crew.ticker))
+        (recorded_by (heard (S.gave source.new) (S.calls source.new)) (carried (W.handed wire.new) (W.attempts wire.new)) (K.gave r.ticker))
         r.report r.accounts.items) }
-    ensures rounds { IfOk result (λ r. (r.rounds ≤ context.now.rounds) × ((r.rounds ≡ context.now.rounds) ⊎ IsSome context.now.post)) }
+    ensures rounds { IfOk result (λ r. (r.rounds ≤ context.now.rounds) × ((r.rounds ≡ context.now.rounds) ⊎ IsSome context.now.channel)) }
     ensures unread { (result ≡ Err RunFault.OutOfMemory) ⊎ (result ≡ Err RunFault.Thread) → (source.new ≡ source.old) × (wire.new ≡ wire.old) }
 {
     let RunContext {
         alloc,
         cells,
-        news,
+        notices,
         ..
     } = *context;
     let Ok(opened) = open_routes(alloc, entries, cells) else {
@@ -371,7 +384,7 @@ where
         clocks,
         put,
     } = opened;
-    let Ok(openings) = PollerArrivals::new(alloc, routes, news, MAX_ROUTES) else {
+    let Ok(openings) = PollerArrivals::new(alloc, routes, notices, MAX_ROUTES) else {
         return Err(RunFault::OutOfMemory);
     };
     let Prepared {
@@ -395,7 +408,7 @@ where
     let others = OtherThreads {
         clocks: Clocks {
             ends: clocks,
-            coming: arrivals,
+            arrivals,
             ticker,
         },
         gates: workers,
@@ -405,56 +418,58 @@ where
     run_opened(context, source, wire, polling, others, ending)
 }
 
-// Runs the gateway as `run` and `run_until` do. If it isn't watched, the watcher is never asked and sees nothing.
+// Runs the gateway as `run` and `run_until` do. If it isn't watched, the watcher is never called.
 fn run_with<'a, R, S: Source, W: Wire, K, G, T>(
     rt: &'a R,
     alloc: Global,
-    secret: &'a Secret,
-    entries: &[Entry],
-    schedules: &'a [Schedule],
+    task: Task<'a>,
     source: &mut S,
     wire: &mut W,
-    ticker: K,
-    gates: Gates<G>,
-    watch: T,
-    is_watched: bool,
-    rounds: u64,
+    crew: Crew<K, G, T>,
 ) -> Result<Watched<K, T>, RunFault>
 where
     R: Threads + Wait + Sync,
     K: Ticker + Send + Drop,
     G: Gate + Send + Drop,
     T: Watch + Send + Drop,
-    requires entries { fault_of (map terms_of entries.now) ≡ None }
-    requires schedules { length schedules.now ≡ length entries.now }
-    requires workers { (1 ≤ vec_len gates.workers) × (vec_len gates.workers ≤ 16) }
-    requires few { rounds ≤ 2 ^ 48 }
-    ensures fixed { is_watched ≡ false → IfOk result (λ r. RanUnder (is_watched ≡ true)
-        (class_of (secret_bytes secret.now)) schedules.now (map terms_of entries.now) r.rounds
-        (told_by (heard (S.gave source.old) (S.calls source.old)) (carried (W.handed wire.old) (W.attempts wire.old)) (K.gave ticker))
-        (told_by (heard (S.gave source.new) (S.calls source.new)) (carried (W.handed wire.new) (W.attempts wire.new)) (K.gave r.ticker))
+    requires entries { fault_of (map terms_of task.entries.now) ≡ None }
+    requires schedules { length task.schedules.now ≡ length task.entries.now }
+    requires workers { (1 ≤ vec_len crew.gates.workers) × (vec_len crew.gates.workers ≤ 16) }
+    requires few { task.rounds ≤ 2 ^ 48 }
+    ensures fixed { task.entry.is_watched ≡ false → IfOk result (λ r. RanUnder (task.entry.is_watched ≡ true)
+        (class_of (secret_bytes task.entry.secret.now)) task.entry.schedules.now (map terms_of task.entry.entries.now) r.rounds
+        (recorded_by (heard (S.gave source.old) (S.calls source.old)) (carried (W.handed wire.old) (W.attempts wire.old)) (K.gave crew.ticker))
+        (recorded_by (heard (S.gave source.new) (S.calls source.new)) (carried (W.handed wire.new) (W.attempts wire.new)) (K.gave r.ticker))
         r.report r.accounts.items) }
-    ensures changing { is_watched ≡ true → IfOk result (λ r. RanChanging
-        (class_of (secret_bytes secret.now)) schedules.now (map terms_of entries.now) r.rounds
-        (told_by (heard (S.gave source.old) (S.calls source.old)) (carried (W.handed wire.old) (W.attempts wire.old)) (K.gave ticker))
-        (told_by (heard (S.gave source.new) (S.calls source.new)) (carried (W.handed wire.new) (W.attempts wire.new)) (K.gave r.ticker))
+    ensures changing { task.entry.is_watched ≡ true → IfOk result (λ r. RanChanging
+        (class_of (secret_bytes task.entry.secret.now)) task.entry.schedules.now (map terms_of task.entry.entries.now) r.rounds
+        (recorded_by (heard (S.gave source.old) (S.calls source.old)) (carried (W.handed wire.old) (W.attempts wire.old)) (K.gave crew.ticker))
+        (recorded_by (heard (S.gave source.new) (S.calls source.new)) (carried (W.handed wire.new) (W.attempts wire.new)) (K.gave r.ticker))
         r.report r.accounts.items) }
-    ensures rounds { IfOk result (λ r. (r.rounds ≤ rounds) × ((r.rounds ≡ rounds) ⊎ (is_watched ≡ true))) }
+    ensures rounds { IfOk result (λ r. (r.rounds ≤ task.entry.rounds) × ((r.rounds ≡ task.entry.rounds) ⊎ (task.entry.is_watched ≡ true))) }
     ensures unread { (result ≡ Err RunFault.OutOfMemory) ⊎ (result ≡ Err RunFault.Thread) → (source.new ≡ source.old) × (wire.new ≡ wire.old) }
 {
+    let Task {
+        secret,
+        entries,
+        schedules,
+        is_watched,
+        ..
+    } = task;
     let Ok(prepared) = prepare(alloc, entries, schedules) else {
         return Err(RunFault::OutOfMemory);
     };
-    let Ok(shared) = open_shared(alloc, entries.len(), gates.workers.len(), is_watched) else {
+    let workers = crew.gates.workers.len();
+    let Ok(shared) = open_shared(alloc, entries.len(), workers, is_watched) else {
         return Err(RunFault::OutOfMemory);
     };
     let Shared {
         places,
-        news,
+        notices,
         wakeups,
-        post,
+        channel,
     } = shared;
-    let told = post.as_ref();
+    let watcher = channel.as_ref();
     let context = RunContext {
         rt,
         alloc,
@@ -462,28 +477,23 @@ where
         schedules,
         cells: places.as_slice(),
         routes: entries.len(),
-        news: &news,
+        notices: &notices,
         wakeups: &wakeups,
-        post: told,
-        rounds,
-    };
-    let crew = Crew {
-        ticker,
-        gates,
-        watch,
+        channel: watcher,
+        rounds: task.rounds,
     };
     run_over(&context, entries, source, wire, crew, prepared)
 }
 
-/// Runs the gateway of these entries for `rounds` rounds of its poller, and returns the poller's report and an account
-/// of each route. The entries must be right as a whole: names distinct, numbers within their limits. `schedules` has a
-/// schedule for each entry, and `gates` a gate for each worker, 1 to 16, and perhaps one for the polling thread.
+/// Runs the gateway of these entries for `rounds` rounds of its poller, and returns the poller's report and the final
+/// counters of each route. The entries must be valid as a whole: names distinct, numbers within their limits. `schedules`
+/// has a schedule for each entry, and `gates` a gate for each worker, 1 to 16, and perhaps one for the polling thread.
 ///
-/// First all routes are opened, those that callers find in a later round too, which takes all memory but that of
+/// First all routes are opened, also those that clients find in a later round. This allocates all memory but that of
 /// threads and of arriving datagrams. The names of later routes are hidden until their round. Then one thread for each
 /// worker and one ticking thread are started. Once all of them run, the calling thread polls the source and the wire,
 /// and opens and closes routes at the beginning of each round; the ticking thread offers a tick to all routes, hidden ones
-/// too, at each moment that the ticker gives; and the workers serve all of them. After the rounds all threads end, and
+/// too, at each time that the ticker returns; and the workers serve all of them. After the rounds all threads end, and
 /// each route is settled. A ticker that waits delays that end.
 pub fn run<R, S: Source, W: Wire, K, G>(
     rt: &R,
@@ -505,25 +515,24 @@ where
     requires schedules { length schedules.now ≡ length entries.now }
     requires workers { (1 ≤ vec_len gates.workers) × (vec_len gates.workers ≤ 16) }
     ensures ran { IfOk result (λ r. TheRan (class_of (secret_bytes secret.now)) schedules.now (map terms_of entries.now) rounds
-        (told_by (heard (S.gave source.old) (S.calls source.old)) (carried (W.handed wire.old) (W.attempts wire.old)) (K.gave ticker))
-        (told_by (heard (S.gave source.new) (S.calls source.new)) (carried (W.handed wire.new) (W.attempts wire.new)) (K.gave r.ticker))
+        (recorded_by (heard (S.gave source.old) (S.calls source.old)) (carried (W.handed wire.old) (W.attempts wire.old)) (K.gave ticker))
+        (recorded_by (heard (S.gave source.new) (S.calls source.new)) (carried (W.handed wire.new) (W.attempts wire.new)) (K.gave r.ticker))
         r.report r.accounts.items) }
     ensures unread { (result ≡ Err RunFault.OutOfMemory) ⊎ (result ≡ Err RunFault.Thread) → (source.new ≡ source.old) × (wire.new ≡ wire.old) }
 {
-    match run_with(
-        rt,
-        alloc,
+    let task = Task {
         secret,
         entries,
         schedules,
-        source,
-        wire,
+        rounds: rounds as u64,
+        is_watched: false,
+    };
+    let crew = Crew {
         ticker,
         gates,
-        NoWatcher,
-        false,
-        rounds as u64,
-    ) {
+        watch: NoWatcher,
+    };
+    match run_with(rt, alloc, task, source, wire, crew) {
         Ok(watched) => {
             let Watched {
                 report,
@@ -542,15 +551,14 @@ where
     }
 }
 
-/// As `run`, until the watcher asks the poller to end, and for at most `rounds` rounds, 2^48 at most. Before each round
-/// the poller is asked what the watcher said last: in a round that closes all, no route opens, and Close is offered to
-/// each shown one.
+/// As `run`, until the watcher orders the poller to end, and for at most `rounds` rounds, 2^48 at most. The watcher's
+/// latest order holds for each round: in a round that closes all, no route opens, and Close is offered to each visible one.
 ///
-/// A further thread watches. It repeats these steps: it lets the watcher rest (`Watch::next`), tells it what was refused, and shows
-/// it the routes if it looks. After all threads have ended and before the routes are settled, each route is shown once
-/// more, and the refusals that are left are told. After each rest the watcher is asked for a change of the routes too
-/// (`Watch::change`): those that open get the next of the 511 indexes, and callers find them from one of the next rounds on, once
-/// no other shown route has their name; those that close are offered Close from then on. The threads end whatever the
+/// A further thread watches. It repeats these steps: it lets the watcher rest (`Watch::next`), reports the refusals, and
+/// shows it the routes if it wants them. After all threads have ended and before the routes are settled, each route is
+/// shown once more, and the remaining refusals are reported. After each rest the watcher may change the routes too
+/// (`Watch::change_routes`): those that open get the next of the 511 indexes, and clients find them from one of the next
+/// rounds on, once no other visible route has their name; those that close are offered Close from then on. The threads end whatever the
 /// watcher does; but one that rests for long delays that, as a ticker that waits does.
 ///
 /// The accounts are those of all routes, in the order of their indexes: of the entries, and of the routes that opened. One
@@ -579,15 +587,25 @@ where
     requires workers { (1 ≤ vec_len gates.workers) × (vec_len gates.workers ≤ 16) }
     requires few { rounds ≤ 2 ^ 48 }
     ensures ran { IfOk result (λ r. RanChanging (class_of (secret_bytes secret.now)) schedules.now (map terms_of entries.now) r.rounds
-        (told_by (heard (S.gave source.old) (S.calls source.old)) (carried (W.handed wire.old) (W.attempts wire.old)) (K.gave ticker))
-        (told_by (heard (S.gave source.new) (S.calls source.new)) (carried (W.handed wire.new) (W.attempts wire.new)) (K.gave r.ticker))
+        (recorded_by (heard (S.gave source.old) (S.calls source.old)) (carried (W.handed wire.old) (W.attempts wire.old)) (K.gave ticker))
+        (recorded_by (heard (S.gave source.new) (S.calls source.new)) (carried (W.handed wire.new) (W.attempts wire.new)) (K.gave r.ticker))
         r.report r.accounts.items) }
     ensures rounds { IfOk result (λ r. r.rounds ≤ rounds) }
     ensures unread { (result ≡ Err RunFault.OutOfMemory) ⊎ (result ≡ Err RunFault.Thread) → (source.new ≡ source.old) × (wire.new ≡ wire.old) }
 {
-    run_with(
-        rt, alloc, secret, entries, schedules, source, wire, ticker, gates, watch, true, rounds,
-    )
+    let task = Task {
+        secret,
+        entries,
+        schedules,
+        rounds,
+        is_watched: true,
+    };
+    let crew = Crew {
+        ticker,
+        gates,
+        watch,
+    };
+    run_with(rt, alloc, task, source, wire, crew)
 }
 
 #[cfg(test)]

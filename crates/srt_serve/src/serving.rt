@@ -6,14 +6,14 @@ ghost use Rattle.srt_lobby.specs.Lobby.{class_of};
 ghost use Rattle.srt_lobby.specs.Names.{names_of};
 ghost use Rattle.srt_poller.specs.Devices.{heard, carried};
 ghost use Rattle.std.specs.Vec.{vec_capacity};
-ghost use Rattle.srt_poller.specs.Openings.{news};
+ghost use Rattle.srt_poller.specs.Openings.{route_reports};
 ghost use Rattle.srt_poller.specs.Pumped.{before, after};
 ghost use Rattle.srt_serve.specs.inside.Polled.{AreReady, Polled, AreUntouched};
 
-use crate::arrivals::{Host, News};
-use crate::helping::Helper;
-use crate::post::Post;
+use crate::arrivals::{RouteHost, RouteNotices};
+use crate::inline_serving::InlineServer;
 use crate::ticking::Clockwork;
+use crate::watcher_channel::WatcherChannel;
 use crate::watching::{Changer, watch_routes};
 use crate::working::work;
 use srt_cookie::Secret;
@@ -43,12 +43,12 @@ pub struct RunContext<'a, R, C> {
     pub cells: &'a [C],
     /// How many of them the run begins with; the others are empty places.
     pub routes: usize,
-    /// What the watching thread tells the polling one of routes.
-    pub news: &'a News,
-    /// Which routes may have work, and whether the run is over.
+    /// Notices of the watching thread to the polling one.
+    pub notices: &'a RouteNotices,
+    /// Which routes may have work, and whether the run has ended.
     pub wakeups: &'a Wakeups,
-    /// What the polling thread and the watching one tell each other; none if the run isn't watched.
-    pub post: Option<&'a Post>,
+    /// Between the polling thread and the watching one; none if the run isn't watched.
+    pub channel: Option<&'a WatcherChannel>,
     /// The most rounds of the poller; their number if the run isn't watched.
     pub rounds: u64,
 }
@@ -56,13 +56,13 @@ pub struct RunContext<'a, R, C> {
 /// What the polling thread has for itself: the routes as callers find them.
 #[derive(Drop)]
 pub struct PollerState<G: Drop, O: Drop> {
-    /// The names of the routes, in the order of their indexes. A round shows and hides them.
+    /// The names of the routes, in the order of their indexes. A round makes them visible and hides them.
     pub names: Names,
     /// The poller's ends of all routes, in the same order. Room for 511 if the run is watched.
     pub ends: Vec<Ends>,
     /// Room for what becomes of the schedules if the run is watched.
     pub plans: Plans,
-    /// The routes that come, and those that are to close, if the run is watched.
+    /// The routes that are added, and those that are to close, if the run is watched.
     pub openings: O,
     /// The gate through which it serves routes, if it does. `serve_routes` takes it out.
     pub gate: Option<G>,
@@ -111,17 +111,17 @@ where
     });
 }
 
-// Watches until the run is over, if the run is watched.
-fn watch_over<R: Wait, C: Serve + Host, T: Watch>(context: &RunContext<R, C>, watch: &mut T) {
+// Watches until the run has ended, if the run is watched.
+fn watch_over<R: Wait, C: Serve + RouteHost, T: Watch>(context: &RunContext<R, C>, watch: &mut T) {
     name_thread(ThreadName::Watch);
-    if let Some(post) = context.post {
+    if let Some(channel) = context.channel {
         let changer = Changer {
             alloc: context.alloc,
             places: context.cells,
-            news: context.news,
+            notices: context.notices,
             routes: context.routes,
         };
-        watch_routes(context.rt, changer, context.wakeups, post, watch);
+        watch_routes(context.rt, changer, context.wakeups, channel, watch);
     }
 }
 
@@ -130,11 +130,11 @@ fn start_all<R, G, C, T>(context: &RunContext<R, C>, gates: &mut Vec<G>, watch: 
 where
     R: Threads + Wait + Sync,
     G: Gate + Send + Drop,
-    C: Serve + Host + Sync,
+    C: Serve + RouteHost + Sync,
     T: Watch + Send,
 {
     name_thread(ThreadName::Start);
-    if context.post.is_none() {
+    if context.channel.is_none() {
         start_workers(context, gates);
         return;
     }
@@ -154,11 +154,12 @@ fn poll<R: Wait, S: Source, W: Wire, O: Openings + Drop, C: Serve, G: Gate + Dro
     polling: &mut PollerState<G, O>,
 ) -> Option<Pumping>
     requires ready { AreReady context.now.schedules.now (names_of polling.old.names) polling.old.ends.items }
-    requires room { IsSome context.now.post → 511 ≤ vec_capacity polling.old.ends }
+    requires room { IsSome context.now.channel → 511 ≤ vec_capacity polling.old.ends }
     requires few { context.now.rounds ≤ 2 ^ 48 }
     ensures pumped { IfSome result (λ pumping.
-        Polled (IsSome context.now.post) (class_of (secret_bytes context.now.secret.now)) context.now.schedules.now context.now.rounds pumping.rounds
-        (news (O.came polling.old.openings) (O.asked polling.old.openings)) (news (O.came polling.new.openings) (O.asked polling.new.openings))
+        Polled (IsSome context.now.channel) (class_of (secret_bytes context.now.secret.now)) context.now.schedules.now context.now.rounds pumping.rounds
+        (route_reports (O.added polling.old.openings) (O.requested polling.old.openings))
+        (route_reports (O.added polling.new.openings) (O.requested polling.new.openings))
         (before (names_of polling.old.names) (heard (S.gave source.old) (S.calls source.old))
         (carried (W.handed wire.old) (W.attempts wire.old)) polling.old.ends.items)
         (after (names_of polling.new.names) (heard (S.gave source.new) (S.calls source.new))
@@ -172,7 +173,7 @@ fn poll<R: Wait, S: Source, W: Wire, O: Openings + Drop, C: Serve, G: Gate + Dro
         schedules,
         cells,
         wakeups,
-        post,
+        channel,
         rounds,
         ..
     } = *context;
@@ -180,18 +181,18 @@ fn poll<R: Wait, S: Source, W: Wire, O: Openings + Drop, C: Serve, G: Gate + Dro
         wakeups.finish();
         return None;
     }
-    let helper = Helper::new(rt, cells, wakeups, post, polling.gate.take());
+    let inline = InlineServer::new(rt, cells, wakeups, channel, polling.gate.take());
     let names = &mut polling.names;
     let ends = &mut polling.ends;
-    let pumping = match post {
+    let pumping = match channel {
         None => pump_under(
-            rt, alloc, secret, names, schedules, source, wire, ends, rounds, &helper,
+            rt, alloc, secret, names, schedules, source, wire, ends, rounds, &inline,
         ),
         Some(_) => {
             let plans = &mut polling.plans;
             let openings = &mut polling.openings;
             pump_changing(
-                rt, alloc, secret, names, schedules, plans, source, wire, ends, rounds, &helper,
+                rt, alloc, secret, names, schedules, plans, source, wire, ends, rounds, &inline,
                 openings,
             )
         }
@@ -211,7 +212,7 @@ where
     R: Threads + Wait + Sync,
     D: Clockwork + Send + Drop,
     G: Gate + Send + Drop,
-    C: Serve + Host + Sync,
+    C: Serve + RouteHost + Sync,
     T: Watch + Send + Drop,
     ensures { D.ticked clocks.old clocks.new }
 {
@@ -240,14 +241,15 @@ where
     O: Openings + Drop,
     D: Clockwork + Send + Drop,
     G: Gate + Send + Drop,
-    C: Serve + Host + Sync,
+    C: Serve + RouteHost + Sync,
     T: Watch + Send + Drop,
     requires ready { AreReady context.now.schedules.now (names_of polling.old.names) polling.old.ends.items }
-    requires room { IsSome context.now.post → 511 ≤ vec_capacity polling.old.ends }
+    requires room { IsSome context.now.channel → 511 ≤ vec_capacity polling.old.ends }
     requires few { context.now.rounds ≤ 2 ^ 48 }
     ensures pumped { IfSome result (λ pumping.
-        Polled (IsSome context.now.post) (class_of (secret_bytes context.now.secret.now)) context.now.schedules.now context.now.rounds pumping.rounds
-        (news (O.came polling.old.openings) (O.asked polling.old.openings)) (news (O.came polling.new.openings) (O.asked polling.new.openings))
+        Polled (IsSome context.now.channel) (class_of (secret_bytes context.now.secret.now)) context.now.schedules.now context.now.rounds pumping.rounds
+        (route_reports (O.added polling.old.openings) (O.requested polling.old.openings))
+        (route_reports (O.added polling.new.openings) (O.requested polling.new.openings))
         (before (names_of polling.old.names) (heard (S.gave source.old) (S.calls source.old))
         (carried (W.handed wire.old) (W.attempts wire.old)) polling.old.ends.items)
         (after (names_of polling.new.names) (heard (S.gave source.new) (S.calls source.new))
@@ -258,13 +260,13 @@ where
     let clocks = &mut others.clocks;
     let gates = &mut others.gates;
     let watch = &mut others.watch;
-    // The polling thread's gate has a type of its own, `P`: what both closures capture may share no type parameter.
+    // The polling thread's gate has a separate type, `P`: what both closures capture may share no type parameter.
     let (_, pumping) = join_mut(
         context.rt,
         &mut || tick_and_start(context, clocks, gates, watch),
         &mut ||
             requires ready { AreReady context.now.schedules.now (names_of polling.now.names) polling.now.ends.items }
-            requires room { IsSome context.now.post → 511 ≤ vec_capacity polling.now.ends }
+            requires room { IsSome context.now.channel → 511 ≤ vec_capacity polling.now.ends }
             requires few { context.now.rounds ≤ 2 ^ 48 }
         { poll(context, source, wire, polling) },
     );

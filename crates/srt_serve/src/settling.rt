@@ -7,7 +7,7 @@ ghost use Rattle.srt_mailbox.specs.Identities.{identity_in};
 ghost use Rattle.srt_mailbox.specs.Places.{came, locks_of};
 ghost use Rattle.srt_serve.specs.Settled.{AreJoined, AreSettled};
 
-use crate::arrivals::Named;
+use crate::arrivals::NameAttachment;
 use srt_mailbox::{Account, ClockEnd, Seat, SeatReader};
 use srt_poller::Ends;
 use srt_seq::limits::MAX_ROUTES;
@@ -17,11 +17,11 @@ use std::sync::{OnceToken, Wait};
 #[derive(Clone, Copy)]
 pub struct Busy;
 
-/// That the reader came at first to the routes that were put into these places before any thread ran. It may have come to
-/// more. If it hasn't come to all of these, or to more than 511, the routes can't be settled.
+/// Checks that the reader first reached the routes that were put into these places before any thread ran. It may have
+/// reached more. If it hasn't reached all of these, or more than 511, the routes can't be settled.
 pub fn began_with<'a>(
-    routes: &SeatReader<'a, Named>,
-    put: &Vec<OnceToken<'a, Seat<Named>>>,
+    routes: &SeatReader<'a, NameAttachment>,
+    put: &Vec<OnceToken<'a, Seat<NameAttachment>>>,
 ) -> Result<(), Busy>
     requires { map (λ t. t.of) put.now.items ≡ take (length put.now.items) (locks_of routes.now) }
     ensures began { OnOk result ((more : List CellIdentity) × (came routes.now ≡ map (λ t. identity_in t.value.cell) put.now.items ++ more)) }
@@ -39,11 +39,11 @@ pub fn began_with<'a>(
     Ok(())
 }
 
-/// That the ticking thread's reader came to all routes to which the polling thread's did, the same at each index. It may
-/// have come to more. If it hasn't come to all, the routes can't be settled.
+/// Checks that the ticking thread's reader reached all routes that the polling thread's did, the same at each index. It
+/// may have reached more. If it hasn't reached all, the routes can't be settled.
 pub fn came_to_all<'a>(
-    routes: &SeatReader<'a, Named>,
-    arrivals: &SeatReader<'a, Named>,
+    routes: &SeatReader<'a, NameAttachment>,
+    arrivals: &SeatReader<'a, NameAttachment>,
 ) -> Result<(), Busy>
     requires { locks_of arrivals.now ≡ locks_of routes.now }
     ensures { OnOk result ((more : List CellIdentity) × (came arrivals.now ≡ came routes.now ++ more)) }
@@ -57,12 +57,12 @@ pub fn came_to_all<'a>(
     Ok(())
 }
 
-/// Settles all routes to which this reader came and returns their accounts, in the order of their indexes. The lists must
-/// be in that order too; there may be more clock's ends. `accounts` must be empty and have room for all of them, so that
-/// no memory is taken.
+/// Settles all routes that this reader reached and returns their final counters, in the order of their indexes. The lists
+/// must be in that order too; there may be more clock's ends. `accounts` must be empty and have room for all of them, so
+/// that nothing allocates.
 pub fn settle_routes<R: Wait>(
     rt: &R,
-    routes: &SeatReader<'_, Named>,
+    routes: &SeatReader<'_, NameAttachment>,
     ends: Vec<Ends>,
     clocks: Vec<ClockEnd>,
     mut accounts: Vec<Account>,

@@ -4,7 +4,7 @@ use srt_supervision::Report;
 use std::sync::atomic::{AtomicBool, AtomicU64, Ordering};
 
 /// A report that one thread leaves and another one takes. The one writes the counts only while they are wanted, and the
-/// other reads them only while they aren't, so that what is taken is the report of one moment.
+/// other reads them only while they aren't, so that what is taken is a report of one time.
 #[derive(Drop)]
 pub struct SharedReport {
     // no report was left since the last one was taken

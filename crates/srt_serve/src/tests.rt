@@ -28,8 +28,8 @@ use std::thread::Threads;
 mod changing;
 mod counts;
 mod datagrams;
-mod posts;
 mod watched;
+mod watcher_channel;
 mod workers;
 
 /// When all datagrams and ticks come, in microseconds.
@@ -744,7 +744,7 @@ struct NoEnds;
 impl<E> TickEnds<E> for NoEnds {
     ghost use Rattle.std.specs.Prelude.{[]};
 
-    ghost came = { λ _. [] };
+    ghost added = { λ _. [] };
 
     ghost places = { λ _. [] };
 
@@ -786,7 +786,7 @@ fn turns_after<R: AllocGlobal + Wait>(
     };
     let mut clocks = Clocks {
         ends,
-        coming: NoEnds,
+        arrivals: NoEnds,
         ticker,
     };
     tick(rt, &mut clocks, &wakeups);

@@ -9,19 +9,19 @@ use srt_wakeups::Wakeups;
 use std::sync::Wait;
 use std::thread;
 
-/// Gives the moments at which the ticking thread ticks, and decides how often: `next` is called again at once after
-/// each tick, and may wait before it returns.
+/// Returns the times at which the ticking thread ticks, and decides how often: `next` is called again at once after each
+/// tick, and may wait before it returns.
 pub trait Ticker {
     ghost use Rattle.std.specs.Prelude.{◌≡◌, ◌<◌, ◌^◌, ℕ, Option, List, [], ◌∷◌};
     ghost use Rattle.srt_poller.specs.Devices.{joined};
 
-    /// All moments that it gave, the oldest first, or `None` for a ticker that doesn't record them.
+    /// All times that it returned, the oldest first, or `None` for a ticker that doesn't record them.
     ghost gave: { Self → Option (List ℕ) };
 
-    /// The next moment, in microseconds, below 2^62. A run doesn't end before this call returns.
+    /// Returns the next time, in microseconds, below 2^62. A run doesn't end before this call returns.
     fn next(&mut self) -> u64
         ensures timely { result < 2 ^ 62 }
-        ensures tells { gave self.new ≡ joined (gave self.old) (result ∷ []) };
+        ensures records { gave self.new ≡ joined (gave self.old) (result ∷ []) };
 }
 
 /// The clock's end of an inbox, to which ticks are offered.
@@ -37,14 +37,14 @@ pub trait TickEnd {
     /// The moments of all ticks that were offered, the oldest first, or `None` for an end that doesn't record them.
     ghost tried: { Self → Option (List ℕ) };
 
-    /// Offers a tick, at a moment in microseconds, below 2^62. A full inbox discards it.
+    /// Offers a tick, at a time in microseconds, below 2^62. A full inbox discards it.
     fn offer_tick<R: Wait>(&mut self, rt: &R, moment: u64)
         requires timely { moment < 2 ^ 62 }
         ensures accepted { (inbox self.new ≡ inbox self.old) ⊎ (inbox self.new ≡ accepts moment (inbox self.old)) }
-        ensures tells { tried self.new ≡ joined (tried self.old) (moment ∷ []) };
+        ensures records { tried self.new ≡ joined (tried self.old) (moment ∷ []) };
 
-    /// Reads what `offer_tick` will read, so that the processor has it at hand then. Changes nothing.
-    fn look(&mut self)
+    /// Reads what `offer_tick` will read, so that the processor has it in its caches then. Changes nothing.
+    fn touch(&mut self)
         ensures same { self.new ≡ self.old };
 }
 
@@ -59,47 +59,47 @@ impl TickEnd for ClockEnd {
         let _ = self.offer(rt, Item::Tick { moment });
     }
 
-    fn look(&mut self) {
+    fn touch(&mut self) {
         let _ = self.is_full();
     }
 }
 
-/// Gives the clock's ends of routes that come while others are ticked.
+/// Returns the clock's ends of routes that are added while others are ticked.
 pub trait TickEnds<E> {
     ghost use Rattle.std.specs.Prelude.{◌≡◌, ℕ, List, [], ◌∷◌, ◌++◌, IfSome, IfNone};
 
-    /// All ends that it gave, in their order.
-    ghost came: { Self → List E };
+    /// All ends that it returned, in their order.
+    ghost added: { Self → List E };
 
     /// The names of the places from which it takes them. No call changes that.
     ghost places: { Self → List ℕ };
 
-    /// The next end, if one has come. Order before each tick, so it may not wait, and should cost no more than a load or
-    /// two if none has.
+    /// Returns the next end, if there is one. Polled before each tick, so it may not wait, and should cost no more than a
+    /// load or two if there is none.
     fn next(&mut self) -> Option<E>
-        ensures some { IfSome result (λ end. came self.new ≡ came self.old ++ end ∷ []) }
-        ensures none { IfNone result (came self.new ≡ came self.old) }
+        ensures some { IfSome result (λ end. added self.new ≡ added self.old ++ end ∷ []) }
+        ensures none { IfNone result (added self.new ≡ added self.old) }
         ensures same { places self.new ≡ places self.old };
 }
 
 /// The clock's ends of all routes, and their ticker.
 #[derive(Drop)]
 pub struct Clocks<K: Drop, E: Drop, A: Drop> {
-    /// In the order of the routes' indexes. No more come than this has room for.
+    /// In the order of the routes' indexes. No more are added than this has room for.
     pub ends: Vec<E>,
-    /// Gives those that come.
-    pub coming: A,
-    /// Gives the moments.
+    /// Returns those that are added.
+    pub arrivals: A,
+    /// Returns the times.
     pub ticker: K,
 }
 
-/// Takes the ends that have come, as long as there is room for them.
-pub fn take_new<E: Drop, A: TickEnds<E>>(ends: &mut Vec<E>, coming: &mut A)
-    ensures taken { (more : List E) × (A.came coming.new ≡ A.came coming.old ++ more) × (ends.new.items ≡ ends.old.items ++ more) }
-    ensures same { A.places coming.new ≡ A.places coming.old }
+/// Takes the ends that were added, as long as there is room for them.
+pub fn take_new<E: Drop, A: TickEnds<E>>(ends: &mut Vec<E>, arrivals: &mut A)
+    ensures taken { (more : List E) × (A.added arrivals.new ≡ A.added arrivals.old ++ more) × (ends.new.items ≡ ends.old.items ++ more) }
+    ensures same { A.places arrivals.new ≡ A.places arrivals.old }
 {
     for at in ends.len()..ends.capacity() {
-        let Some(end) = coming.next() else {
+        let Some(end) = arrivals.next() else {
             return;
         };
         let Ok(()) = ends.push(end) else {
@@ -108,12 +108,12 @@ pub fn take_new<E: Drop, A: TickEnds<E>>(ends: &mut Vec<E>, coming: &mut A)
     }
 }
 
-/// What a ticking thread does until the run is over. Code that starts threads is generic over this trait.
+/// The work of a ticking thread until the run has ended. Code that starts threads is generic over this trait.
 pub trait Clockwork {
     /// What becomes of a clock that ticks.
     ghost ticked: { Self → Self → Type 0 };
 
-    /// Ticks until the run is over.
+    /// Ticks until the run has ended.
     fn tick<R: Wait>(&mut self, rt: &R, wakeups: &Wakeups)
         ensures { ticked self.old self.new };
 }
@@ -122,21 +122,21 @@ impl<K: Ticker + Drop, E: TickEnd + Drop, A: TickEnds<E> + Drop> Clockwork for C
     ghost use Rattle.srt_serve.specs.Ticks.{Ticked};
     ghost use Rattle.std.specs.Prelude.{◌≡◌};
 
-    ghost ticked = { λ a b. (A.places b.coming ≡ A.places a.coming)
-        × Ticked E.inbox E.tried (K.gave a.ticker) (K.gave b.ticker) (A.came a.coming) (A.came b.coming) a.ends.items b.ends.items };
+    ghost ticked = { λ a b. (A.places b.arrivals ≡ A.places a.arrivals)
+        × Ticked E.inbox E.tried (K.gave a.ticker) (K.gave b.ticker) (A.added a.arrivals) (A.added b.arrivals) a.ends.items b.ends.items };
 
     fn tick<R: Wait>(&mut self, rt: &R, wakeups: &Wakeups) {
         tick(rt, self, wakeups);
     }
 }
 
-// Looks at all ends. They are mostly out of the caches, and here the processor fetches those of several routes at the
-// same time; `tick_each` then finds them.
-fn look_ahead<E: TickEnd>(ends: &mut [E])
+// Reads all ends. They are mostly out of the caches, and here the processor fetches those of several routes at the
+// same time, before `tick_each` uses them.
+fn prefetch<E: TickEnd>(ends: &mut [E])
     ensures { WereTicked E.inbox E.tried [] ends.old ends.new }
 {
     for end in ends.iter_mut() {
-        end.look();
+        end.touch();
     }
 }
 
@@ -150,42 +150,42 @@ fn tick_each<R: Wait, E: TickEnd>(rt: &R, ends: &mut [E], moment: u64)
     }
 }
 
-// Offers a tick to every route, after a look at all of them.
+// Offers a tick to every route, after reading all of them.
 fn tick_all<R: Wait, E: TickEnd>(rt: &R, ends: &mut [E], moment: u64)
     requires { moment < 2 ^ 62 }
     ensures { WereTicked E.inbox E.tried (moment ∷ []) ends.old ends.new }
 {
-    look_ahead(ends);
+    prefetch(ends);
     tick_each(rt, ends, moment);
 }
 
-// Takes the ends that have come, and offers a tick to every route, in the order of their indexes.
+// Takes the ends that were added, and offers a tick to every route, in the order of their indexes.
 fn tick_with_new<R: Wait, E: TickEnd + Drop, A: TickEnds<E>>(
     rt: &R,
     ends: &mut Vec<E>,
-    coming: &mut A,
+    arrivals: &mut A,
     moment: u64,
 )
     requires { moment < 2 ^ 62 }
-    ensures ticked { (more : List E) × (A.came coming.new ≡ A.came coming.old ++ more)
+    ensures ticked { (more : List E) × (A.added arrivals.new ≡ A.added arrivals.old ++ more)
         × WereTicked E.inbox E.tried (moment ∷ []) (ends.old.items ++ more) ends.new.items }
-    ensures same { A.places coming.new ≡ A.places coming.old }
+    ensures same { A.places arrivals.new ≡ A.places arrivals.old }
 {
-    take_new(ends, coming);
+    take_new(ends, arrivals);
     tick_all(rt, ends, moment);
 }
 
-/// Offers a tick to every route at each moment that the ticker gives, until the run is over. No route is left out: one
-/// that asks for a worker gets its tick too, and one whose inbox is full is offered it in vain. The routes that have come
-/// by then get the tick as well.
+/// Offers a tick to every route at each time that the ticker returns, until the run has ended. No route is left out: one
+/// that needs a worker gets its tick too, and a full inbox discards it. Routes that were added by then get the tick as
+/// well.
 pub fn tick<R: Wait, K: Ticker + Drop, E: TickEnd + Drop, A: TickEnds<E> + Drop>(
     rt: &R,
     clocks: &mut Clocks<K, E, A>,
     wakeups: &Wakeups,
 )
-    ensures ticked { Ticked E.inbox E.tried (K.gave clocks.old.ticker) (K.gave clocks.new.ticker) (A.came clocks.old.coming) (A.came clocks.new.coming)
+    ensures ticked { Ticked E.inbox E.tried (K.gave clocks.old.ticker) (K.gave clocks.new.ticker) (A.added clocks.old.arrivals) (A.added clocks.new.arrivals)
         clocks.old.ends.items clocks.new.ends.items }
-    ensures same { A.places clocks.new.coming ≡ A.places clocks.old.coming }
+    ensures same { A.places clocks.new.arrivals ≡ A.places clocks.old.arrivals }
 {
     wakeups.arrive();
     for _ in rt.forever() {
@@ -193,7 +193,7 @@ pub fn tick<R: Wait, K: Ticker + Drop, E: TickEnd + Drop, A: TickEnds<E> + Drop>
             return;
         }
         let moment = clocks.ticker.next();
-        tick_with_new(rt, &mut clocks.ends, &mut clocks.coming, moment);
+        tick_with_new(rt, &mut clocks.ends, &mut clocks.arrivals, moment);
         wakeups.ticked(clocks.ends.len());
         thread::yield_now();
     }

@@ -1,41 +1,41 @@
-//! The watching thread of a run: it shows the routes to a watcher, tells it what was refused, and hands on to the poller
-//! what the watcher asks of it.
+//! The watching thread of a run: it shows the routes to a watcher, reports refusals to it, passes its orders to the poller,
+//! and makes its changes of the routes.
 
-use crate::arrivals::{Host, Named, News, seat_route};
-use crate::post::Post;
+use crate::arrivals::{NameAttachment, RouteHost, RouteNotices, seat_route};
+use crate::watcher_channel::WatcherChannel;
 use srt_mailbox::{Observer, Seat, Serve};
 use srt_route::Route;
 use srt_seq::Entry;
 use srt_seq::limits::MAX_SESSIONS;
-use srt_supervision::{ChangeFault, Order, Report, RouteChanges, RunStatus, Watch};
+use srt_supervision::{ChangeFault, ChangeRoutes, Order, Report, RouteChanges, RunStatus, Watch};
 use srt_wakeups::Wakeups;
 use std::alloc::Global;
 use std::sync::Wait;
 use std::thread;
 
-// The most refusals that a watcher is told between two of its rests.
+// The most refusals that are reported to a watcher between two of its rests.
 const REFUSALS_PER_REST: u32 = 1024;
 
-// The number of looks in a row that find all quiet before a watcher is told so. A hint is cleared before its outbox is
-// drained, so that one look alone may miss replies that are being sent.
-const QUIET_LOOKS: u32 = 2;
+// The number of checks in a row that find all quiet before that is reported. A hint is cleared before its outbox is
+// drained, so that one check alone may miss replies that are being sent.
+const QUIET_CHECKS: u32 = 2;
 
-/// Makes the changes that a watcher asks for.
+/// Makes the changes that a watcher requests.
 #[derive(Drop)]
 pub struct Changer<'a, C> {
-    /// Allocates what the routes need that open.
+    /// Allocates the memory of the routes that open.
     pub alloc: Global,
     /// The places of all routes, the taken ones first.
     pub places: &'a [C],
-    /// Tells the polling thread.
-    pub news: &'a News,
+    /// Notifies the polling thread.
+    pub notices: &'a RouteNotices,
     /// The number of places that are taken.
     pub routes: usize,
 }
 
-impl<C: Host> Changer<'_, C> {
+impl<C: RouteHost> Changer<'_, C> {
     // Opens all routes of a change, without a place.
-    fn open_all(&self, entries: &[Entry]) -> Result<Vec<Seat<Named>>, ChangeFault> {
+    fn open_all(&self, entries: &[Entry]) -> Result<Vec<Seat<NameAttachment>>, ChangeFault> {
         let left = self.places.len().saturating_sub(self.routes);
         if entries.len() > left {
             return Err(ChangeFault::NoIndexLeft(left));
@@ -53,7 +53,7 @@ impl<C: Host> Changer<'_, C> {
     }
 
     // Puts the routes of a change into their places.
-    fn host_all(&mut self, seats: Vec<Seat<Named>>) {
+    fn host_all(&mut self, seats: Vec<Seat<NameAttachment>>) {
         for seat in seats {
             if let Some(place) = self.places.get(self.routes) {
                 place.host(seat);
@@ -62,32 +62,26 @@ impl<C: Host> Changer<'_, C> {
         }
     }
 
-    // Makes a change: first all memory is taken, then the routes get their places, and then the polling thread is told.
-    fn make(&mut self, changes: RouteChanges) -> Result<usize, ChangeFault> {
+    // The places that are taken.
+    fn taken(&self) -> &[C] {
+        let taken = self.routes.min(self.places.len());
+        &self.places[..taken]
+    }
+}
+
+impl<C: RouteHost> ChangeRoutes for Changer<'_, C> {
+    // Allocates all memory first, then puts the routes into their places, and then notifies the polling thread.
+    fn change(&mut self, changes: RouteChanges) -> Result<usize, ChangeFault> {
         let seats = self.open_all(&changes.opens)?;
         let first = self.routes;
         self.host_all(seats);
         for route in &changes.closes {
             if *route < first {
-                self.news.close(*route);
+                self.notices.close(*route);
             }
         }
-        self.news.tell();
+        self.notices.notify();
         Ok(first)
-    }
-
-    // Makes the change that the watcher asks for, if there is one.
-    fn change<T: Watch>(&mut self, watch: &mut T) {
-        if let Some(changes) = watch.change() {
-            let outcome = self.make(changes);
-            watch.changed(outcome);
-        }
-    }
-
-    // The places that are taken.
-    fn taken(&self) -> &[C] {
-        let taken = self.routes.min(self.places.len());
-        &self.places[..taken]
     }
 }
 
@@ -101,7 +95,7 @@ fn has_session(route: &Route) -> bool {
     false
 }
 
-// Shows one route to the watcher, if it looks, and notes whether the route is quiet.
+// Shows one route to the watcher, if it wants routes, and records whether the route is quiet.
 #[derive(Drop)]
 struct Viewer<'a, T> {
     watch: &'a mut T,
@@ -123,14 +117,9 @@ impl<T: Watch> Observer for Viewer<'_, T> {
     }
 }
 
-// Claims each route, and shows it to the watcher if that looks. Whether all were quiet; one that another thread has
-// isn't.
-fn look_at_all<R: Wait, C: Serve, T: Watch>(
-    rt: &R,
-    cells: &[C],
-    watch: &mut T,
-    looks: bool,
-) -> bool {
+// Claims each route, and shows it to the watcher if it wants routes. Whether all were quiet; one that another thread has
+// claimed isn't.
+fn show_all<R: Wait, C: Serve, T: Watch>(rt: &R, cells: &[C], watch: &mut T, looks: bool) -> bool {
     let mut all_quiet = true;
     for (index, cell) in cells.iter().enumerate() {
         let mut viewer = Viewer {
@@ -145,10 +134,10 @@ fn look_at_all<R: Wait, C: Serve, T: Watch>(
     all_quiet
 }
 
-// Tells the watcher the refusals that wait.
-fn tell_refusals<R: Wait, T: Watch>(rt: &R, post: &Post, watch: &mut T) {
+// Reports the refusals that wait to the watcher.
+fn report_refusals<R: Wait, T: Watch>(rt: &R, channel: &WatcherChannel, watch: &mut T) {
     for _ in 0..REFUSALS_PER_REST {
-        let Some(refusal) = post.take(rt) else {
+        let Some(refusal) = channel.take(rt) else {
             return;
         };
         watch.refused(&refusal);
@@ -158,53 +147,53 @@ fn tell_refusals<R: Wait, T: Watch>(rt: &R, post: &Post, watch: &mut T) {
 // What is known between two rests of the watcher.
 #[derive(Clone, Copy)]
 struct Known {
-    // the counts that the poller told last, and how often it told any
+    // the counts that the poller reported last, and how often it reported any
     counts: Report,
     reports: u64,
-    // how many looks in a row found all quiet
+    // how many checks in a row found all quiet
     quiet: u32,
 }
 
 impl Known {
     // Takes the counts that were left since, if there are any.
-    fn take(&mut self, post: &Post) {
-        if let Some(counts) = post.report.take() {
+    fn take(&mut self, channel: &WatcherChannel) {
+        if let Some(counts) = channel.report.take() {
             self.counts = counts;
             self.reports = self.reports.saturating_add(1);
         }
     }
 
-    // What the watcher is told before its next rest.
-    fn told(&self, post: &Post) -> RunStatus {
+    // Returns what the watcher gets before its next rest.
+    fn status(&self, channel: &WatcherChannel) -> RunStatus {
         RunStatus {
-            is_quiet: self.quiet >= QUIET_LOOKS,
-            faults: post.faults(),
-            missed: post.missed(),
+            is_quiet: self.quiet >= QUIET_CHECKS,
+            faults: channel.faults(),
+            missed: channel.missed(),
             counts: self.counts,
             reports: self.reports,
         }
     }
 }
 
-// Lets the watcher rest once, and does what it asks.
-fn watch_once<R: Wait, C: Serve + Host, T: Watch>(
+// Lets the watcher rest once, and then executes its order and its changes.
+fn watch_once<R: Wait, C: Serve + RouteHost, T: Watch>(
     rt: &R,
     changer: &mut Changer<'_, C>,
     wakeups: &Wakeups,
-    post: &Post,
+    channel: &WatcherChannel,
     watch: &mut T,
     known: &mut Known,
 ) {
-    known.take(post);
-    let asked = watch.next(known.told(post));
-    post.ask(asked);
-    tell_refusals(rt, post, watch);
+    known.take(channel);
+    let order = watch.next(known.status(channel));
+    channel.set_order(order);
+    report_refusals(rt, channel, watch);
     let looks = watch.wants_routes();
-    let closes = !matches!(asked, Order::GoOn);
+    let closes = !matches!(order, Order::GoOn);
     if !closes {
-        changer.change(watch);
+        watch.change_routes(changer);
     }
-    let is_quiet = (looks || closes) && look_at_all(rt, changer.taken(), watch, looks);
+    let is_quiet = (looks || closes) && show_all(rt, changer.taken(), watch, looks);
     known.quiet = if is_quiet && closes && !wakeups.any_outbox_ready() {
         known.quiet.saturating_add(1)
     } else {
@@ -212,13 +201,13 @@ fn watch_once<R: Wait, C: Serve + Host, T: Watch>(
     };
 }
 
-/// Watches until the run is over. After each rest of the watcher the poller is asked what it said, the refusals are told
-/// that wait, the change is made that it asks for, and the routes are shown if it looks.
-pub fn watch_routes<R: Wait, C: Serve + Host, T: Watch>(
+/// Watches until the run has ended. After each rest of the watcher the poller gets its order, the refusals that wait are
+/// reported, the watcher changes the routes, and the routes are shown if it wants them.
+pub fn watch_routes<R: Wait, C: Serve + RouteHost, T: Watch>(
     rt: &R,
     mut changer: Changer<'_, C>,
     wakeups: &Wakeups,
-    post: &Post,
+    channel: &WatcherChannel,
     watch: &mut T,
 ) {
     wakeups.arrive();
@@ -231,21 +220,21 @@ pub fn watch_routes<R: Wait, C: Serve + Host, T: Watch>(
         if wakeups.is_done() {
             return;
         }
-        watch_once(rt, &mut changer, wakeups, post, watch, &mut known);
+        watch_once(rt, &mut changer, wakeups, channel, watch, &mut known);
         thread::yield_now();
     }
 }
 
-/// Shows each route once more, and tells the refusals that are left, if the run was watched. For the time after all
-/// threads have ended.
+/// Shows each route once more, and reports the remaining refusals, if the run was watched. For the time after all threads
+/// have ended.
 pub fn watch_last<R: Wait, C: Serve, T: Watch>(
     rt: &R,
     cells: &[C],
-    post: Option<&Post>,
+    channel: Option<&WatcherChannel>,
     watch: &mut T,
 ) {
-    if let Some(post) = post {
-        let _ = look_at_all(rt, cells, watch, true);
-        tell_refusals(rt, post, watch);
+    if let Some(channel) = channel {
+        let _ = show_all(rt, cells, watch, true);
+        report_refusals(rt, channel, watch);
     }
 }

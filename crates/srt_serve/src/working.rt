@@ -123,11 +123,11 @@ fn serve_round<R: Wait, C: Serve, G: Gate>(
     round
 }
 
-/// Serves the routes whose inboxes are ready, round after round from the route `first` on, until the run is over. After a
-/// round that found nothing to do it naps, and after each further one it rests. After a thin round, which found a little
-/// to do at each of many routes, it dozes, so that more gathers there: a visit costs nearly the same for one item as for
-/// several. Only one worker dozes at a time; a second waits in reserve, until a round that has much to do wakes it
-/// (`Wakeups::wake_reserve`).
+/// Serves the routes whose inboxes are ready, round after round from the route `first` on, until the run has ended. After a
+/// round that found nothing to do it sleeps for a short time (`nap`), and after each further one for longer (`rest`). After
+/// a thin round, which found a little to do at each of many routes, it sleeps by their number (`doze`), so that more
+/// arrives there: a batch costs nearly the same for one item as for several. Only one worker sleeps so at a time; a second
+/// one is parked, until a round that has much to do wakes it (`Wakeups::wake_reserve`).
 pub fn work<R: Wait, C: Serve, G: Gate + Drop>(
     rt: &R,
     cells: &[C],

@@ -9,13 +9,13 @@ use Rattle.srt_poller.specs.declared.pace.Pause.TheVariants.{Poll, Nap}
 abbrev pub one_more : (bound n : ℕ) → ℕ
 one_more bound n = if nat_lt n bound then n + 1 else n
 
--- after a datagram at a moment: it counts for the millisecond that is counted, or begins the next one
+-- after a datagram at a time: it counts for the millisecond that is counted, or begins the next one
 abbrev pub counted : (moment : ℕ) → Density → Density
 counted moment d = if nat_lt (moment - d.began) 1000
     then record { began = d.began; count = one_more 100 d.count; last = d.last }
     else record { began = moment; count = 1; last = if nat_lt (moment - d.began) 2000 then d.count else 0 }
 
--- after a datagram at a moment: there may be more
+-- after a datagram at a time: there may be more
 abbrev pub after_datagram : (moment : ℕ) → Pace → Pace
 after_datagram moment p = record { more = true; warm = 100; read = one_more 64 p.read; density = counted moment p.density }
 

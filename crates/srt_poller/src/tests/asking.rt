@@ -1,7 +1,7 @@
 //! Signals that ask what they are told to ask, and note what they are told.
 
 use super::peer;
-use crate::{Order, Report, Signals};
+use crate::{Hints, InlineService, Order, Orders, PollerObserver, Report, Signals};
 use srt_lobby::Names;
 use srt_samples::{Difference, first_difference};
 use srt_seq::Peer;
@@ -55,9 +55,9 @@ impl<'a> Asking<'a> {
         Asking::new(asked, Vec::new(alloc))
     }
 
-    fn compare(&self, came: &[u8], wanted: &[u8]) {
+    fn compare(&self, actual: &[u8], wanted: &[u8]) {
         if self.difference.get().is_none() {
-            self.difference.set(first_difference(came, wanted));
+            self.difference.set(first_difference(actual, wanted));
         }
     }
 
@@ -79,27 +79,22 @@ impl<'a> Asking<'a> {
     }
 }
 
-impl Signals for Asking<'_> {
+impl Orders for Asking<'_> {
     ghost goes = { λ s. Unit {0} };
 
     ghost closes = { λ s. Unit {0} };
 
     ghost stops = { λ s. Unit {0} };
 
-    fn asked(&self) -> Order {
+    fn order(&self) -> Order {
         let at = self.at.get();
         self.at.set(at.wrapping_add(1));
         self.asked.get(at).copied().unwrap_or(Order::GoOn)
     }
+}
 
-    fn reported(&self, report: &Report) {
-        self.reports.set(self.reports.get().wrapping_add(1));
-        self.counts.set(*report);
-    }
-
+impl Hints for Asking<'_> {
     fn polled(&self, _route: usize) {}
-
-    fn read_ended(&self, _datagrams: u32) {}
 
     fn take_outbox_ready(&self, _route: usize) -> bool {
         true
@@ -107,6 +102,13 @@ impl Signals for Asking<'_> {
 
     fn next_outbox_ready(&self, route: usize) -> usize {
         route
+    }
+}
+
+impl PollerObserver for Asking<'_> {
+    fn reported(&self, report: &Report) {
+        self.reports.set(self.reports.get().wrapping_add(1));
+        self.counts.set(*report);
     }
 
     fn answered(&self, _names: &Names, peer: Peer, datagram: &[u8], answer: &[u8]) {
@@ -121,3 +123,9 @@ impl Signals for Asking<'_> {
         self.failed.set(self.failed.get().wrapping_add(1));
     }
 }
+
+impl InlineService for Asking<'_> {
+    fn serve_inline(&self, _datagrams: u32) {}
+}
+
+impl Signals for Asking<'_> {}

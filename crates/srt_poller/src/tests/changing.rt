@@ -37,18 +37,18 @@ struct Changes<'a> {
     comes_in: u64,
     closings: &'a [(u64, usize)],
     closed: usize,
-    // the number of calls of `has_news`: one for each round
+    // the number of calls of `has_changes`: one for each round
     rounds: Cell<u64>,
 }
 
 impl<'a> Openings for Changes<'a> {
     ghost use Rattle.std.specs.Prelude.{None};
 
-    ghost came = { λ o. None };
+    ghost added = { λ o. None };
 
-    ghost asked = { λ o. None };
+    ghost requested = { λ o. None };
 
-    fn has_news(&self) -> bool {
+    fn has_changes(&self) -> bool {
         let round = self.rounds.get();
         self.rounds.set(round.saturating_add(1));
         let comes = self.newcomer.is_some() && self.comes_in == round;

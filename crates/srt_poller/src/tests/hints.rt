@@ -7,7 +7,10 @@ use super::{
     ALWAYS, Routes, Serving, assert_replies, comes, conclude, open_routes, pumped_under,
     with_places, with_replies,
 };
-use crate::{Ends, Order, Report, Sent, Signals, Source, SourceScript, WireScript};
+use crate::{
+    Ends, Hints, InlineService, Order, Orders, PollerObserver, Report, Sent, Signals, Source,
+    SourceScript, WireScript,
+};
 use srt_lobby::Names;
 use srt_seq::Peer;
 use std::alloc::Global;
@@ -18,22 +21,20 @@ use std::test::Fail;
 /// Hints that never say that an outbox has a reply.
 struct Silent;
 
-impl Signals for Silent {
+impl Orders for Silent {
     ghost goes = { λ s. Unit {0} };
 
     ghost closes = { λ s. ⊥ };
 
     ghost stops = { λ s. ⊥ };
 
-    fn asked(&self) -> Order {
+    fn order(&self) -> Order {
         Order::GoOn
     }
+}
 
-    fn reported(&self, _report: &Report) {}
-
+impl Hints for Silent {
     fn polled(&self, _route: usize) {}
-
-    fn read_ended(&self, _datagrams: u32) {}
 
     fn take_outbox_ready(&self, _route: usize) -> bool {
         false
@@ -42,6 +43,10 @@ impl Signals for Silent {
     fn next_outbox_ready(&self, _route: usize) -> usize {
         usize::MAX
     }
+}
+
+impl PollerObserver for Silent {
+    fn reported(&self, _report: &Report) {}
 
     fn answered(&self, _names: &Names, _peer: Peer, _datagram: &[u8], _answer: &[u8]) {}
 
@@ -49,6 +54,12 @@ impl Signals for Silent {
 
     fn failed(&self) {}
 }
+
+impl InlineService for Silent {
+    fn serve_inline(&self, _datagrams: u32) {}
+}
+
+impl Signals for Silent {}
 
 /// The number of datagrams that this many rounds without hints send.
 fn sent<S: Source>(

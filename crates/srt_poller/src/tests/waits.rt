@@ -9,7 +9,7 @@ fn after_apart(datagrams: u64, apart: u64) -> Pace {
     let mut pace = Pace::new();
     let mut moment = 1_000_000u64;
     for _ in 0..datagrams {
-        pace.came(moment);
+        pace.arrived(moment);
         moment = moment.wrapping_add(apart);
     }
     pace.ended();
@@ -20,7 +20,7 @@ fn after_apart(datagrams: u64, apart: u64) -> Pace {
 fn continued(datagrams: u64) -> Pace {
     let mut pace = after_apart(datagrams, 10);
     pace.wait(0);
-    pace.came(1_001_000);
+    pace.arrived(1_001_000);
     pace.ended();
     pace
 }
@@ -51,7 +51,7 @@ fn a_source_polls_briefly_for_a_hundred_waits_after_a_datagram(
         assert_waits(&rt, &mut pace, 0, &[Pause::Poll(1)]);
     }
     assert_waits(&rt, &mut pace, 0, &[Pause::Poll(10)]);
-    pace.came(1_000_100);
+    pace.arrived(1_000_100);
     assert_waits(&rt, &mut pace, 0, &[Pause::Poll(0), Pause::Poll(0)]);
     Ok(())
 }
@@ -67,7 +67,7 @@ fn a_source_naps_once_after_reads_in_a_dense_stream(rt: HostRuntime) -> Result<(
     assert_waits(&rt, &mut after(64), 0, &[Pause::Poll(1)]);
     // two milliseconds without a datagram
     let mut pace = after(21);
-    pace.came(1_003_000);
+    pace.arrived(1_003_000);
     pace.ended();
     assert_waits(&rt, &mut pace, 0, &[Pause::Poll(1)]);
     // 99 datagrams in the millisecond before this one's, and then 100

@@ -1,19 +1,19 @@
--- The routes that come to a poller.
+-- The routes that are added to a poller.
 use Rattle.std.specs.Prelude.{◌≡◌, ℕ, ◌<◌, List, [], ◌∷◌, ◌++◌, length, slice_index_or}
 use Rattle.srt_lobby.specs.Names.{as_hidden, name_of}
 use Rattle.srt_mailbox.specs.Cells.{CellIdentity}
 use Rattle.srt_mailbox.specs.Ends.{pipe}
-use Rattle.srt_poller.specs.Openings.{ToldRoute}
+use Rattle.srt_poller.specs.Openings.{ReportedRoute}
 use Rattle.srt_serve.specs.Opened.{new_clock}
 
--- what openings tell of this route when it comes
-abbrev pub told_of : CellIdentity → ToldRoute
-told_of n = record { name = as_hidden (name_of n.terms); ingress = new_clock n; outbox = pipe n.outbox n.terms.outbox [] }
+-- what openings report of this route when it is added
+abbrev pub report_of : CellIdentity → ReportedRoute
+report_of n = record { name = as_hidden (name_of n.terms); ingress = new_clock n; outbox = pipe n.outbox n.terms.outbox [] }
 
 -- each of these routes has the index of its place in the list
 abbrev pub AreIndexed : List CellIdentity → Type 0
 AreIndexed routes = (r : ℕ) (n : CellIdentity) → r < length routes → (slice_index_or routes r n).index ≡ r
 
 -- numbers that begin with those of another list, and how many these are
-abbrev pub marked : (locks asked : List ℕ) → List ℕ
-marked locks asked = length locks ∷ (locks ++ asked)
+abbrev pub marked : (locks requested : List ℕ) → List ℕ
+marked locks requested = length locks ∷ (locks ++ requested)

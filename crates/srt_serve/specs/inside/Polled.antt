@@ -5,7 +5,7 @@ use Rattle.srt_lobby.specs.Names.{RouteName}
 use Rattle.srt_poller.specs.declared.ends.Ends.{Ends}
 use Rattle.srt_poller.specs.History.{Sorting}
 use Rattle.srt_poller.specs.Changes.{PumpedChanging}
-use Rattle.srt_poller.specs.Openings.{News}
+use Rattle.srt_poller.specs.Openings.{RouteReports}
 use Rattle.srt_poller.specs.Pumped.{Before, After, PumpedUnder}
 use Rattle.srt_poller.specs.Schedules.{AllDiffer}
 
@@ -13,12 +13,12 @@ use Rattle.srt_poller.specs.Schedules.{AllDiffer}
 unfoldable pub AreReady : List Schedule → List RouteName → List Ends → Type 0
 AreReady schedules names ends = (length ends ≡ length names) × (length schedules ≡ length names) × AllDiffer names × (length schedules ≤ 511)
 
--- The rounds that were made, at most `rounds`, went as its own contract says. It made fewer, a round closed all, and routes came or were asked to close,
--- only if `closes` is known
-unfoldable pub Polled : (closes : Type 0) → Sorting → List Schedule → (rounds made : ℕ) → (told told' : News) → Before → After → Type 0
-Polled closes class schedules rounds made told told' before after =
-    (((closes → ⊥) × (told' ≡ told) × PumpedUnder (Unit {0}) closes class schedules made before after)
-    ⊎ (closes × PumpedChanging (Unit {0}) closes class schedules made told told' before after))
+-- The rounds that were made, at most `rounds`, went as its own contract states. It made fewer, a round closed all, and routes were added or requested to
+-- close, only if `closes` is known
+unfoldable pub Polled : (closes : Type 0) → Sorting → List Schedule → (rounds made : ℕ) → (reported reported' : RouteReports) → Before → After → Type 0
+Polled closes class schedules rounds made reported reported' before after =
+    (((closes → ⊥) × (reported' ≡ reported) × PumpedUnder (Unit {0}) closes class schedules made before after)
+    ⊎ (closes × PumpedChanging (Unit {0}) closes class schedules made reported reported' before after))
     × (made ≤ rounds) × ((made ≡ rounds) ⊎ closes)
 
 -- neither the source nor the wire changed

@@ -108,9 +108,9 @@ where
     };
     let Shared {
         places,
-        news,
+        notices,
         wakeups,
-        post,
+        channel,
     } = shared;
     let Ok(opened) = open_routes(alloc, entries, places.as_slice()) else {
         return Err(Fail::from("memory"));
@@ -122,11 +122,11 @@ where
         clocks,
         put: _,
     } = opened;
-    let Ok(openings) = PollerArrivals::new(alloc, routes, &news, MAX_ROUTES) else {
+    let Ok(openings) = PollerArrivals::new(alloc, routes, &notices, MAX_ROUTES) else {
         return Err(Fail::from("memory"));
     };
     let gates = vec![in alloc; Ungated]?;
-    let told = post.as_ref();
+    let watcher = channel.as_ref();
     let context = RunContext {
         rt,
         alloc,
@@ -134,9 +134,9 @@ where
         schedules,
         cells: places.as_slice(),
         routes: entries.len(),
-        news: &news,
+        notices: &notices,
         wakeups: &wakeups,
-        post: told,
+        channel: watcher,
         rounds: 5,
     };
     let gate: Option<Ungated> = None;
@@ -150,7 +150,7 @@ where
     let mut others = OtherThreads {
         clocks: Clocks {
             ends: clocks,
-            coming: arrivals,
+            arrivals,
             ticker: Device { calls: 0 },
         },
         gates,

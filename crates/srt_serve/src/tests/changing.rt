@@ -10,7 +10,9 @@ use super::datagrams::{
 };
 use super::watched::{MANY, studio, watched_over};
 use super::{MOMENT, YIELDS, entry_of, peer};
-use crate::{ChangeFault, Gates, Refusal, RouteChanges, RunStatus, Ticker, Watch, Watched};
+use crate::{
+    ChangeFault, ChangeRoutes, Gates, Refusal, RouteChanges, RunStatus, Ticker, Watch, Watched,
+};
 use srt_mailbox::{Account, Gate, Ungated};
 use srt_poller::{Order, Polled, Read, Sent, Source, Wire};
 use srt_route::Route;
@@ -143,15 +145,15 @@ enum Step {
     Call(Call, Reply),
     /// This conclusion comes in each round, until `FULL` more datagrams found their inbox full.
     Fill(Call),
-    /// NoWatcher calls, until the wire took this reply.
+    /// Nobody calls, until the wire took this reply.
     Hear(Reply),
-    /// NoWatcher calls, and a tick comes at `LATER`, until this route has no session.
+    /// Nobody calls, and a tick comes at `LATER`, until this route has no session.
     Silence(usize),
-    /// NoWatcher calls, until the poller took what it was told before.
+    /// Nobody calls, until the poller took what it was told before.
     Rest,
     /// The gates let turns of the first route pass from now on.
     Free,
-    /// NoWatcher calls, until the source holds a round.
+    /// Nobody calls, until the source holds a round.
     Held,
 }
 
@@ -511,6 +513,16 @@ impl Script {
             _ => Ok(None),
         }
     }
+
+    fn note(&mut self, outcome: Result<usize, ChangeFault>) {
+        match outcome {
+            Ok(index) => self.newest = Some(index),
+            Err(_) => self.refused = self.refused.saturating_add(1),
+        }
+        if self.outcomes.push(outcome).is_err() {
+            self.stage.is_late.store(true, Ordering::SeqCst);
+        }
+    }
 }
 
 impl Watch for Script {
@@ -541,23 +553,11 @@ impl Watch for Script {
 
     fn refused(&mut self, _refusal: &Refusal) {}
 
-    fn change(&mut self) -> Option<RouteChanges> {
+    fn change_routes<C: ChangeRoutes>(&mut self, run: &mut C) {
         match self.wanted() {
-            Ok(change) => change,
-            Err(_) => {
-                self.stage.is_late.store(true, Ordering::SeqCst);
-                None
-            }
-        }
-    }
-
-    fn changed(&mut self, outcome: Result<usize, ChangeFault>) {
-        match outcome {
-            Ok(index) => self.newest = Some(index),
-            Err(_) => self.refused = self.refused.saturating_add(1),
-        }
-        if self.outcomes.push(outcome).is_err() {
-            self.stage.is_late.store(true, Ordering::SeqCst);
+            Ok(Some(changes)) => self.note(run.change(changes)),
+            Ok(None) => {}
+            Err(_) => self.stage.is_late.store(true, Ordering::SeqCst),
         }
     }
 }

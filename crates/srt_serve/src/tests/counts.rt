@@ -3,7 +3,7 @@
 use crate::tests::datagrams::{FIRST, STUDIO, conclusion_of};
 use crate::tests::watched::{MANY, studio, watched};
 use crate::tests::{ARRIVALS, Again, Meeting, YIELDS, scene_of};
-use crate::{ChangeFault, Refusal, RouteChanges, RunStatus, Watch};
+use crate::{ChangeRoutes, Refusal, RunStatus, Watch};
 use srt_poller::{Order, Report};
 use srt_route::Route;
 use std::sync::Arc;
@@ -116,11 +116,7 @@ impl Watch for Follower {
 
     fn refused(&mut self, _refusal: &Refusal) {}
 
-    fn change(&mut self) -> Option<RouteChanges> {
-        None
-    }
-
-    fn changed(&mut self, _outcome: Result<usize, ChangeFault>) {}
+    fn change_routes<C: ChangeRoutes>(&mut self, _run: &mut C) {}
 }
 
 /// Each datagram comes once the watcher was told of the one before, so it is told of each number of them. One that finds

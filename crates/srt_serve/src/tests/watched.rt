@@ -5,10 +5,7 @@ ghost use Rattle.std.specs.Vec.{vec_len};
 
 use crate::tests::datagrams::{FIRST, SECOND, STUDIA, STUDIO, conclusion_of};
 use crate::tests::{ALWAYS, Again, LIMIT, Member, Routes, SECRET, Scene, peer, scene_of};
-use crate::{
-    ChangeFault, Gates, Refusal, RouteChanges, RunFault, RunStatus, Ticker, Watch, Watched,
-    run_until,
-};
+use crate::{ChangeRoutes, Gates, Refusal, RunFault, RunStatus, Ticker, Watch, Watched, run_until};
 use srt_cookie::Secret;
 use srt_lobby::Names;
 use srt_mailbox::{Gate, Ungated};
@@ -145,11 +142,7 @@ impl Watch for Guard {
         }
     }
 
-    fn change(&mut self) -> Option<RouteChanges> {
-        None
-    }
-
-    fn changed(&mut self, _outcome: Result<usize, ChangeFault>) {}
+    fn change_routes<C: ChangeRoutes>(&mut self, _run: &mut C) {}
 }
 
 /// The route `studio` alone, for one session.

@@ -1,9 +1,9 @@
 //! Workers and the polling thread at routes that only count, so that a run may last long.
 
-use crate::helping::Helper;
+use crate::inline_serving::InlineServer;
 use crate::working::work;
 use srt_mailbox::{Gate, Observer, Serve, Served, Ungated, Visit};
-use srt_poller::Signals;
+use srt_poller::{Hints, InlineService};
 use srt_seq::Turned;
 use srt_wakeups::Wakeups;
 use std::alloc::{AllocError, Global};
@@ -151,11 +151,11 @@ fn a_worker_serves_after_hundreds_of_thousands_of_notifications(
 fn the_polling_thread_asks_for_workers(rt: HostRuntime) -> Result<(), Fail> {
     let desks = desks(rt.alloc(), &[Load::Turns(1); 12])?;
     let wakeups = Wakeups::open(rt.alloc(), 12, 1)?;
-    let ungated: Helper<'_, HostRuntime, Desk, Ungated> = Helper::new(
+    let ungated: InlineServer<'_, HostRuntime, Desk, Ungated> = InlineServer::new(
         &rt, &desks, &wakeups, None, None,
     );
     ungated.polled(7);
-    ungated.read_ended(1);
+    ungated.serve_inline(1);
     assert_eq!(rt;
         (
             wakeups.next_inbox_ready(0),
@@ -164,17 +164,17 @@ fn the_polling_thread_asks_for_workers(rt: HostRuntime) -> Result<(), Fail> {
         ),
         (7, 12, 12)
     );
-    let helper = Helper::new(&rt, &desks, &wakeups, None, Some(Ungated));
-    helper.polled(3);
-    helper.read_ended(64);
+    let inline = InlineServer::new(&rt, &desks, &wakeups, None, Some(Ungated));
+    inline.polled(3);
+    inline.serve_inline(64);
     assert_eq!(rt;
         (wakeups.next_inbox_ready(0), wakeups.next_inbox_ready(4)),
         (3, 7)
     );
     for route in 0..9usize {
-        helper.polled(route);
+        inline.polled(route);
     }
-    helper.read_ended(9);
+    inline.serve_inline(9);
     for route in 0..9usize {
         assert!(rt; wakeups.enter(route) && wakeups.next_polled(0) == 12);
     }
@@ -197,23 +197,23 @@ fn the_polling_thread_leaves_what_it_does_not_get_done(rt: HostRuntime) -> Resul
     ];
     let desks = desks(rt.alloc(), &loads)?;
     let wakeups = Wakeups::open(rt.alloc(), 4, 1)?;
-    let helper = Helper::new(&rt, &desks, &wakeups, None, Some(Ungated));
-    helper.polled(0);
-    helper.read_ended(1);
+    let inline = InlineServer::new(&rt, &desks, &wakeups, None, Some(Ungated));
+    inline.polled(0);
+    inline.serve_inline(1);
     assert_eq!(rt;
         (wakeups.next_inbox_ready(0), wakeups.next_polled(0)),
         (4, 4)
     );
-    helper.polled(1);
-    helper.read_ended(1);
+    inline.polled(1);
+    inline.serve_inline(1);
     assert_eq!(rt;
         (wakeups.next_inbox_ready(0), wakeups.next_inbox_ready(2)),
         (1, 4)
     );
     assert!(rt; wakeups.enter(1));
-    helper.polled(2);
-    helper.polled(3);
-    helper.read_ended(2);
+    inline.polled(2);
+    inline.polled(3);
+    inline.serve_inline(2);
     assert!(rt; wakeups.next_inbox_ready(0) == 2 && wakeups.next_inbox_ready(3) == 3);
     let mut visits = Vec::new(rt.alloc());
     for desk in &desks {

@@ -13,9 +13,9 @@ returns-clause-pumped g c =
     let start : 0 + c.pump_changing_from-made.result ≡ c.pump_changing_from-made.result = omega arith in
     let made = c.pump_changing_from-made.ensures.made in
     let h = made.3 in
-    let came = made.0 in
-    let many : length c.args.ends.now.items + length came ≡ length (c.args.ends.now.items ++ ends_in came) =
-    sym (length-append c.args.ends.now.items (ends_in came) ∙ ap (λ n. length c.args.ends.now.items + n) (length-map came (λ (n : NewRoute). n.ends))) in
+    let added = made.0 in
+    let many : length c.args.ends.now.items + length added ≡ length (c.args.ends.now.items ++ ends_in added) =
+    sym (length-append c.args.ends.now.items (ends_in added) ∙ ap (λ n. length c.args.ends.now.items + n) (length-map added (λ (n : NewRoute). n.ends))) in
     let went = rw (
       c.new-poller.ensures.kept,
       c.new-poller.ensures.report,
@@ -23,11 +23,11 @@ returns-clause-pumped g c =
       start,
       many,
     ) at (h.went Between tt) in (
-      came,
+      added,
       made.1,
       made.2,
       record {
-        news = h.news;
+        reports = h.reports;
         planned = rw (sym start, sym c.start.ensures.plans) h.planned;
         pumped = ended _ _ _ _ _ _ _ _ _ _ _ _ c.pump_changing_from-made.new.poller c.pump_changing_from-made.result went.2 _
             (omega (arith, c.pump_changing_from-made.ensures.rounds, c.requires.few)) went.1 went.3 went.4 went.5 c.report-counts.ensures;

@@ -8,9 +8,9 @@ use Rattle.srt_poller.specs.History.{Phase, IsOver}
 use Rattle.srt_poller.specs.Rounds.{Went}
 use Rattle.srt_poller.specs.Pollers.{sorting, world_of, round_state, begun_phase}
 use Rattle.srt_poller.specs.Beginnings.{RestBetween}
-use Rattle.srt_poller.specs.Openings.{news}
+use Rattle.srt_poller.specs.Openings.{route_reports}
 use Rattle.srt_poller.specs.Changes.{plans_in}
-use Rattle.srt_poller.proofs.Coming.{put_whole}
+use Rattle.srt_poller.proofs.Additions.{put_whole}
 use Rattle.srt_poller.proofs.Remaking.{made_none, made_next, made_rounds}
 use Rattle.srt_poller.proofs.changing_rounds.pump_changing_from.Goals as goal
 
@@ -18,7 +18,8 @@ pub loop-made-init : goal.loop-made-init
 loop-made-init g c =
     let same : c.args.first + 0 ≡ c.args.first = omega arith in (
       rw same (made_none c.args.secret.now c.args.first (plans_in c.args.plans.now)
-          (news (g.O.Openings.came c.args.openings.now) (g.O.Openings.asked c.args.openings.now)) (names_of c.args.names.now) c.args.ends.now.items
+          (route_reports (g.O.Openings.added c.args.openings.now) (g.O.Openings.requested c.args.openings.now)) (names_of c.args.names.now)
+          c.args.ends.now.items
           (λ ns es phase. world_of (heard (g.S.Source.gave c.args.source.now) (g.S.Source.calls c.args.source.now))
           (carried (g.W.Wire.handed c.args.wire.now) (g.W.Wire.attempts c.args.wire.now)) es (round_state ns c.args.first c.args.plans.now.latest.moment)
           phase c.args.poller.now) c.requires.plans c.requires.timely),
@@ -49,18 +50,18 @@ loop-made-preserved g c =
     let begun = c.begin.ensures.began in
     let rest : (last : Phase) × IsOver last × Went class plans (258 + 64 * length items) 1 1
     (world_of source wire items (round_state names k c.loop-made.plans.latest.moment) (begun_phase c.loop-made.poller) c.loop-made.poller)
-    (world_of source_then wire_then ends (round_state names (c.args.first + (made + 1)) c.make_round.new.latest.moment) last c.make_round.new.poller) =
+    (world_of source_then wire_then ends (round_state names (c.args.first + (made + 1)) c.make_round.new.latest.moment) last c.make_round.new.self) =
     rw (sym c.as_mut_slice.ensures.value, sym latest, sym next) (c.make_round.ensures plans k) in
     let same : k + 1 ≡ c.args.first + (made + 1) = omega arith in (
       rw whole (made_next c.args.secret.now c.args.first made c.args.plans.now.latest.moment c.loop-made.plans.latest.moment (plans_in c.args.plans.now)
-          (plans_in c.loop-made.plans) plans (news (g.O.Openings.came c.args.openings.now) (g.O.Openings.asked c.args.openings.now))
-          (news (g.O.Openings.came c.loop-made.openings) (g.O.Openings.asked c.loop-made.openings))
-          (news (g.O.Openings.came c.begin.new.openings) (g.O.Openings.asked c.begin.new.openings)) (names_of c.args.names.now)
+          (plans_in c.loop-made.plans) plans (route_reports (g.O.Openings.added c.args.openings.now) (g.O.Openings.requested c.args.openings.now))
+          (route_reports (g.O.Openings.added c.loop-made.openings) (g.O.Openings.requested c.loop-made.openings))
+          (route_reports (g.O.Openings.added c.begin.new.openings) (g.O.Openings.requested c.begin.new.openings)) (names_of c.args.names.now)
           (names_of c.loop-made.names) names c.args.ends.now.items c.loop-made.ends.items items
           (heard (g.S.Source.gave c.args.source.now) (g.S.Source.calls c.args.source.now)) source
           (carried (g.W.Wire.handed c.args.wire.now) (g.W.Wire.attempts c.args.wire.now)) wire c.args.poller.now c.loop-made.poller
           (λ phase. world_of source_then wire_then ends (round_state names (c.args.first + (made + 1)) c.make_round.new.latest.moment) phase
-          c.make_round.new.poller)
+          c.make_round.new.self)
           c.in-Some.closes_all c.loop-made.invariant.0 begun rest c.requires.timely c.loop-made.invariant.2 c.requires.ends
           c.in-Some.ensures.round.0 c.in-Some.ensures.round.1),
       subst (λ (n : ℕ). RestBetween n c.begin.new.self.due plans names) same c.begin.ensures.rest,

@@ -60,7 +60,7 @@ loop-made-preserved g c =
           (subst (λ (n : ℕ). (last : Phase) × IsOver last × Went class schedules (258 + 64 * length c.begin.new.ends) 1 1
           (world_of source wire c.begin.new.ends (round_state names k c.begin.new.self.latest.moment) (begun_phase c.loop-made.poller)
           c.loop-made.poller)
-          (world_of heard_then wire_then c.make_round.new.ends (round_state names n c.make_round.new.latest.moment) last c.make_round.new.poller))
+          (world_of heard_then wire_then c.make_round.new.ends (round_state names n c.make_round.new.latest.moment) last c.make_round.new.self))
           next (c.make_round.ensures schedules k))
           (c.begin.auto.ends ∙ c.loop-made.auto.ends) c.in-Some.ensures.round.0 c.in-Some.ensures.round.1,
       c.begin.ensures.texts ∙ c.loop-made.invariant.1,

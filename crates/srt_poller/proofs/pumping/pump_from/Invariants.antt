@@ -7,7 +7,7 @@ use Rattle.srt_poller.proofs.pumping.pump_from.Given as goal
 
 abbrev pub invariant-loop-made : goal.invariant-loop-made
 invariant-loop-made g l =
-    Rounds (g.G.Signals.goes l.signals) (g.G.Signals.closes l.signals) (sorting l.secret) l.fn.route_schedules.schedules.now l.made (length l.fn.ends)
+    Rounds (g.G.Orders.goes l.signals) (g.G.Orders.closes l.signals) (sorting l.secret) l.fn.route_schedules.schedules.now l.made (length l.fn.ends)
     (listening (heard (g.S.Source.gave l.fn.source) (g.S.Source.calls l.fn.source))
     (carried (g.W.Wire.handed l.fn.wire) (g.W.Wire.attempts l.fn.wire)) l.fn.ends l.fn.poller
     (round_state (names_of l.fn.names) l.first l.fn.route_schedules.latest.moment))

@@ -1,6 +1,6 @@
 use Rattle.std.proofs.Common.{◌≡◌, ◌≤◌}
 use Rattle.std.specs.Vec.{vec_len, vec_capacity}
-use Rattle.srt_poller.specs.Openings.{news}
+use Rattle.srt_poller.specs.Openings.{route_reports}
 use Rattle.srt_serve.proofs.Latecomers.{TakenLate}
 use Rattle.srt_serve.proofs.running.take_late.Given as goal
 
@@ -9,6 +9,6 @@ invariant-loop-at g l = record {
   room : vec_capacity l.fn.ends ≤ vec_capacity l.ends;
   places : vec_len l.ends ≡ l.at;
   taken :
-      TakenLate (news (g.O.Openings.came l.fn.openings) (g.O.Openings.asked l.fn.openings))
-      (news (g.O.Openings.came l.openings) (g.O.Openings.asked l.openings)) l.fn.ends.items l.ends.items;
+      TakenLate (route_reports (g.O.Openings.added l.fn.openings) (g.O.Openings.requested l.fn.openings))
+      (route_reports (g.O.Openings.added l.openings) (g.O.Openings.requested l.openings)) l.fn.ends.items l.ends.items;
 }

@@ -6,8 +6,8 @@ abbrev pub invariant-loop-at : goal.invariant-loop-at
 invariant-loop-at g l = record {
   room : vec_capacity l.fn.ends ≤ vec_capacity l.ends;
   places : vec_len l.ends ≡ l.at;
-  same : g.A.TickEnds.places l.coming ≡ g.A.TickEnds.places l.fn.coming;
-  came :
+  same : g.A.TickEnds.places l.arrivals ≡ g.A.TickEnds.places l.fn.arrivals;
+  added :
       (more : List _)
-      × (g.A.TickEnds.came l.coming ≡ g.A.TickEnds.came l.fn.coming ++ more) × (l.ends.items ≡ l.fn.ends.items ++ more);
+      × (g.A.TickEnds.added l.arrivals ≡ g.A.TickEnds.added l.fn.arrivals ++ more) × (l.ends.items ≡ l.fn.ends.items ++ more);
 }

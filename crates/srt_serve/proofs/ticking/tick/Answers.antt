@@ -12,7 +12,7 @@ loop-preserved g c = (
   tt,
   c.tick_with_new.ensures.same ∙ c.loop.invariant.2,
   one_tick_more g.E.TickEnd.inbox g.E.TickEnd.tried _ _ _ _ _ _ _ _ _ c.next-moment.result c.tick_with_new.ensures.ticked.0
-      c.loop.invariant.3 c.next-moment.ensures.tells c.tick_with_new.ensures.ticked.1 c.tick_with_new.ensures.ticked.2,
+      c.loop.invariant.3 c.next-moment.ensures.records c.tick_with_new.ensures.ticked.1 c.tick_with_new.ensures.ticked.2,
 )
 
 pub returns-then-is_done-clause-ticked : goal.returns-then-is_done-clause-ticked

@@ -5,7 +5,7 @@ use Rattle.srt_serve.proofs.ticking.tick_each.Goals as goal
 pub loop-end-preserved : goal.loop-end-preserved
 loop-end-preserved g c =
     first_more g.E.TickEnd.inbox g.E.TickEnd.tried c.loop-end.end-index _ _ _ c.end-item.result _ c.loop-end.invariant
-    (was_one g.E.TickEnd.inbox g.E.TickEnd.tried _ _ _ c.offer_tick.ensures.accepted c.offer_tick.ensures.tells)
+    (was_one g.E.TickEnd.inbox g.E.TickEnd.tried _ _ _ c.offer_tick.ensures.accepted c.offer_tick.ensures.records)
 
 pub returns : goal.returns
 returns g c =

@@ -4,6 +4,6 @@ use Rattle.srt_poller.proofs.changing.Plans.take_closings.Given as goal
 
 abbrev pub invariant-loop : goal.invariant-loop
 invariant-loop g l =
-    TookClosings l.round (g.O.Openings.asked l.fn.openings) (g.O.Openings.asked l.openings) (plans_in l.fn.self) (plans_in l.self)
-    × (g.O.Openings.came l.openings ≡ g.O.Openings.came l.fn.openings)
+    TookClosings l.round (g.O.Openings.requested l.fn.openings) (g.O.Openings.requested l.openings) (plans_in l.fn.self) (plans_in l.self)
+    × (g.O.Openings.added l.openings ≡ g.O.Openings.added l.fn.openings)
     × (l.self.latest ≡ l.fn.self.latest)

@@ -3,12 +3,12 @@ use Rattle.std.proofs.lemmas.List.{length-append}
 use Rattle.srt_lobby.specs.Names.{names_of, new_name}
 use Rattle.srt_poller.specs.Openings.{new_route}
 use Rattle.srt_poller.specs.Changes.{plans_in}
-use Rattle.srt_poller.proofs.Coming.{came_none, came_more}
+use Rattle.srt_poller.proofs.Additions.{added_none, added_more}
 use Rattle.srt_poller.proofs.changing.Plans.take_newcomers.Goals as goal
 
 pub loop-init : goal.loop-init
 loop-init g c = (
-  came_none (g.O.Openings.came c.args.openings.now) (plans_in c.args.self.now) (names_of c.args.names.now) c.args.ends.now.items,
+  added_none (g.O.Openings.added c.args.openings.now) (plans_in c.args.self.now) (names_of c.args.names.now) c.args.ends.now.items,
   refl,
   c.requires.room,
   refl,
@@ -20,10 +20,10 @@ append-requires-clause-few g c = omega (arith, c.loop.invariant.4, c.loop-test.t
 
 pub loop-preserved : goal.loop-preserved
 loop-preserved g c = (
-  came_more (g.O.Openings.came c.args.openings.now) _ _ (plans_in c.args.self.now) _ _ (names_of c.args.names.now) _ _ c.args.ends.now.items _ _
-      (new_route c.in-Some.newcomer) refl c.in-Some.ensures.came c.append.ensures.plans c.append.ensures.names c.append.ensures.ends
+  added_more (g.O.Openings.added c.args.openings.now) _ _ (plans_in c.args.self.now) _ _ (names_of c.args.names.now) _ _ c.args.ends.now.items _ _
+      (new_route c.in-Some.newcomer) refl c.in-Some.ensures.added c.append.ensures.plans c.append.ensures.names c.append.ensures.ends
       c.loop.invariant.0,
-  c.in-Some.ensures.asked ∙ c.loop.invariant.1,
+  c.in-Some.ensures.requested ∙ c.loop.invariant.1,
   c.append.ensures.room,
   c.append.ensures.latest ∙ c.loop.invariant.3,
   omega (arith, ap length c.append.ensures.names, length-append (names_of c.loop.names) (new_name c.in-Some.newcomer.name ∷ []), c.loop.invariant.4),

@@ -6,9 +6,9 @@ use Rattle.srt_poller.proofs.changing.Plans.take_newcomers.Given as goal
 
 abbrev pub invariant-loop : goal.invariant-loop
 invariant-loop g l =
-    TookNewcomers (g.O.Openings.came l.fn.openings) (g.O.Openings.came l.openings) (plans_in l.fn.self) (plans_in l.self) (names_of l.fn.names)
+    TookNewcomers (g.O.Openings.added l.fn.openings) (g.O.Openings.added l.openings) (plans_in l.fn.self) (plans_in l.self) (names_of l.fn.names)
     (names_of l.names) l.fn.ends.items l.ends.items
-    × (g.O.Openings.asked l.openings ≡ g.O.Openings.asked l.fn.openings)
+    × (g.O.Openings.requested l.openings ≡ g.O.Openings.requested l.fn.openings)
     × (511 ≤ vec_capacity l.ends)
     × (l.self.latest ≡ l.fn.self.latest)
     × (length (names_of l.names) ≡ l.counter)

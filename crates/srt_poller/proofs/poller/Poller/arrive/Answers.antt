@@ -3,7 +3,7 @@ use Rattle.std.proofs.lemmas.List.{length-take}
 use Rattle.srt_lobby.proofs.Kept.{inside}
 use Rattle.srt_poller.specs.Devices.{joined}
 use Rattle.srt_poller.specs.History.{Answers, Drops, FromLobby, from}
-use Rattle.srt_poller.specs.Pollers.{came}
+use Rattle.srt_poller.specs.Pollers.{arrival_in}
 use Rattle.srt_poller.proofs.Steps.{sent_as, unsent, are_later_none, went_one}
 use Rattle.srt_poller.proofs.poller.Poller.arrive.Goals as goal
 
@@ -18,11 +18,11 @@ offer-requires g c =
 
 pub returns-in-Answer : goal.returns-in-Answer
 returns-in-Answer g c schedules round latest reads source =
-    let a = came c.args.incoming c.args.self.now in
+    let a = arrival_in c.args.incoming c.args.self.now in
     went_one _ schedules (Answers a c.in-Answer.answer c.send-sent.result) _ _ (tt, sym c.classify.ensures.class ∙ c.in-Answer.is) (record {
       gave = refl;
       called = refl;
-      handed = c.send-sent.ensures.tells
+      handed = c.send-sent.ensures.records
           ∙ ap (joined (g.W.Wire.handed c.args.wire.now))
           (sent_as c.send-sent.result (from FromLobby (record { peer = c.args.incoming.peer; bytes = c.in-Answer.answer })));
       attempted = c.send-sent.ensures.attempted;
@@ -31,7 +31,7 @@ returns-in-Answer g c schedules round latest reads source =
 
 pub returns-in-Dropped : goal.returns-in-Dropped
 returns-in-Dropped g c schedules round latest reads source =
-    let a = came c.args.incoming c.args.self.now in
+    let a = arrival_in c.args.incoming c.args.self.now in
     went_one _ schedules (Drops a c.in-Dropped.cause) _ _ (tt, sym c.classify.ensures.class ∙ c.in-Dropped.is)
     (unsent _ _ _ _ refl refl refl refl) (are_later_none _ _ (λ r. refl) (λ r. refl)) refl c.count_dropped.ensures
 

@@ -11,7 +11,7 @@ returns-then-is_some g c =
 pub loop-route-init : goal.loop-route-init
 loop-route-init g c =
     let none : c.args.self.now.kept ≡ None = none_if_not_some _ (sym c.if-is_some.ensures) in
-    (none, omega arith, λ class schedules t phase source up. (phase, up, rw c.look_ahead.ensures (went_none _ _ _ _)))
+    (none, omega arith, λ class schedules t phase source up. (phase, up, rw c.prefetch.ensures (went_none _ _ _ _)))
 
 pub returns-then-at-ends : goal.returns-then-at-ends
 returns-then-at-ends g c =

@@ -32,7 +32,7 @@ returns-in-Taken g c = record {
               c.requires.kept,
         )
             (unheard _ _ _ _ refl refl
-            (c.send-sent.ensures.tells
+            (c.send-sent.ensures.records
             ∙ ap (joined (g.W.Wire.handed c.args.wire.now)) (sent_as c.send-sent.result (from (FromRoute c.args.route) reply)))
             c.send-sent.ensures.attempted)
             (sent_here c.args.route reply c.send-sent.result c.args.ends.now _ _ c.requires.route
@@ -63,7 +63,7 @@ returns-in-Later-clause-went g c sends below class schedules t phase source up =
             c.requires.kept,
       )
           (unheard _ _ _ _ refl refl
-          (c.send-sent.ensures.tells
+          (c.send-sent.ensures.records
           ∙ ap (joined (g.W.Wire.handed c.args.wire.now)) (sent_as c.send-sent.result (from (FromRoute c.args.route) reply)))
           c.send-sent.ensures.attempted)
           (sent_here c.args.route reply c.send-sent.result c.args.ends.now _ _ c.requires.route

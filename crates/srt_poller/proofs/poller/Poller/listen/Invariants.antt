@@ -6,11 +6,11 @@ use Rattle.srt_poller.specs.Rounds.{Went}
 use Rattle.srt_poller.specs.Pollers.{sorted_by, named_in, round_state, world_of}
 use Rattle.srt_poller.proofs.poller.Poller.listen.Given as goal
 
-abbrev pub invariant-loop-came : goal.invariant-loop-came
-invariant-loop-came g l =
+abbrev pub invariant-loop-reads : goal.invariant-loop-reads
+invariant-loop-reads g l =
     (schedules : List Schedule) (round : ℕ) →
-    Went (sorted_by l.context.lobby) schedules (l.came + 1) 1 l.came
+    Went (sorted_by l.context.lobby) schedules (l.reads + 1) 1 l.reads
     (world_of (heard (g.S.Source.gave l.fn.source) (g.S.Source.calls l.fn.source)) (carried (g.W.Wire.handed l.fn.wire) (g.W.Wire.attempts l.fn.wire)) l.fn.ends
     (round_state (named_in l.context.lobby) round l.fn.latest.moment) (Begun false) l.fn.self)
     (world_of (heard (g.S.Source.gave l.source) (g.S.Source.calls l.source)) (carried (g.W.Wire.handed l.wire) (g.W.Wire.attempts l.wire)) l.ends
-    (round_state (named_in l.context.lobby) (suc round) l.latest.moment) (reading l.came) l.self)
+    (round_state (named_in l.context.lobby) (suc round) l.latest.moment) (reading l.reads) l.self)

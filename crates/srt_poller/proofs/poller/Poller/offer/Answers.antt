@@ -1,13 +1,13 @@
 use Rattle.std.proofs.Common.{refl}
 use Rattle.srt_poller.specs.History.{Accepts, Overflows, Refuses}
-use Rattle.srt_poller.specs.Pollers.{came}
+use Rattle.srt_poller.specs.Pollers.{arrival_in}
 use Rattle.srt_poller.proofs.Steps.{unsent, went_one, accepted_now, accepted_here, nothing_here}
 use Rattle.srt_poller.proofs.poller.Poller.offer.Goals.{in-Accepted, in-Full, in-Refused}
 use Rattle.srt_poller.proofs.poller.Poller.offer.Goals as goal
 
 pub returns : goal.returns
 returns g c class names wire is schedules round latest reads source =
-    let a = came c.args.incoming c.args.self.now in
+    let a = arrival_in c.args.incoming c.args.self.now in
     elim c.match-offer.branch [
       | in-Accepted w ↦
           rw w.self-is (went_one class schedules (Accepts a c.args.route) _ _ (tt, is) (unsent _ _ _ _ refl refl refl refl)

@@ -16,7 +16,7 @@ returns-in-Taken g c ends class schedules t source =
     let here = ap (option_map (λ (x : KeptReply). kept x.route (record { peer = x.peer; bytes = take x.len c.args.self.now.reply_bytes }))) c.in-Some.is in
     went_one class schedules (Resends k.route k.reply c.send-sent.result) _ _ (ap (λ (o : Option Kept). Begun (is_some o)) here, here)
     (unheard _ _ _ _ refl refl
-    (c.send-sent.ensures.tells
+    (c.send-sent.ensures.records
     ∙ ap (joined (g.W.Wire.handed c.args.wire.now)) (sent_as c.send-sent.result (from (FromRoute k.route) k.reply)))
     c.send-sent.ensures.attempted)
     (are_later_none _ _ (λ r. refl) (λ r. refl)) (ap (λ (o : Option Kept). state t.names o t.round (Begun false) t.latest) gone) c.count_reply.ensures
@@ -28,7 +28,7 @@ returns-in-Later g c ends class schedules t source =
     let there : Some k ≡ kept_if c.send-sent.result k = rw c.in-Later.is refl in
     went_one class schedules (Resends k.route k.reply c.send-sent.result) _ _ (ap (λ (o : Option Kept). Begun (is_some o)) here, here)
     (unheard _ _ _ _ refl refl
-    (c.send-sent.ensures.tells
+    (c.send-sent.ensures.records
     ∙ ap (joined (g.W.Wire.handed c.args.wire.now)) (sent_as c.send-sent.result (from (FromRoute k.route) k.reply)))
     c.send-sent.ensures.attempted)
     (are_later_none _ _ (λ r. refl) (λ r. refl)) (ap (λ (o : Option Kept). state t.names o t.round (Begun false) t.latest) (here ∙ there)) c.count_reply.ensures

@@ -3,16 +3,16 @@ use Rattle.srt_poller.specs.declared.scripts.SourceStep.TheVariants.{Datagram, E
 use Rattle.srt_poller.proofs.Scripted.{given_more}
 use Rattle.srt_poller.proofs.scripts.SourceScriptSource.next.Goals as goal
 
-pub returns-in-Some-Empty-clause-tells : goal.returns-in-Some-Empty-clause-tells
-returns-in-Some-Empty-clause-tells c =
+pub returns-in-Some-Empty-clause-records : goal.returns-in-Some-Empty-clause-records
+returns-in-Some-Empty-clause-records c =
     ap Some (given_more c.args.self.now.steps.items c.args.self.now.at Empty (sym c.in-Some-Empty.ensures ∙ ap Some c.in-Some-Empty.field-0-is))
 
-pub returns-in-Some-ReadFails-clause-tells : goal.returns-in-Some-ReadFails-clause-tells
-returns-in-Some-ReadFails-clause-tells c =
+pub returns-in-Some-ReadFails-clause-records : goal.returns-in-Some-ReadFails-clause-records
+returns-in-Some-ReadFails-clause-records c =
     ap Some (given_more c.args.self.now.steps.items c.args.self.now.at ReadFails (sym c.in-Some-ReadFails.ensures ∙ ap Some c.in-Some-ReadFails.field-0-is))
 
-pub returns-in-Some-Datagram-clause-tells : goal.returns-in-Some-Datagram-clause-tells
-returns-in-Some-Datagram-clause-tells c =
+pub returns-in-Some-Datagram-clause-records : goal.returns-in-Some-Datagram-clause-records
+returns-in-Some-Datagram-clause-records c =
     rw (c.copy_to-len.ensures.bytes, c.min-moment.ensures)
     (ap Some
     (given_more c.args.self.now.steps.items c.args.self.now.at (Datagram c.in-Some-Datagram.datagram)

@@ -1,15 +1,14 @@
 use Rattle.std.proofs.Common.{suc, refl, inr, arith}
-use Rattle.srt_lobby.specs.Names.{names_of}
 use Rattle.srt_poller.specs.Devices.{heard}
 use Rattle.srt_poller.specs.History.{Sending}
-use Rattle.srt_poller.specs.Pollers.{sorting, round_state}
+use Rattle.srt_poller.specs.Pollers.{sorted_by, named_in, round_state}
 use Rattle.srt_poller.proofs.Steps.{went_then, went_as, went_more, up_to_over}
-use Rattle.srt_poller.proofs.pumping.make_round.Goals as goal
+use Rattle.srt_poller.proofs.poller.Poller.make_round.Goals as goal
 
 pub returns : goal.returns
 returns g c schedules round =
-    let class = sorting c.args.secret.now in
-    let names = names_of c.args.names.now in
+    let class = sorted_by c.args.context.now.lobby in
+    let names = named_in c.args.context.now.lobby in
     let source = heard (g.S.Source.gave c.args.source.now) (g.S.Source.calls c.args.source.now) in
     let heard_then = heard (g.S.Source.gave c.listen.new.source) (g.S.Source.calls c.listen.new.source) in
     let resent = c.resend.ensures c.args.ends.now class schedules (round_state names round c.args.latest.now.moment) source in

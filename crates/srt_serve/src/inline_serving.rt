@@ -4,12 +4,12 @@
 
 ghost use Rattle.std.specs.Prelude.{◌≡◌};
 
-use crate::post::Post;
 use crate::refusals::{lobby_refusal, refusal_in, route_refusal};
+use crate::watcher_channel::WatcherChannel;
 use crate::working::{is_left, serve_route};
 use srt_lobby::Names;
 use srt_mailbox::{Gate, Serve};
-use srt_poller::Signals;
+use srt_poller::{Hints, InlineService, Orders, PollerObserver, Signals};
 use srt_seq::Peer;
 use srt_supervision::{Order, Report};
 use srt_wakeups::Wakeups;
@@ -19,50 +19,50 @@ use std::sync::Wait;
 
 /// The poller's hints, and its work for the routes.
 #[derive(Drop)]
-pub struct Helper<'a, R, C, G: Drop> {
+pub struct InlineServer<'a, R, C, G: Drop> {
     rt: &'a R,
     cells: &'a [C],
     wakeups: &'a Wakeups,
     // none if the run isn't watched
-    post: Option<&'a Post>,
+    channel: Option<&'a WatcherChannel>,
     // none if the workers alone serve routes, and while it is in use
     gate: Cell<Option<G>>,
 }
 
-impl<'a, R: Wait, C: Serve, G: Gate + Drop> Helper<'a, R, C, G> {
-    /// For the polling thread alone. Without a gate it serves no route, and without a post all rounds are made and none
+impl<'a, R: Wait, C: Serve, G: Gate + Drop> InlineServer<'a, R, C, G> {
+    /// For the polling thread alone. Without a gate it serves no route, and without a channel all rounds are made and none
     /// closes all.
     pub fn new(
         rt: &'a R,
         cells: &'a [C],
         wakeups: &'a Wakeups,
-        post: Option<&'a Post>,
+        channel: Option<&'a WatcherChannel>,
         gate: Option<G>,
-    ) -> Helper<'a, R, C, G>
-        ensures { result.post ≡ post.entry }
+    ) -> InlineServer<'a, R, C, G>
+        ensures { result.channel ≡ channel.entry }
     {
-        Helper {
+        InlineServer {
             rt,
             cells,
             wakeups,
-            post,
+            channel,
             gate: Cell::new(gate),
         }
     }
 
     // Where the refusal that this handshake is can be left for the watcher, and its code; none if it isn't a refusal,
     // if the run isn't watched, and if there is no place, which is counted.
-    fn place_for(&self, handshake: &[u8]) -> Option<(&'a Post, u32)> {
-        let Some(post) = self.post else {
+    fn place_for(&self, handshake: &[u8]) -> Option<(&'a WatcherChannel, u32)> {
+        let Some(channel) = self.channel else {
             return None;
         };
         let Some(code) = refusal_in(handshake) else {
             return None;
         };
-        if post.misses() {
+        if channel.misses() {
             None
         } else {
-            Some((post, code))
+            Some((channel, code))
         }
     }
 
@@ -99,33 +99,65 @@ impl<'a, R: Wait, C: Serve, G: Gate + Drop> Helper<'a, R, C, G> {
     }
 }
 
-impl<R: Wait, C: Serve, G: Gate + Drop> Signals for Helper<'_, R, C, G> {
+impl<R: Wait, C: Serve, G: Gate + Drop> Orders for InlineServer<'_, R, C, G> {
     ghost use Rattle.std.specs.Prelude.{IsSome};
 
     ghost goes = { λ s. Unit {0} };
 
-    ghost closes = { λ s. IsSome s.post };
+    ghost closes = { λ s. IsSome s.channel };
 
-    ghost stops = { λ s. IsSome s.post };
+    ghost stops = { λ s. IsSome s.channel };
 
-    fn asked(&self) -> Order {
-        match self.post {
-            Some(post) => post.asked(),
+    fn order(&self) -> Order {
+        match self.channel {
+            Some(channel) => channel.order(),
             None => Order::GoOn,
         }
     }
+}
 
-    fn reported(&self, report: &Report) {
-        if let Some(post) = self.post {
-            post.report.leave(report);
-        }
-    }
-
+impl<R: Wait, C: Serve, G: Gate + Drop> Hints for InlineServer<'_, R, C, G> {
     fn polled(&self, route: usize) {
         self.wakeups.set_polled(route);
     }
 
-    fn read_ended(&self, datagrams: u32) {
+    fn take_outbox_ready(&self, route: usize) -> bool {
+        self.wakeups.take_outbox_ready(route)
+    }
+
+    fn next_outbox_ready(&self, route: usize) -> usize {
+        self.wakeups.next_outbox_ready(route)
+    }
+}
+
+impl<R: Wait, C: Serve, G: Gate + Drop> PollerObserver for InlineServer<'_, R, C, G> {
+    fn reported(&self, report: &Report) {
+        if let Some(channel) = self.channel {
+            channel.report.leave(report);
+        }
+    }
+
+    fn answered(&self, names: &Names, peer: Peer, datagram: &[u8], answer: &[u8]) {
+        if let Some((channel, code)) = self.place_for(answer) {
+            channel.leave(self.rt, lobby_refusal(names, peer, code, datagram));
+        }
+    }
+
+    fn replied(&self, route: usize, peer: Peer, handshake: &[u8]) {
+        if let Some((channel, code)) = self.place_for(handshake) {
+            channel.leave(self.rt, route_refusal(route, peer, code));
+        }
+    }
+
+    fn failed(&self) {
+        if let Some(channel) = self.channel {
+            channel.failed();
+        }
+    }
+}
+
+impl<R: Wait, C: Serve, G: Gate + Drop> InlineService for InlineServer<'_, R, C, G> {
+    fn serve_inline(&self, datagrams: u32) {
         match self.gate.replace(None) {
             Some(mut gate)
                 if datagrams < MANY_DATAGRAMS && self.wakeups.count_polled() <= FEW_ROUTES => {
@@ -139,30 +171,6 @@ impl<R: Wait, C: Serve, G: Gate + Drop> Signals for Helper<'_, R, C, G> {
             }
         }
     }
-
-    fn take_outbox_ready(&self, route: usize) -> bool {
-        self.wakeups.take_outbox_ready(route)
-    }
-
-    fn next_outbox_ready(&self, route: usize) -> usize {
-        self.wakeups.next_outbox_ready(route)
-    }
-
-    fn answered(&self, names: &Names, peer: Peer, datagram: &[u8], answer: &[u8]) {
-        if let Some((post, code)) = self.place_for(answer) {
-            post.leave(self.rt, lobby_refusal(names, peer, code, datagram));
-        }
-    }
-
-    fn replied(&self, route: usize, peer: Peer, handshake: &[u8]) {
-        if let Some((post, code)) = self.place_for(handshake) {
-            post.leave(self.rt, route_refusal(route, peer, code));
-        }
-    }
-
-    fn failed(&self) {
-        if let Some(post) = self.post {
-            post.failed();
-        }
-    }
 }
+
+impl<R: Wait, C: Serve, G: Gate + Drop> Signals for InlineServer<'_, R, C, G> {}

@@ -1,5 +1,5 @@
 use Rattle.std.proofs.Common.{◌≡◌, length, ◌-◌}
-use Rattle.srt_poller.proofs.poller.Poller.look_ahead.Given as goal
+use Rattle.srt_poller.proofs.poller.Poller.prefetch.Given as goal
 
 abbrev pub invariant-loop-route : goal.invariant-loop-route
 invariant-loop-route g l = l.ends ≡ l.fn.ends

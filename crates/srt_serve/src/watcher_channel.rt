@@ -1,6 +1,10 @@
-//! What the threads of a run that is watched tell each other: what the watcher asks of the poller, and the faults, the
-//! refusals and, when the watcher wants them, the counts that the polling thread tells. Nothing here is touched for a
-//! packet of an open session.
+//! The channel between the polling thread and the watching one, in a run that is watched: the watcher's order to the
+//! poller, and the faults, the refusals and, when the watcher wants them, the counts of the polling thread.
+//!
+//! Apart from the refusals these are atomics and no queue: only the latest value counts, so the polling thread never waits
+//! and never finds the channel full, and a load before each round is all that a round costs. A struct that owns two queues
+//! of different item types is also refused by the prover (docs/proving-traps.md, "Queues and threads"), so the counts are
+//! in atomics with a flag (`SharedReport`). Nothing here is touched for a packet of an open session.
 
 use crate::shared_report::SharedReport;
 use crossbeam_queue::ArrayQueue;
@@ -9,15 +13,15 @@ use std::alloc::{AllocError, Global};
 use std::sync::Wait;
 use std::sync::atomic::{AtomicBool, AtomicU64, Ordering};
 
-// The most refusals that wait for the watcher. It is told many times a second.
+// The most refusals that wait for the watcher, which takes them many times a second.
 const REFUSAL_PLACES: usize = 64;
 
 /// Between the polling thread and the watching one.
 #[derive(Drop)]
-pub struct Post {
-    // the poller is asked to close all
+pub struct WatcherChannel {
+    // the order is to close all
     closes: AtomicBool,
-    // the poller is asked to end
+    // the order is to end
     ends: AtomicBool,
     // the number of socket faults
     faults: AtomicU64,
@@ -28,11 +32,11 @@ pub struct Post {
     pub report: SharedReport,
 }
 
-impl Post {
-    /// The poller is asked to go on, nothing was told, and its first counts are wanted. Allocates room for 64
-    /// refusals; an error means that memory was refused.
-    pub fn open(alloc: Global) -> Result<Post, AllocError> {
-        Ok(Post {
+impl WatcherChannel {
+    /// The order is to go on, nothing was reported, and the first counts are wanted. Allocates room for 64 refusals; an
+    /// error means out of memory.
+    pub fn open(alloc: Global) -> Result<WatcherChannel, AllocError> {
+        Ok(WatcherChannel {
             closes: AtomicBool::new(false),
             ends: AtomicBool::new(false),
             faults: AtomicU64::new(0),
@@ -42,17 +46,17 @@ impl Post {
         })
     }
 
-    /// Asks this of the poller from now on. Once it was asked to end, nothing else is asked of it.
-    pub fn ask(&self, asked: Order) {
-        match asked {
+    /// Sets the order. An order to end is final.
+    pub fn set_order(&self, order: Order) {
+        match order {
             Order::GoOn => self.closes.store(false, Ordering::SeqCst),
             Order::CloseAll => self.closes.store(true, Ordering::SeqCst),
             Order::End => self.ends.store(true, Ordering::SeqCst),
         }
     }
 
-    /// What is asked of the poller.
-    pub fn asked(&self) -> Order {
+    /// Returns the order.
+    pub fn order(&self) -> Order {
         if self.ends.load(Ordering::SeqCst) {
             Order::End
         } else if self.closes.load(Ordering::SeqCst) {

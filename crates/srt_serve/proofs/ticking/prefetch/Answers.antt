@@ -1,11 +1,11 @@
 use Rattle.std.proofs.Common.{[], arith}
 use Rattle.srt_serve.proofs.Moments.{was_same, first_more, all_first}
-use Rattle.srt_serve.proofs.ticking.look_ahead.Goals as goal
+use Rattle.srt_serve.proofs.ticking.prefetch.Goals as goal
 
 pub loop-end-preserved : goal.loop-end-preserved
 loop-end-preserved g c =
     first_more g.E.TickEnd.inbox g.E.TickEnd.tried c.loop-end.end-index [] _ _ c.end-item.result _ c.loop-end.invariant
-    (was_same g.E.TickEnd.inbox g.E.TickEnd.tried _ _ c.look.ensures.same)
+    (was_same g.E.TickEnd.inbox g.E.TickEnd.tried _ _ c.touch.ensures.same)
 
 pub returns : goal.returns
 returns g c =
