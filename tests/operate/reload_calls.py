@@ -12,6 +12,7 @@ from lines import refused_line
 from reload_model import ADMITTED, UNKNOWN, Call, Route, Verdict
 from reload_seen import ROLES, SECONDS, Compared, Plan
 
+LINES = 35  # Lines of a second to which a refusal can be added.
 FILL = 7  # Calls to a route whose sessions stay open, so that its limits are met.
 
 
@@ -82,6 +83,7 @@ class Called(Compared):
 
     def try_call(self, call: Call, kind: Callable[..., Caller] = Caller) -> Caller | None:
         """Calls once, and expects what the model has for it. Returns the caller if its session is open."""
+        self.pace(LINES)
         verdict, route, first = self.model.verdict(call), self.model.route(call.name), len(self.run.lines)
         caller = self.caller(call, kind)
         code = self.code_of(caller)

@@ -16,7 +16,7 @@ LISTS = (["127.0.0.1"], ["127.0.0.9"], ["127.0.0.8/29"], ["127.0.0.9", "127.0.0.
 KEYS = ("b1f0-a~key", "b1f0-a~key2", "c2e1.other_key", "~" * 64)
 MOST_ROUTES = 7  # With the one that stays; so the lines of a change find room in their second of the log.
 NUMBERS: dict[str, tuple[int, ...]] = {
-    "latency_ms": (20, 21, 80, 120, 400, 2000, 8000), "buffer": (32, 33, 40, 64), "sessions": (1, 2, 3, 4, 5), "inbox": (64, 65, 200),
+    "latency_ms": (20, 21, 80, 120, 400, 1000, 2000, 8000), "buffer": (32, 33, 40, 64), "sessions": (1, 2, 3, 4, 5), "inbox": (64, 65, 200),
     "outbox": (16, 64, 200),
 }
 OPTIONAL: dict[str, tuple[Any, ...]] = {
@@ -220,13 +220,32 @@ def no_routes(chance: random.Random, top: Table, routes: list[Table]) -> None:
         top["route"] = []
 
 
-FAULTS = (bad_value, bad_value, bad_value, bad_top, missing_key, unknown_key, same_name, too_reserved, no_round_left, no_routes)
+def bad_name(chance: random.Random, top: Table, routes: list[Table]) -> None:
+    chance.choice(routes)["name"] = chance.choice([it for it in BAD_VALUES["name"] if isinstance(it, str)])
 
 
-def faulty(chance: random.Random, top: Table, routes: list[Table]) -> bytes:
-    """A file with these keys and routes, and a fault in one of them."""
+def bad_secret(chance: random.Random, top: Table, routes: list[Table]) -> None:
+    top["secret"] = chance.choice([it for it in BAD_TOPS["secret"] if isinstance(it, str)])
+
+
+def bad_address(chance: random.Random, top: Table, routes: list[Table]) -> None:
+    if chance.random() < 0.5:
+        top["bind"] = chance.choice([it for it in BAD_TOPS["bind"] if isinstance(it, str)])
+    else:
+        chance.choice(routes)[chance.choice(("publish_from", "request_from"))] = ["127.0.0.1", chance.choice(("127.0.0.1/8", "::1", "", "127.1"))]
+
+
+def wrong_kind(chance: random.Random, top: Table, routes: list[Table]) -> None:
+    chance.choice(routes)[chance.choice(NEEDED)] = chance.choice((True, 1.5, [], {}))
+
+
+FAULTS = (bad_value, missing_key, bad_name, unknown_key, wrong_kind, same_name, bad_secret, bad_address, bad_top, too_reserved, no_round_left, no_routes)
+
+
+def faulty(chance: random.Random, top: Table, routes: list[Table], kind: int) -> bytes:
+    """A file with these keys and routes, and a fault of this kind."""
     top, routes = copy.deepcopy(top), copy.deepcopy(routes)
-    chance.choice(FAULTS)(chance, top, routes)
+    FAULTS[kind % len(FAULTS)](chance, top, routes)
     return text_of(chance, top, routes).encode()
 
 

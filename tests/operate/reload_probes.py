@@ -14,7 +14,7 @@ from reload_seen import SECONDS, STEADY
 
 SILENT_MS = 700  # How long a publisher is silent, so that another one takes over if takeover_ms is less.
 AT_ONCE = (100,)  # Values of takeover_ms that are too short for what is expected on a busy machine.
-DRAINING = (400, 2000)  # Latencies of the routes where a publisher's last packet is waited for,
+DRAINING = (1000, 2000)  # Latencies of the routes where a publisher's last packet is waited for,
 RESENDING = (20, 21, 80, 120, 400)  # and of those where a packet is requested again before it is too old.
 NAKS = 200
 QUICK = 0.4  # The seconds in which a publisher isn't silent for any other value.
@@ -57,7 +57,7 @@ class Probed(Called):
         is_quick = time.monotonic() - began < QUICK and self.speak(route, first, {first: 1, second: 0}, 0)
         if is_quick:
             self.speak(route, second, {first: int(not takes_over), second: int(takes_over)}, SILENT_MS)
-            self.tally.calls["take-over" if takes_over else "no take-over"] += 1
+        self.tally.calls["take-over" if takes_over else "no take-over"] += 1
         # On a machine that is too slow the first publisher is silent, too.
         route.counts.add("take_overs_total", int(is_quick and takes_over), int(takes_over) if is_quick else 2)
         for it in (first, second) if takes_over else (second, first):

@@ -1,8 +1,10 @@
 """What a gateway whose configuration's file changes logs and serves as its status page, compared with a plain model (reload_model.py)."""
 from __future__ import annotations
 
+import ctypes
 import random
 import re
+import signal
 import time
 from collections import Counter
 from typing import Any, NamedTuple
@@ -15,11 +17,18 @@ from running import SECRET, Run
 
 SECONDS = 20.0  # Until a line or a number has to be there. One that is there sooner is found sooner.
 STEADY = "studio"
+LIBC = ctypes.CDLL(None)
+PR_SET_PDEATHSIG = 1  # Of Linux.
 ROLES = {"publish": "publisher", "request": "subscriber"}
 CONFIG_LINE = r"configuration .*|\S+: closed, (?:it is no longer|to open again) .*|\S+: opened with index .*|\d+ of 511 indexes .*"
 REFUSAL_COUNTS = tuple(f"refusals_{it}" for it in ("PEER", "RESOURCE", "ROGUE", "VERSION", "UNSECURE", "MESSAGEAPI", "FILTER", "GROUP"))
 LOBBY_COUNTS = tuple(f"lobby_refused_{it}_total" for it in ("no_name", "unknown_name", "publish_from", "request_from", "publish_key", "request_key"))
 ROUTE_COUNTS = ("opened_sessions_total", "take_overs_total", "refused_sessions_total", "refused_reserved_total", "refused_sessions_per_address_total")
+
+
+def end_with_parent() -> None:
+    """For a process to call before it runs a program: it is killed when the thread that started it ends, in whatever way."""
+    LIBC.prctl(PR_SET_PDEATHSIG, signal.SIGKILL)
 
 
 class Plan(NamedTuple):
@@ -81,6 +90,11 @@ class Compared:
         self.expect(right, f"the log has {texts}, and not {forms}")
         if forms:
             self.next_line = found[len(forms) - 1][0] + 1
+
+    def pace(self, most: int) -> None:
+        """Waits until the last second has no more lines than so many: the log leaves lines out that are more than 50 in a second."""
+        while sum(it.came > time.time() - 1 for it in self.run.lines[-most - 1:]) > most:
+            time.sleep(0.02)
 
     def expect_no_secrets(self) -> None:
         """Expects that no line of the log has the secret or a key of a role."""
