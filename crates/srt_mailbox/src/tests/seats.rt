@@ -5,6 +5,7 @@ ghost use Rattle.std.specs.Prelude.{◌≡◌, ◌≤◌, [], Some, IfOk};
 ghost use Rattle.srt_mailbox.specs.Cells.{AreEndsOf};
 ghost use Rattle.srt_mailbox.specs.Identities.{identity_in};
 ghost use Rattle.srt_mailbox.specs.Places.{came, places_of};
+ghost use Rattle.srt_mailbox.specs.Seats.{IsNewPoller, IsNewClock};
 
 use crate::tests::datagrams::{publisher_answer, publisher_conclusion};
 use crate::tests::observing::Eye;
@@ -59,11 +60,31 @@ fn is_there(hand: Option<ClockHand>) -> Result<ClockHand, Fail>
     }
 }
 
+/// The poller's ends, taken from a seat.
+fn poller_of(seat: &Seat<Mark>) -> Result<PollerEnds<Mark>, Fail>
+    ensures { IfOk result (λ e. IsNewPoller (identity_in seat.now.cell) e.ingress e.drain) }
+{
+    match seat.take_poller() {
+        Ok(ends) => Ok(ends),
+        Err(_) => Err(Fail::from("the poller's ends are there")),
+    }
+}
+
+/// The clock's end, likewise.
+fn clock_of(seat: &Seat<Mark>) -> Result<ClockHand, Fail>
+    ensures { IfOk result (λ h. IsNewClock (identity_in seat.now.cell) h.end) }
+{
+    match seat.take_clock() {
+        Ok(hand) => Ok(hand),
+        Err(_) => Err(Fail::from("the clock's end is there")),
+    }
+}
+
 #[test]
 fn a_seat_gives_each_end_once(rt: HostRuntime) -> Result<(), Fail> {
     let seat = marked(rt.alloc(), 3, 7)?;
-    let ends = are_there(seat.take_poller().ok())?;
-    let _hand = is_there(seat.take_clock().ok())?;
+    let ends = poller_of(&seat)?;
+    let _hand = clock_of(&seat)?;
     assert!(rt; seat.take_poller().is_err());
     assert!(rt; seat.take_clock().is_err());
     assert_eq!(rt; ends.companion.0, 7);
@@ -150,8 +171,8 @@ fn a_place_serves_the_route_of_its_seat(rt: HostRuntime) -> Result<(), Fail> {
         mut ingress,
         mut drain,
         companion: _,
-    } = are_there(seat.take_poller().ok())?;
-    let ClockHand { mut end } = is_there(seat.take_clock().ok())?;
+    } = poller_of(seat)?;
+    let ClockHand { mut end } = clock_of(seat)?;
     assert_goes_through(&rt, &place, &mut ingress, &mut end, &mut drain)?;
     assert!(rt; place.show(&rt, &mut Eye::new()));
     assert_eq!(rt; account_of(&rt, seat, ingress, end, drain)?, ONE_ANSWER);
@@ -170,7 +191,7 @@ fn a_place_has_one_seat(rt: HostRuntime) -> Result<(), Fail> {
     let Err(back) = place.put(marked(rt.alloc(), 0, 8)?) else {
         return Err(Fail::from("the place has a seat"));
     };
-    assert_eq!(rt; are_there(back.take_poller().ok())?.companion.0, 8);
+    assert_eq!(rt; poller_of(&back)?.companion.0, 8);
     Ok(())
 }
 
@@ -370,8 +391,8 @@ fn assert_served_and_settled(
         ingress,
         drain,
         companion: _,
-    } = are_there(seat.take_poller().ok())?;
-    let ClockHand { mut end } = is_there(seat.take_clock().ok())?;
+    } = poller_of(seat)?;
+    let ClockHand { mut end } = clock_of(seat)?;
     assert!(rt; tick(rt, &mut end, 5));
     assert_visited(rt, &place, 64, (1, 0, Some(IDLE)));
     assert!(rt; place.show(rt, &mut Eye::new()));
