@@ -4,12 +4,14 @@ from __future__ import annotations
 
 import copy
 import time
+from typing import Callable
 
 import packets
+import reload_files as files
 from caller import Caller
 from lines import ended_line
 from reload_calls import Called, calls_to
-from reload_model import Call, Route
+from reload_model import DEFAULTS, Call, Route
 from reload_seen import SECONDS, STEADY
 
 SILENT_MS = 700  # How long a publisher is silent, so that another one takes over if takeover_ms is less.
@@ -143,6 +145,10 @@ class Probed(Called):
 
     # All calls after a change.
 
+    def trials(self) -> tuple[tuple[Callable[[Route], None], str, tuple[int, ...]], ...]:
+        """What shows the value of a key, on routes of which latencies."""
+        return (self.silence, "takeover_ms", files.NUMBERS["latency_ms"]), (self.drain, "callers", DRAINING), (self.resend, "resend_percent", RESENDING)
+
     def call_all(self) -> None:
         """Calls the routes that opened and closed with the last change, and some others."""
         for route in self.model.closed:
@@ -159,11 +165,10 @@ class Probed(Called):
         movable = [it for it in self.model.routes if it.name != STEADY and (it not in opened or self.is_found(it))]
         if movable and self.chance.random() < 0.3:
             self.fill(self.chance.choice(movable))
-        if movable and self.chance.random() < 0.25:
-            self.silence(self.chance.choice([it for it in movable if it.keys["takeover_ms"]] or movable))
-        for trial, holds in ((self.drain, DRAINING), (self.resend, RESENDING)):
-            fitting = [it for it in movable if it.latency_ms in holds]
-            if fitting and self.chance.random() < 0.25:
-                trial(self.chance.choice(fitting))
+        for trial, key, latencies in self.trials():
+            fitting = [it for it in movable if it.latency_ms in latencies]
+            having = [it for it in fitting if it.keys[key] != DEFAULTS[key]]
+            if fitting and self.chance.random() < 0.4:
+                trial(self.chance.choice(having if having and self.chance.random() < 0.5 else fitting))
         if movable and len(self.stays) < 2 and self.chance.random() < 0.5:
             self.stay(self.chance.choice(movable))
