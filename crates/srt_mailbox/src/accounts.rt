@@ -12,7 +12,7 @@ use crate::outbox::Drain;
 use crate::running::Running;
 use std::sync::Wait;
 
-/// The final counters of a route: messages processed and replies drained, and what remains in its queues.
+/// The final counters of a route: messages processed, drained replies and what remains in its queues.
 #[derive(Clone, Copy, Debug, PartialEq, Eq)]
 pub struct Account {
     /// Messages that the route received from its inbox and processed. Saturates at 2^64 - 1.

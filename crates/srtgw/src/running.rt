@@ -74,7 +74,8 @@ fn explain_run(rt: &impl Eprint, path: &str, fault: RunFault) {
             "out of memory for the routes: a smaller buffer, inbox or outbox, or fewer sessions, need less"
         }
         RunFault::Thread => "a thread can't be started, or isn't running after ten seconds",
-        RunFault::Busy => "the final counters of a route aren't known, since another thread still has it",
+        RunFault::Busy =>
+            "the final counters of a route aren't known, since another thread still has it",
     };
     let _ = eprintln!(rt; "srtgw: {path}: {why}");
 }
