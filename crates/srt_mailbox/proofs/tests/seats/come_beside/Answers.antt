@@ -3,7 +3,7 @@ use denote.Param.Send.{IsSend, IsSync, sendable, recorded_send, struct_send}
 use denote.Struct.Declared.{shape}
 use Rattle.std.proofs.Crossing as heap
 use Rattle.srt_mailbox.specs.contracts.tests.seats.Mark as mark
-use Rattle.srt_mailbox.specs.contracts.tests.seats.MarkCompanion.TheImpl as companion
+use Rattle.srt_mailbox.specs.contracts.tests.seats.MarkAttachment.TheImpl as companion
 use Rattle.srt_mailbox.specs.contracts.tests.seats.ClockSide as side
 use Rattle.srt_mailbox.proofs.SeatSyncs.{hand_send, reader_fields_send}
 use Rattle.srt_mailbox.proofs.tests.seats.come_beside.Goals as goal
