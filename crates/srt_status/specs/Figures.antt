@@ -72,10 +72,6 @@ count_help counts.Misdirected = codes "Data packets from clients that did not re
 abbrev pub repeats_of : ReceivedCounts → ℕ
 repeats_of counts = counts.came - counts.received - counts.late - counts.ahead
 
--- the data packets that publishers' sessions count under nothing else: repeats of packets that were received before
-abbrev pub repeats_of : ReceivedCounts → ℕ
-repeats_of counts = counts.came - counts.received - counts.late - counts.ahead
-
 -- what publishers' sessions count of it
 abbrev pub publisher_count : Count → ReceivedCounts → Option ℕ
 publisher_count counts.ReceivedPackets counts = Some counts.received
