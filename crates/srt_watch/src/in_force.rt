@@ -2,7 +2,7 @@
 
 ghost use Rattle.std.specs.Prelude.{◌≡◌, false, length, IfOk};
 ghost use Rattle.srt_config.specs.Config.{settings_of};
-ghost use Rattle.srt_config.specs.Changes.{asked, asked_by, any_fixed};
+ghost use Rattle.srt_config.specs.Changes.{requested, requested_by, any_fixed};
 ghost use Rattle.srt_watch.specs.Requests.{config_of, first_indexes};
 
 use crate::config_file::MAX_REASON;
@@ -90,7 +90,7 @@ impl<'a> InForce<'a> {
     /// Reads the configuration of this content, and compares it with the one in force. An error if it has a fault, or if
     /// keys differ that can't change. Allocates the configuration and the list of its changes.
     pub(crate) fn wanted(&self, alloc: Global, content: &[u8]) -> Result<Wanted, NotTaken>
-        ensures changes { IfOk result (λ w. asked_by w.changes ≡ asked (settings_of (config_of self.now)) (settings_of w.config)) }
+        ensures changes { IfOk result (λ w. requested_by w.changes ≡ requested (settings_of (config_of self.now)) (settings_of w.config)) }
         ensures fixed { IfOk result (λ w. any_fixed w.changes.fixed ≡ false) }
     {
         let config = match explain(alloc, content) {
