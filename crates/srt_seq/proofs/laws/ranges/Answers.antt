@@ -1,5 +1,0 @@
-use Rattle.srt_seq.proofs.Ranges.{ranges_from_initial}
-use Rattle.srt_seq.proofs.laws.ranges.Goals as goal
-
-pub returns : goal.returns
-returns c = record { from_initial = ranges_from_initial }
