@@ -1,0 +1,10 @@
+pub mod Rows
+pub mod AllBelow
+pub mod Bits
+pub mod Substitution
+pub mod Turning
+pub mod Mixing
+pub mod Blocks
+pub mod Spreading
+pub mod Lengths
+pub mod Counting

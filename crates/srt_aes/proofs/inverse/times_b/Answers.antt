@@ -1,0 +1,8 @@
+use Rattle.std.proofs.Common.{◌≡◌, ℕ, List, Bool, true, ◌+◌, ◌-◌, ◌*◌, ◌/◌, ◌%◌, ◌<◌, ◌≤◌, ◌⊎◌, [], ◌∷◌, ◌++◌, suc, refl, sym, ap, ◌∙◌, subst, inl}
+use Rattle.std.proofs.Common.{inr, arith, rules, slice_index, length, take, map}
+use Rattle.srt_aes.specs.Aes.{times_b, xtime}
+use Rattle.srt_aes.proofs.inverse.times_b.Goals as goal
+
+pub returns : goal.returns
+unfolding times_b
+returns c = rw (c.twice-2.ensures, c.twice.ensures, c.twice-double.ensures) refl

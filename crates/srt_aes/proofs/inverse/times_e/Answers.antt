@@ -1,0 +1,8 @@
+use Rattle.std.proofs.Common.{◌≡◌, ℕ, List, Bool, true, ◌+◌, ◌-◌, ◌*◌, ◌/◌, ◌%◌, ◌<◌, ◌≤◌, ◌⊎◌, [], ◌∷◌, ◌++◌, suc, refl, sym, ap, ◌∙◌, subst, inl}
+use Rattle.std.proofs.Common.{inr, arith, rules, slice_index, length, take, map}
+use Rattle.srt_aes.specs.Aes.{times_e, xtime}
+use Rattle.srt_aes.proofs.inverse.times_e.Goals as goal
+
+pub returns : goal.returns
+unfolding times_e
+returns c = rw (c.twice.ensures, c.twice-fourfold.ensures, c.twice-double.ensures) refl

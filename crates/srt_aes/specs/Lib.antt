@@ -1,0 +1,4 @@
+pub mod Aes
+pub mod Counter
+pub mod Keys
+pub mod inside

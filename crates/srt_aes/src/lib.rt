@@ -1,0 +1,24 @@
+//! AES (FIPS 197) with keys of 16, 24 and 32 bytes, and its counter mode as SRT uses it (draft-sharabayko-srt-01).
+//!
+//! The cipher works on eight blocks at once: bit p of their bytes is in plane p, one of eight vectors of two words
+//! (`planes.rt`). The S-box is a circuit on planes (`circuit.rt`), ShiftRows is never done but turns which bits a round
+//! reads (`rounds.rt`), and the key schedule uses the same circuit (`schedule.rt`). So neither looks anything up in a table
+//! nor branches on a key or a payload. The inverse cipher is for unwrapping keys and reads a table (`inverse.rt`).
+//!
+//! Functions: `RoundKeys::new` once for a key; `apply` for a payload (`counter.rt`); `encrypt` and `decrypt` for one block
+//! (`keys.rt`). Nothing allocates. `specs/Aes.antt` has FIPS 197's cipher, and `specs/Counter.antt` the counter mode.
+#![tactic(auto)]
+
+mod circuit;
+mod counter;
+mod inverse;
+mod keys;
+mod planes;
+mod rounds;
+mod schedule;
+
+pub use counter::add_bytes;
+pub use keys::RoundKeys;
+
+#[cfg(test)]
+mod tests;

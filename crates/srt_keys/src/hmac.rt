@@ -1,0 +1,83 @@
+//! HMAC-SHA1 (RFC 2104).
+
+ghost use Rattle.std.specs.Prelude.{◌≡◌, ◌++◌, ◌-◌, ◌≤◌, List, ℕ, length, replicate};
+ghost use Rattle.sha1.specs.Sha1.{Holds};
+ghost use Rattle.srt_keys.specs.Hmac.{hmac_sha1, inner_key, outer_key, padded_key, xor_each};
+
+use sha1::Sha1;
+
+/// At most 64 bytes with zeros behind them.
+fn extended(bytes: &[u8]) -> [u8; 64]
+    requires { length bytes.now ≤ 64 }
+    ensures { result ≡ bytes.now ++ replicate (64 - length bytes.now) 0 }
+{
+    let mut long = [0u8; 64];
+    long[..bytes.len()].copy_from_slice(bytes);
+    long
+}
+
+/// The key with zeros behind it, or its hash if it is longer than 64 bytes.
+fn padded(key: &[u8]) -> [u8; 64]
+    ensures { result ≡ padded_key key.now }
+{
+    if key.len() > 64 {
+        extended(&Sha1::digest(key))
+    } else {
+        extended(key)
+    }
+}
+
+/// Each byte added to `byte`, bit by bit.
+fn xored(bytes: &[u8; 64], byte: u8) -> [u8; 64]
+    ensures { result ≡ xor_each byte bytes.now }
+{
+    let mut sums = [0u8; 64];
+    for i in 0..64 {
+        sums[i] = bytes[i] ^ byte;
+    }
+    sums
+}
+
+/// A hasher in the same state. Its `clone` never fails.
+fn copied(hasher: &Sha1) -> Sha1
+    ensures { result ≡ hasher.now }
+{
+    match hasher.clone() {
+        Ok(copy) => copy,
+        Err(_) => Sha1::new(),
+    }
+}
+
+/// A key of HMAC-SHA1, hashed once for all texts.
+#[derive(Drop)]
+pub struct HmacKey {
+    inner: Sha1,
+    outer: Sha1,
+}
+
+impl HmacKey {
+    ghost use Rattle.srt_keys.specs.Held.{IsHmacKey};
+
+    /// Prepares a key of any length.
+    pub fn new(key: &[u8]) -> HmacKey
+        ensures { IsHmacKey result key.now }
+    {
+        let bytes = padded(key);
+        let mut inner = Sha1::new();
+        inner.update(&xored(&bytes, 0x36));
+        let mut outer = Sha1::new();
+        outer.update(&xored(&bytes, 0x5c));
+        HmacKey { inner, outer }
+    }
+
+    /// HMAC-SHA1 of a text. Hashes two blocks of 64 bytes for a text of at most 55 bytes.
+    pub fn hmac(&self, text: &[u8]) -> [u8; 20]
+        ensures { (key : List ℕ) → IsHmacKey self.now key → result ≡ hmac_sha1 key text.now }
+    {
+        let mut inner = copied(&self.inner);
+        inner.update(text);
+        let mut outer = copied(&self.outer);
+        outer.update(&inner.finalize());
+        outer.finalize()
+    }
+}
