@@ -1,3 +1,0 @@
-pub mod RoundTrip
-pub mod Book
-pub mod inside

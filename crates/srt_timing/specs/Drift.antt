@@ -1,0 +1,6 @@
+-- The clock that a value of the code represents.
+use Rattle.srt_timing.specs.declared.clock.Clock.{Clock}
+use Rattle.srt_timing.specs.declared.drift.Drift.{Drift}
+
+abbrev pub clock_of : Drift → Clock
+clock_of d = d.clock
