@@ -2,7 +2,7 @@
 use Rattle.std.specs.Prelude.{◌≡◌, ℕ, ◌+◌, ◌-◌, ◌/◌, ◌⊎◌, List, ◌++◌, take, Bool, ◌==◌, nat_lt, ◌||◌, ◌&&◌, if◌then◌else◌}
 use Rattle.std.specs.Int.{w16, w32, w64, from_be_bytes, to_be_bytes}
 use Rattle.sha2.specs.Sha256.{sha256}
-use Rattle.srt_seq.specs.declared.shared.Peer.{Peer}
+use Rattle.srt_types.specs.declared.shared.Peer.{Peer}
 use Rattle.srt_cookie.specs.declared.secret.Secret.{Secret}
 
 -- the 32 bytes of a secret

@@ -5,7 +5,7 @@ ghost use Rattle.srt_cookie.specs.Cookie.{cookie_of, minute_of, IsRight, is_righ
 
 use crate::Secret;
 use sha2::{Digest, Sha256};
-use srt_seq::Peer;
+use srt_types::Peer;
 
 const MICROSECONDS_OF_A_MINUTE: u64 = 60_000_000;
 

@@ -1,7 +1,7 @@
 //! Cookies compared with hashes from Python's hashlib.
 
 use crate::{Secret, cookie, right};
-use srt_seq::{MOMENT_END, Peer};
+use srt_types::{MOMENT_END, Peer};
 use std::array;
 use std::test::Fail;
 

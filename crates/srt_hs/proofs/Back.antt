@@ -1,9 +1,9 @@
 -- An answer that is written reads back.
 use Rattle.std.proofs.Common.{◌≡◌, ℕ, suc, flat_map, ◌^◌, ◌<◌, List, [], ◌∷◌, ◌++◌, None, Some, Ok, refl, sym, ap, ◌∙◌, arith}
 use Rattle.std.proofs.lemmas.Nat.{from_be_bytes-to_be_bytes_2, from_be_bytes-to_be_bytes_4}
-use Rattle.srt_seq.specs.Words.{word, word_at, words_in}
-use Rattle.srt_seq.specs.declared.shared.Mode.{Mode}
-use Rattle.srt_seq.specs.declared.shared.Mode.TheVariants.{Live, Buffer}
+use Rattle.srt_types.specs.Words.{word, word_at, words_in}
+use Rattle.srt_types.specs.declared.shared.Mode.{Mode}
+use Rattle.srt_types.specs.declared.shared.Mode.TheVariants.{Live, Buffer}
 use Rattle.srt_hs.specs.declared.handshake.HsReq.{HsReq}
 use Rattle.srt_hs.specs.declared.handshake.HsKind.TheVariants as kinds
 use Rattle.srt_hs.specs.declared.refusals.RefusalCode.{RefusalCode}

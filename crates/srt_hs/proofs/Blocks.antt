@@ -5,8 +5,8 @@ use Rattle.std.proofs.lemmas.Bool.{false_from_ne_true, eqb-true, eqb-false, ltb-
 use Rattle.std.proofs.lemmas.Bool.Decides.{nat_tests}
 use Rattle.srt_hs.specs.declared.handshake.HsFault.{HsFault}
 use Rattle.srt_hs.specs.declared.handshake.HsFault.TheVariants.{Short, TruncatedExtension, BadLength, Repeated}
-use Rattle.srt_seq.specs.Words.{words_in}
-use Rattle.srt_seq.proofs.Options.{none_if_not_some}
+use Rattle.srt_types.specs.Words.{words_in}
+use Rattle.srt_types.proofs.Options.{none_if_not_some}
 use Rattle.srt_hs.specs.Grammar.{Blocks, HasBlock, Adds, IsSkipped, HasBadLength, IsRepeated, HasBlockFault, hsreq_in, stream_id_in}
 use Rattle.srt_hs.specs.Grammar.{type_of, length_of, contents_of, after_block, hsreq, kmreq, stream_id, congestion, filter, group, skipped}
 use Rattle.srt_hs.specs.Grammar.{hsreq_length, stream_id_length, congestion_length, second_hsreq, second_stream_id, second_congestion}

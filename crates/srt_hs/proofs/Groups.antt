@@ -2,7 +2,7 @@
 use Rattle.std.proofs.Common.{◌≡◌, ◌≢◌, ℕ, suc, ◌-◌, ◌<◌, ◌≤◌, List, [], ◌∷◌, ◌++◌, length, get_or, take, drop, refl, sym, ap, ◌∙◌, append_assoc, arith}
 use Rattle.std.proofs.lemmas.Bool.Decides.{nat_tests}
 use Rattle.std.proofs.Math.Seq.{take-suc}
-use Rattle.srt_seq.specs.Words.{word_at, words_in}
+use Rattle.srt_types.specs.Words.{word_at, words_in}
 use Rattle.srt_hs.specs.Grammar.{turned_words, before_zeros, without_zeros}
 
 pub turned_step : (front rest : List ℕ) → 4 ≤ length rest

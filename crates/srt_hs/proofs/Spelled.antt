@@ -2,7 +2,7 @@
 use Rattle.std.proofs.Common.{◌≡◌, ℕ, zero, suc, ◌≤◌, ◌⊎◌, inl, inr, List, [], ◌∷◌, length, drop, ltb, Result, Ok, Err, IfOk, IfErr}
 use Rattle.std.proofs.Common.{IsOkAnd, refl, sym, ap, subst, ◌∙◌, arith}
 use Rattle.std.proofs.lemmas.Bool.{ltb-true, ltb-false}
-use Rattle.srt_seq.specs.Words.{word_at}
+use Rattle.srt_types.specs.Words.{word_at}
 use Rattle.srt_hs.specs.declared.handshake.HsRef.{HsRef}
 use Rattle.srt_hs.specs.declared.handshake.HsKind.{HsKind}
 use Rattle.srt_hs.specs.declared.handshake.HsKind.TheVariants.{Induction, WaveHand, Conclusion, Agreement, Done, Refusal}

@@ -3,7 +3,7 @@ use Rattle.std.proofs.Common.{◌≡◌, ℕ, zero, suc, ◌-◌, ◌<◌, ◌�
 use Rattle.srt_hs.specs.declared.handshake.HsKind.{HsKind}
 use Rattle.srt_hs.specs.declared.handshake.HsFault.{HsFault}
 use Rattle.std.proofs.lemmas.Bool.{cond-true, cond-false, lt-ltb, le-ltb}
-use Rattle.srt_seq.specs.Words.{word_at}
+use Rattle.srt_types.specs.Words.{word_at}
 use Rattle.srt_hs.specs.declared.handshake.HsFault.TheVariants.{Short}
 use Rattle.srt_hs.specs.Grammar.{Blocks, half_at, kind_of, length_of, after_block}
 use Rattle.srt_hs.specs.Reading.{with_first, and_then, with_all, extension_in, with_fields, handshake_in}

@@ -1,8 +1,8 @@
 -- The format of handshakes, as a relation by cases, and the faults (section 3.2.1).
-use Rattle.std.specs.Prelude.{◌≡◌, ◌≢◌, ℕ, ◌+◌, ◌*◌, ◌<◌, ◌≤◌, ◌⊎◌, Bool, true, false, List, [], ◌∷◌, length, take, drop, slice_index}
+use Rattle.std.specs.Prelude.{◌≡◌, ◌≢◌, ℕ, ◌+◌, ◌*◌, ◌/◌, ◌%◌, ◌^◌, ◌<◌, ◌≤◌, ◌⊎◌, Bool, true, false, List, [], ◌∷◌, length, take, drop, slice_index}
 use Rattle.std.specs.Prelude.{Option, None, Some, IsSome, if◌then◌else◌, ◌==◌}
 use Rattle.std.specs.Int.{w16, from_be_bytes}
-use Rattle.srt_seq.specs.Words.{word_at, words_in}
+use Rattle.srt_types.specs.Words.{word_at, words_in}
 use Rattle.srt_hs.specs.declared.handshake.HsKind.{HsKind}
 use Rattle.srt_hs.specs.declared.handshake.HsKind.TheVariants.{Induction, WaveHand, Conclusion, Agreement, Done, Refusal}
 use Rattle.srt_hs.specs.declared.handshake.HsReq.{HsReq}
@@ -54,6 +54,10 @@ pub record Handshake : Type 0 where
 -- the version, flags and TSBPD delays of an HSREQ (section 3.2.1.1)
 abbrev pub hsreq_in : List ℕ → HsReq
 hsreq_in contents = record { version = word_at contents 0; flags = word_at contents 4; receiver_ms = half_at contents 8; sender_ms = half_at contents 10 }
+
+-- whether these SRT flags have PERIODICNAK, bit 4: the sender of the HSREQ sends periodic NAKs (section 3.2.1.1.1)
+abbrev pub has_periodic_nak : (flags : ℕ) → Bool
+has_periodic_nak flags = flags / 2 ^ 4 % 2 == 1
 
 -- the bytes with each group of four in reverse order, since a Stream ID has little-endian words (section 3.2.1.3)
 abbrev pub turned_words : List ℕ → List ℕ

@@ -1,6 +1,6 @@
 -- Decoding of handshakes, as a function of their bytes (section 3.2.1).
 use Rattle.std.specs.Prelude.{ℕ, zero, suc, ◌+◌, true, List, [], ◌∷◌, length, drop, Some, is_some, Result, Ok, Err, if◌then◌else◌, ◌==◌, ◌||◌, nat_lt}
-use Rattle.srt_seq.specs.Words.{word_at, words_in}
+use Rattle.srt_types.specs.Words.{word_at, words_in}
 use Rattle.srt_hs.specs.Grammar.{Handshake, Blocks, half_at, kind_of, no_blocks, hsreq_in, stream_id_in, type_of, length_of, contents_of, after_block}
 use Rattle.srt_hs.specs.declared.handshake.HsKind.{HsKind}
 use Rattle.srt_hs.specs.declared.handshake.HsKind.TheVariants.{Conclusion}

@@ -1,6 +1,6 @@
 -- An answer that is written reads back.
 use Rattle.std.specs.Prelude.{◌≡◌, ℕ, ◌^◌, ◌<◌, ◌≤◌, List, ◌++◌, length, slice_index, Option, option_map, IfSome, Ok}
-use Rattle.srt_seq.specs.declared.shared.Mode.{Mode}
+use Rattle.srt_types.specs.declared.shared.Mode.{Mode}
 use Rattle.srt_hs.specs.declared.handshake.HsKind.{HsKind}
 use Rattle.srt_hs.specs.declared.handshake.HsKind.TheVariants as kinds
 use Rattle.srt_hs.specs.declared.writing.AnswerKind.{AnswerKind}

@@ -1,9 +1,9 @@
 -- The bytes of each answer, after the packet's header (section 3.2.1).
 use Rattle.std.specs.Prelude.{ℕ, List, [], ◌++◌, length, replicate, flat_map, Option, None, Some, option_map}
 use Rattle.std.specs.Int.{w16, to_be_bytes}
-use Rattle.srt_seq.specs.Words.{word}
-use Rattle.srt_seq.specs.declared.shared.Mode.{Mode}
-use Rattle.srt_seq.specs.declared.shared.Mode.TheVariants.{Live, Buffer}
+use Rattle.srt_types.specs.Words.{word}
+use Rattle.srt_types.specs.declared.shared.Mode.{Mode}
+use Rattle.srt_types.specs.declared.shared.Mode.TheVariants.{Live, Buffer}
 use Rattle.srt_hs.specs.declared.refusals.RefusalCode.{RefusalCode}
 use Rattle.srt_hs.specs.declared.refusals.RefusalCode.TheVariants as codes
 use Rattle.srt_hs.specs.declared.writing.AnswerKind.{AnswerKind}

@@ -1,6 +1,6 @@
 -- The handshakes of the grammar that values of the code represent.
 use Rattle.std.specs.Prelude.{ℕ, List, [], ◌∷◌, Option, None, Some, option_map, Result, Ok, Err}
-use Rattle.srt_seq.specs.Words.{words_in}
+use Rattle.srt_types.specs.Words.{words_in}
 use Rattle.srt_hs.specs.Grammar.{Handshake, Blocks, stream_id_in}
 use Rattle.srt_hs.specs.declared.handshake.HsFault.{HsFault}
 use Rattle.srt_hs.specs.declared.handshake.HsRef.{HsRef}

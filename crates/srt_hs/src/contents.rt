@@ -1,13 +1,13 @@
 //! The contents of the Stream ID block and of the CONGESTION block (draft-sharabayko-srt-01, section 3.2.1).
 
 ghost use Rattle.std.specs.Prelude.{◌≡◌, ℕ, ◌+◌, ◌%◌, ◌<◌, ◌≤◌, ◌++◌, length, take, drop, IfSome, IfNone, option_map};
-ghost use Rattle.srt_seq.specs.Words.{words_in};
+ghost use Rattle.srt_types.specs.Words.{words_in};
 ghost use Rattle.srt_hs.specs.Grammar.{turned_words, without_zeros};
 ghost use Rattle.srt_hs.specs.View.{handshake_of, text_of, text_words};
 
 use crate::{CongestionText, HsRef};
 use arrayvec::ArrayVec;
-use srt_seq::{read_word, write_at};
+use srt_types::{read_word, write_at};
 
 /// Writes the bytes to the front of `out`, with each group of four in reverse order, and returns their number.
 #[tactic(auto, using(crate::proofs::Groups::turned_step))]

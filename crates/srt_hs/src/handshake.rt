@@ -48,6 +48,18 @@ pub struct HsReq {
     pub sender_ms: u16,
 }
 
+impl HsReq {
+    ghost use Rattle.srt_hs.specs.Grammar.{has_periodic_nak};
+
+    /// Whether the flags have PERIODICNAK, 0x10: the caller sends periodic NAKs (section 3.2.1.1.1). Other flags aren't
+    /// regarded.
+    pub fn has_periodic_nak(&self) -> bool
+        ensures { result ≡ has_periodic_nak self.now.flags }
+    {
+        (self.flags >> 4) & 1 == 1
+    }
+}
+
 /// The contents of a Stream ID block: 0 to 128 words (section 3.2.1.3).
 #[derive(Clone, Copy, Debug)]
 pub struct StreamIdRef<'a> {

@@ -7,7 +7,7 @@ ghost use Rattle.srt_hs.specs.Reading.{with_block as block_added, with_first as 
 ghost use Rattle.srt_hs.specs.View.{blocks_of, first_of, handshake_of, seen, seen_blocks};
 
 use crate::{BlocksRef, CongestionRef, HsFault, HsKind, HsRef, HsReq, StreamIdRef};
-use srt_seq::read_word;
+use srt_types::read_word;
 
 /// Returns the 16-bit number that the two bytes at the offset `at` encode, in network byte order.
 fn read_half(bytes: &[u8], at: usize) -> u16

@@ -5,7 +5,7 @@ use crate::{
     stream_id, write,
 };
 use arrayvec::ArrayVec;
-use srt_seq::Mode;
+use srt_types::Mode;
 use std::alloc::Global;
 use std::test::Fail;
 
@@ -166,7 +166,7 @@ fn unread_blocks_are_seen(rt: HostRuntime) -> Result<(), Fail> {
 }
 
 #[test]
-fn faults_are_told(rt: HostRuntime) -> Result<(), Fail> {
+fn faults_are_reported(rt: HostRuntime) -> Result<(), Fail> {
     let short =
         "00000005 00000005 63cf2f33 000005dc 00002000 ffffffff 1c2c57f4 cafebabe 0100007f 00000000 00000000 000000";
     assert_eq!(rt; fault_of(rt.alloc(), &[short])?, HsFault::Short);
@@ -361,4 +361,27 @@ fn reasons_have_their_codes(rt: HostRuntime) {
     assert_eq!(rt; code_of(RefusalCode::MessageApi), [0x03, 0xf4]);
     assert_eq!(rt; code_of(RefusalCode::Filter), [0x03, 0xf6]);
     assert_eq!(rt; code_of(RefusalCode::Group), [0x03, 0xf7]);
+}
+
+/// The flags of callers that send periodic NAKs and of such that don't.
+#[test]
+fn periodic_naks(rt: HostRuntime) -> Result<(), Fail> {
+    let rows = [
+        (0xbf, true),
+        (0xaf, false),
+        (0x10, true),
+        (0xffff_ffef, false),
+        (0, false),
+    ];
+    for at in 0..rows.len() {
+        let (flags, expected) = rows[at];
+        let req = HsReq {
+            version: 0x0001_0500,
+            flags,
+            receiver_ms: 120,
+            sender_ms: 120,
+        };
+        assert_eq!(rt; req.has_periodic_nak(), expected, "{at}");
+    }
+    Ok(())
 }

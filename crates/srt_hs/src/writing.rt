@@ -6,7 +6,7 @@ ghost use Rattle.srt_hs.specs.Text.{answer_text, fields_text, flags_of, hsrsp_te
 
 use crate::CongestionText;
 use crate::refusals::{RefusalCode, code};
-use srt_seq::{Mode, write_at, write_words};
+use srt_types::{Mode, write_at, write_words};
 
 /// The kind of an answer, and its content apart from the initial number. The other fields of the 48 bytes are fixed:
 /// version 5, no encryption, and zeros for the peer's address.
@@ -100,7 +100,7 @@ fn hsrsp(mode: Mode, recv_ms: u16, send_ms: u16) -> [u8; 16]
 }
 
 /// Writes a CONGESTION block from the offset `at` on, and returns the offset of its end.
-#[tactic(auto, using(srt_seq::proofs::WordBytes::length_of_words))]
+#[tactic(auto, using(srt_types::proofs::WordBytes::length_of_words))]
 fn write_congestion(text: &CongestionText, out: &mut [u8], at: usize) -> usize
     requires room { at + 20 ≤ length out.old }
     ensures within { result ≤ at + 20 }

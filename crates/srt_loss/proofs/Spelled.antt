@@ -3,10 +3,10 @@ use Rattle.std.proofs.Common.{IfOk, IfErr, IsOkAnd, ◌≡◌, ◌⊎◌, ℕ, �
 use Rattle.std.proofs.Common.{length, refl, sym, ap, subst, inl, inr, ◌∙◌, arith}
 use Rattle.std.proofs.lemmas.Bool.{cases_lt, cases_order}
 use Rattle.std.specs.Result.{result_err, result_unwrap_or}
-use Rattle.srt_seq.specs.Runs.{Range, span}
+use Rattle.srt_types.specs.Runs.{Range, span}
 use Rattle.srt_loss.specs.declared.reading.LossFault.{LossFault}
 use Rattle.srt_loss.specs.declared.reading.LossFault.TheVariants.{Ragged, Dangling, Backward}
-use Rattle.srt_seq.specs.Words.{words_in}
+use Rattle.srt_types.specs.Words.{words_in}
 use Rattle.srt_loss.specs.Reading.{then_those, alone, ranges_in, losses_in}
 use Rattle.srt_loss.specs.Spelling.{Begins, Single, FirstAndLast, SpellsUpTo, Spells, IsDangling, IsBackward, HasFault, SpelledIsRead, FaultIsRead}
 use Rattle.srt_loss.proofs.Words.{whole_read, ragged_read, alone_read, both_read, backward_read, dangling_read, last_read, range_read}

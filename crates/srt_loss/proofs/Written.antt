@@ -5,9 +5,9 @@ use Rattle.std.proofs.lemmas.Bool.Decides.{nat_tests}
 use Rattle.std.proofs.lemmas.Nat.{from_be_bytes-to_be_bytes_4}
 use Rattle.std.proofs.lemmas.List.Elements.{All-tail, All-map}
 use Rattle.std.specs.List.{flat_map, All}
-use Rattle.srt_seq.specs.Words.{word, words_in}
-use Rattle.srt_seq.specs.declared.numbers.Seq31.{Seq31}
-use Rattle.srt_seq.specs.Runs.{Range, span}
+use Rattle.srt_types.specs.Words.{word, words_in}
+use Rattle.srt_types.specs.declared.numbers.Seq31.{Seq31}
+use Rattle.srt_types.specs.Runs.{Range, span}
 use Rattle.srt_loss.specs.Reading.{losses_in}
 use Rattle.srt_loss.specs.Text.{range_of, range_words, loss_words, loss_text, IsWritable, WrittenIsRead}
 use Rattle.srt_loss.specs.Spelling.{Begins, Single, FirstAndLast, SpellsUpTo}

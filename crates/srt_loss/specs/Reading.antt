@@ -1,7 +1,7 @@
 -- Decoding of loss lists, as a function of their bytes (appendix A, packet sequence list coding).
 use Rattle.std.specs.Prelude.{ℕ, ◌-◌, ◌%◌, ◌^◌, Option, None, Some, Result, Ok, Err, List, [], ◌∷◌, length, nat_lt, ◌==◌, if◌then◌else◌}
-use Rattle.srt_seq.specs.Words.{words_in}
-use Rattle.srt_seq.specs.Runs.{Range, span}
+use Rattle.srt_types.specs.Words.{words_in}
+use Rattle.srt_types.specs.Runs.{Range, span}
 use Rattle.srt_loss.specs.declared.reading.LossFault.{LossFault}
 use Rattle.srt_loss.specs.declared.reading.LossFault.TheVariants.{Ragged, Dangling, Backward}
 

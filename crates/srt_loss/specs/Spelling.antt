@@ -1,10 +1,10 @@
 -- The encoding of loss lists, as a relation by cases, and the faults (appendix A, packet sequence list coding).
 use Rattle.std.specs.Prelude.{◌≡◌, ◌≢◌, ℕ, ◌+◌, ◌-◌, ◌%◌, ◌^◌, ◌<◌, ◌≤◌, ◌↔◌, Ok, Err, List, [], ◌∷◌, length}
-use Rattle.srt_seq.specs.Window.{offset_of}
-use Rattle.srt_seq.specs.Runs.{Range, span}
+use Rattle.srt_types.specs.Window.{offset_of}
+use Rattle.srt_types.specs.Runs.{Range, span}
 use Rattle.srt_loss.specs.declared.reading.LossFault.{LossFault}
 use Rattle.srt_loss.specs.declared.reading.LossFault.TheVariants.{Ragged, Dangling, Backward}
-use Rattle.srt_seq.specs.Words.{words_in}
+use Rattle.srt_types.specs.Words.{words_in}
 use Rattle.srt_loss.specs.Reading.{losses_in}
 
 -- the words begin with this range, and rest follows

@@ -1,10 +1,10 @@
 -- The words that are written for ranges (appendix A, packet sequence list coding).
 use Rattle.std.specs.Prelude.{◌≡◌, ℕ, ◌+◌, ◌^◌, ◌<◌, ◌==◌, List, [], ◌∷◌, All, Ok, if◌then◌else◌}
 use Rattle.std.specs.List.{flat_map}
-use Rattle.srt_seq.specs.Words.{word}
-use Rattle.srt_seq.specs.Runs.{Range, span}
-use Rattle.srt_seq.specs.Window.{word_of}
-use Rattle.srt_seq.specs.declared.numbers.Seq31.{Seq31}
+use Rattle.srt_types.specs.Words.{word}
+use Rattle.srt_types.specs.Runs.{Range, span}
+use Rattle.srt_types.specs.Window.{word_of}
+use Rattle.srt_types.specs.declared.numbers.Seq31.{Seq31}
 use Rattle.srt_loss.specs.Reading.{losses_in}
 
 -- a pair of sequence numbers as a range

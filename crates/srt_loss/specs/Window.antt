@@ -1,6 +1,6 @@
 -- The intersection of a range with a window of numbers (section 3.2.5).
 use Rattle.std.specs.Prelude.{◌≡◌, ℕ, ◌+◌, ◌<◌, Bool, false, Option, None, Some, nat_le, ◌&&◌}
-use Rattle.srt_seq.specs.Runs.{Range, is_in}
+use Rattle.srt_types.specs.Runs.{Range, is_in}
 
 -- whether an offset is in a part, both ends included
 abbrev pub is_in_part : Option (ℕ × ℕ) → ℕ → Bool

@@ -1,9 +1,9 @@
 //! Arithmetic of sequence numbers, modulo 2^31.
 
 ghost use Rattle.std.specs.Prelude.{◌≡◌, ◌-◌, ◌%◌, ◌^◌, ◌<◌};
-ghost use Rattle.srt_seq.specs.Window.{offset_of, word_of};
+ghost use Rattle.srt_types.specs.Window.{offset_of, word_of};
 
-use srt_seq::Seq31;
+use srt_types::Seq31;
 
 /// Returns the distance from `from` forward to `to`, in packets, modulo 2^31.
 pub fn steps(from: Seq31, to: Seq31) -> u32

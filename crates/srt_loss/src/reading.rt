@@ -1,15 +1,15 @@
 //! Loss lists read from borrowed bytes.
 
 ghost use Rattle.std.specs.Prelude.{◌≡◌, List, [], ◌∷◌, ◌%◌, ◌^◌, ◌<◌, ◌≤◌, length, IfOk, IfErr, IsOkAnd, IfSome, IfNone};
-ghost use Rattle.srt_seq.specs.Window.{word_of};
-ghost use Rattle.srt_seq.specs.Runs.{Range, is_asked, span};
+ghost use Rattle.srt_types.specs.Window.{word_of};
+ghost use Rattle.srt_types.specs.Runs.{Range, is_requested, span};
 ghost use Rattle.srt_loss.specs.Reading.{losses_in, then_those};
 ghost use Rattle.srt_loss.specs.Spelling.{Spells, HasFault};
 ghost use Rattle.srt_loss.specs.Text.{range_of};
 
 use crate::circle::{number_of, steps};
-use srt_seq::limits::RANGE_END;
-use srt_seq::{Seq31, read_word};
+use srt_types::limits::RANGE_END;
+use srt_types::{Seq31, read_word};
 use std::marker::Model;
 
 /// Why bytes are no loss list. `Ragged` is checked first, then the faults from left to right (our choice).
@@ -33,7 +33,7 @@ pub struct LossRef<'a> {
 impl<'a> Model for LossRef<'a> {
     ghost use Rattle.std.specs.Prelude.{List, [], IsOk};
     ghost use Rattle.std.specs.Result.{result_unwrap_or};
-    ghost use Rattle.srt_seq.specs.Runs.{Range};
+    ghost use Rattle.srt_types.specs.Runs.{Range};
     ghost use Rattle.srt_loss.specs.Reading.{losses_in};
 
     ghost Value = { List Range };
@@ -53,7 +53,7 @@ pub struct Ranges<'a> {
 impl<'a> Model for Ranges<'a> {
     ghost use Rattle.std.specs.Prelude.{List, [], IsOk};
     ghost use Rattle.std.specs.Result.{result_unwrap_or};
-    ghost use Rattle.srt_seq.specs.Runs.{Range};
+    ghost use Rattle.srt_types.specs.Runs.{Range};
     ghost use Rattle.srt_loss.specs.Reading.{losses_in};
 
     ghost Value = { List Range };
@@ -129,7 +129,7 @@ pub fn read(bytes: &[u8]) -> Result<LossRef<'_>, LossFault>
 impl<'a> LossRef<'a> {
     /// Whether one of the ranges contains the number. Linear in the number of ranges, whatever their lengths.
     pub fn asks(&self, number: Seq31) -> bool
-        ensures { result ≡ is_asked self.now (word_of number) }
+        ensures { result ≡ is_requested self.now (word_of number) }
     {
         let mut ranges = self.ranges();
         while let Some((first, last)) = ranges.next_range() {

@@ -2,7 +2,7 @@
 
 use crate::{LossFault, part_in, read, write};
 use arrayvec::ArrayVec;
-use srt_seq::Seq31;
+use srt_types::Seq31;
 use std::test::Fail;
 
 fn number(word: u32) -> Result<Seq31, Fail> {
@@ -54,7 +54,7 @@ fn faults(rt: HostRuntime) -> Result<(), Fail> {
 
 #[test]
 fn sets(rt: HostRuntime) -> Result<(), Fail> {
-    for (text, word, asked) in [
+    for (text, word, requested) in [
         ("", 0, false),
         ("00000005", 5, true),
         ("00000005", 4, false),
@@ -80,7 +80,7 @@ fn sets(rt: HostRuntime) -> Result<(), Fail> {
         ("800000050000000700000009", 9, true),
     ] {
         let bytes = hex::decode(rt.alloc(), text)?;
-        assert_eq!(rt; asks(&bytes, word)?, asked, "{text}, {word}");
+        assert_eq!(rt; asks(&bytes, word)?, requested, "{text}, {word}");
     }
     Ok(())
 }

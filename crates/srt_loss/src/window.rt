@@ -1,13 +1,13 @@
 //! The intersection of a range with a window of numbers.
 
 ghost use Rattle.std.specs.Prelude.{◌≡◌, ℕ, ◌%◌, ◌^◌, ◌<◌, ◌≤◌, IfSome};
-ghost use Rattle.srt_seq.specs.Window.{word_of};
-ghost use Rattle.srt_seq.specs.Runs.{span};
+ghost use Rattle.srt_types.specs.Window.{word_of};
+ghost use Rattle.srt_types.specs.Runs.{span};
 ghost use Rattle.srt_loss.specs.Text.{range_of};
 ghost use Rattle.srt_loss.specs.Window.{IsPartOf};
 
 use crate::circle::steps;
-use srt_seq::Seq31;
+use srt_types::Seq31;
 
 /// Returns the part of a window that a range covers, as its first and last offset from `front`, both included; None if
 /// it is empty. The part is contiguous. The range has its first and last number, both included, fewer than 2^30 apart.

@@ -2,13 +2,13 @@
 
 ghost use Rattle.std.specs.Prelude.{◌≡◌, ◌^◌, ◌<◌, All, map};
 ghost use Rattle.std.specs.List.{flat_map};
-ghost use Rattle.srt_seq.specs.Words.{word};
-ghost use Rattle.srt_seq.specs.Runs.{span};
+ghost use Rattle.srt_types.specs.Words.{word};
+ghost use Rattle.srt_types.specs.Runs.{span};
 ghost use Rattle.srt_loss.specs.Reading.{losses_in};
 ghost use Rattle.srt_loss.specs.Text.{loss_words, range_of};
 
 use arrayvec::ArrayVec;
-use srt_seq::Seq31;
+use srt_types::Seq31;
 
 /// Returns the words of at most 32 runs, each a pair of its first and last number, both included. A run of one number
 /// is one word. A longer run is two words: its first number with the top bit set, and its last number. There are at

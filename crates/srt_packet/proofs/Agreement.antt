@@ -3,7 +3,7 @@ use Rattle.std.proofs.Common.{◌≡◌, ℕ, ◌<◌, ◌≤◌, ◌/◌, ◌^�
 use Rattle.std.proofs.lemmas.Bool.Decides.{nat_tests}
 use Rattle.srt_packet.specs.Grammar.{Body, Data, Handshake, KeepAlive, Ack, Nak, CongestionWarning, Shutdown, AckAck, DropRequest}
 use Rattle.srt_packet.specs.Grammar.{PeerError, UserDefined, Packet, Spells, SpellsBody}
-use Rattle.srt_seq.specs.Words.{word_at}
+use Rattle.srt_types.specs.Words.{word_at}
 use Rattle.srt_packet.specs.declared.reading.PacketFault.{PacketFault}
 use Rattle.srt_packet.specs.declared.reading.PacketFault.TheVariants.{Short, Long, NoPayload, UnknownType, ShortControl}
 use Rattle.srt_packet.specs.Reading.{body_in, packet_in, packet_with, rank, HasFault, IsKind, IsShortControl, IsFirstFault, ReadsTheSpelled}

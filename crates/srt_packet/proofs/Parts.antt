@@ -4,7 +4,7 @@ use Rattle.std.proofs.Common.{take, drop, ◌++◌, refl, ◌∙◌, arith}
 use Rattle.std.proofs.lemmas.Bool.Decides.{nat_tests}
 use Rattle.std.proofs.lemmas.List.{get_or_append_left, take_all}
 use Rattle.std.proofs.Math.Seq.{drop-append_seam}
-use Rattle.srt_seq.specs.Words.{word_at}
+use Rattle.srt_types.specs.Words.{word_at}
 use Rattle.srt_packet.specs.declared.reading.PacketRef.{PacketRef}
 use Rattle.srt_packet.specs.declared.reading.PacketFault.{PacketFault}
 use Rattle.srt_packet.specs.declared.reading.PacketFault.TheVariants.{Long}

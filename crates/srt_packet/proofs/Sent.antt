@@ -7,7 +7,7 @@ use Rattle.srt_packet.specs.Text.{word0_of, word1_of, rest_of, IsWritable, text}
 use Rattle.srt_packet.specs.Grammar.{SpellsBody}
 use Rattle.srt_packet.specs.Sent.{sent, sent_body, WhatIsSentIsSpelled, WhatIsSentIsRead}
 use Rattle.srt_packet.proofs.Agreement.{packet_only}
-use Rattle.srt_seq.proofs.WordBytes.{length_of_words}
+use Rattle.srt_types.proofs.WordBytes.{length_of_words}
 
 word0_fits : (b : Body) → word0_of b < 2 ^ 32
 word0_fits (out.Media number message again payload) = omega (arith, number.small)

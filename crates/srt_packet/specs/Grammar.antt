@@ -1,6 +1,6 @@
 -- The format of packets (section 3): a relation between bytes and packets, with one case for each kind.
 use Rattle.std.specs.Prelude.{◌≡◌, ℕ, ◌/◌, ◌%◌, ◌^◌, ◌<◌, ◌≤◌, List, length, drop}
-use Rattle.srt_seq.specs.Words.{word_at}
+use Rattle.srt_types.specs.Words.{word_at}
 
 -- the content of a packet apart from its timestamp and its destination
 pub data Body : Type 0 where

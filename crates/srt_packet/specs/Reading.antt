@@ -1,6 +1,6 @@
 -- Decoding: the packet that bytes encode, or the first fault that applies (section 3).
 use Rattle.std.specs.Prelude.{◌≡◌, ℕ, ◌/◌, ◌%◌, ◌^◌, ◌<◌, ◌≤◌, ◌⊎◌, List, length, drop, nat_lt, nat_le, ◌==◌, if◌then◌else◌, Result, Ok, Err, IfOk, IfErr}
-use Rattle.srt_seq.specs.Words.{word_at}
+use Rattle.srt_types.specs.Words.{word_at}
 use Rattle.srt_packet.specs.declared.reading.PacketFault.{PacketFault}
 use Rattle.srt_packet.specs.declared.reading.PacketFault.TheVariants.{Short, Long, NoPayload, UnknownType, ShortControl}
 use Rattle.srt_packet.specs.Grammar.{Body, Data, Handshake, KeepAlive, Ack, Nak, CongestionWarning, Shutdown, AckAck, DropRequest}

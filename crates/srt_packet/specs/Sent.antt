@@ -1,7 +1,7 @@
 -- What is written conforms to the grammar, and reading it returns the same packet.
 use Rattle.std.specs.Prelude.{◌≡◌, ◌^◌, ◌<◌, ◌≤◌, length, Ok}
-use Rattle.srt_seq.specs.Window.{word_of}
-use Rattle.srt_seq.specs.Counts.{message_of}
+use Rattle.srt_types.specs.Window.{word_of}
+use Rattle.srt_types.specs.Counts.{message_of}
 use Rattle.srt_packet.specs.declared.writing.Body.{Body}
 use Rattle.srt_packet.specs.declared.writing.Body.TheVariants as out
 use Rattle.srt_packet.specs.declared.writing.Packet as written

@@ -1,8 +1,8 @@
 -- The bytes that are written for each packet (section 3; our choice where section 3 allows several).
 use Rattle.std.specs.Prelude.{ℕ, ◌+◌, ◌<◌, ◌≤◌, List, [], ◌∷◌, ◌++◌, length, if◌then◌else◌}
-use Rattle.srt_seq.specs.Words.{word, words}
-use Rattle.srt_seq.specs.Window.{word_of}
-use Rattle.srt_seq.specs.Counts.{message_of}
+use Rattle.srt_types.specs.Words.{word, words}
+use Rattle.srt_types.specs.Window.{word_of}
+use Rattle.srt_types.specs.Counts.{message_of}
 use Rattle.srt_packet.specs.declared.writing.Body.{Body}
 use Rattle.srt_packet.specs.declared.writing.Body.TheVariants.{Media, Handshake, KeepAlive, FullAck, LightAck, Nak, AckAck, DropRequest, Shutdown}
 use Rattle.srt_packet.specs.declared.writing.Packet.{Packet}

@@ -5,7 +5,7 @@ ghost use Rattle.srt_packet.specs.Held.{IsPacketOrNothing};
 ghost use Rattle.srt_packet.specs.Text.{text, IsWritable};
 
 use crate::writing::{Packet, encode};
-use srt_seq::write_at;
+use srt_types::write_at;
 
 // An array with a separate length, so that a write touches only the bytes of the packet.
 #[derive(Drop)]

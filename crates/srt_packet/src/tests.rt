@@ -5,7 +5,7 @@ ghost use Rattle.srt_packet.specs.Text.{IsWritable};
 
 use crate::{Body, EncodedPacket, Kind, Packet, PacketFault, Rates, decode, decode_parts, encode};
 use arrayvec::ArrayVec;
-use srt_seq::{Msg26, PayloadRef, Seq31};
+use srt_types::{Msg26, PayloadRef, Seq31};
 use std::process::Abort;
 use std::test::Fail;
 

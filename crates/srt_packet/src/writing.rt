@@ -7,7 +7,7 @@ ghost use Rattle.srt_packet.specs.Sent.{sent, CanBeSent};
 ghost use Rattle.srt_packet.specs.Text.{text, word0_of, word1_of, rest_of, IsWritable};
 
 use arrayvec::ArrayVec;
-use srt_seq::{Msg26, PayloadRef, Seq31, write_at, write_words};
+use srt_types::{Msg26, PayloadRef, Seq31, write_at, write_words};
 
 /// The rates of received packets that a Full ACK reports (section 3.2.4).
 #[derive(Clone, Copy, Debug, PartialEq, Eq)]
@@ -120,7 +120,7 @@ fn first_words(body: &Body<'_>) -> (u32, u32)
 }
 
 /// Writes the bytes after the header from the offset `at` on, and returns the offset of their end.
-#[tactic(auto, using(srt_seq::proofs::WordBytes::length_of_words))]
+#[tactic(auto, using(srt_types::proofs::WordBytes::length_of_words))]
 #[inline(always)]
 fn write_rest(body: &Body<'_>, out: &mut [u8], at: usize) -> usize
     requires room { at + 1456 ≤ length out.old }

@@ -1,1 +1,2 @@
+pub mod Dice
 pub mod Samples

@@ -39,7 +39,7 @@ loss_bytes (Range first last) = words (((first + 2 ^ 31) % 2 ^ 32) ∷ last ∷ 
 
 -- the words of a Full ACK; the last three are 0 (section 3.2.4)
 abbrev pub ack_words : Acknowledged → List ℕ
-ack_words told = told.point ∷ told.rtt ∷ told.variance ∷ told.available ∷ 0 ∷ 0 ∷ 0 ∷ []
+ack_words reported = reported.point ∷ reported.rtt ∷ reported.variance ∷ reported.available ∷ 0 ∷ 0 ∷ 0 ∷ []
 
 -- the word of a handshake type (section 3.2.1, table 4)
 abbrev pub phase_word : Phase → ℕ
@@ -96,7 +96,7 @@ abbrev pub body_bytes : Body → List ℕ
 body_bytes Nothing = words []
 body_bytes (Point point) = words (point ∷ [])
 body_bytes (Words list) = words list.now
-body_bytes (Acknowledges told) = words (ack_words told)
+body_bytes (Acknowledges reported) = words (ack_words reported)
 body_bytes (Losses losses) = flat_map loss_bytes losses.now
 body_bytes (Dropped first last) = words (first ∷ last ∷ [])
 body_bytes (Shakes handshake blocks) = handshake_bytes handshake ++ flat_map block_bytes blocks.now

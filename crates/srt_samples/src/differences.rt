@@ -70,7 +70,7 @@ pub struct Difference {
     /// The part that contains this byte.
     pub field: Field,
     /// The received datagram.
-    pub came: Outline,
+    pub arrived: Outline,
     /// The expected datagram.
     pub wanted: Outline,
 }
@@ -138,10 +138,10 @@ fn outline_of(bytes: &[u8], at: usize) -> Outline {
 }
 
 /// Returns the offset of the first byte that differs, or the length of the shorter text.
-fn first_other(came: &[u8], wanted: &[u8]) -> usize {
-    let shorter = came.len().min(wanted.len());
+fn first_other(arrived: &[u8], wanted: &[u8]) -> usize {
+    let shorter = arrived.len().min(wanted.len());
     for at in 0..shorter {
-        if byte_at(came, at) != byte_at(wanted, at) {
+        if byte_at(arrived, at) != byte_at(wanted, at) {
             return at;
         }
     }
@@ -150,18 +150,18 @@ fn first_other(came: &[u8], wanted: &[u8]) -> usize {
 
 /// Returns the first difference of the received datagram from the expected one: `None` if and only if the bytes are the
 /// same.
-pub fn first_difference(came: &[u8], wanted: &[u8]) -> Option<Difference>
-    ensures none { IsNone result → came.now ≡ wanted.now }
-    ensures same { came.now ≡ wanted.now → IsNone result }
+pub fn first_difference(arrived: &[u8], wanted: &[u8]) -> Option<Difference>
+    ensures none { IsNone result → arrived.now ≡ wanted.now }
+    ensures same { arrived.now ≡ wanted.now → IsNone result }
 {
-    if came == wanted {
+    if arrived == wanted {
         return None;
     }
-    let at = first_other(came, wanted);
+    let at = first_other(arrived, wanted);
     Some(Difference {
         at,
         field: field_at(at),
-        came: outline_of(came, at - at % 4),
+        arrived: outline_of(arrived, at - at % 4),
         wanted: outline_of(wanted, at - at % 4),
     })
 }

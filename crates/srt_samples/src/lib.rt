@@ -7,16 +7,19 @@
 //! A [`Sample`] is a datagram with its fields. `samples.rt` has a constructor for each kind, such as [`data_packet`] or
 //! [`nak`], with timestamp 0 and destination 0; methods such as [`Sample::stamp`] and [`Sample::to`] return it with one
 //! field changed. `handshakes.rt` has the handshakes. [`Sample::bytes`], in `writing.rt`, returns its bytes.
-//! [`first_difference`], in `differences.rt`, returns where received bytes differ from the expected ones.
+//! [`first_difference`], in `differences.rt`, returns where received bytes differ from the expected ones. A [`Dice`], in
+//! `dice.rt`, has the numbers of random tests.
 //!
-//! `specs/Samples.antt` defines the bytes of each sample.
+//! `specs/Samples.antt` defines the bytes of each sample, `specs/Dice.antt` the numbers.
 #![tactic(auto)]
 
+mod dice;
 mod differences;
 mod handshakes;
 mod samples;
 mod writing;
 
+pub use dice::Dice;
 pub use differences::{Difference, Field, Kind, Outline, first_difference};
 pub use handshakes::{
     Block, Caller, Handshake, Offer, Phase, conclusion, handshake_packet, induction,

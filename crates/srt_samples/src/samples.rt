@@ -116,10 +116,10 @@ pub fn ack<'a>(number: u32, list: &'a [u32]) -> Sample<'a>
 }
 
 /// Returns a Full ACK with this number (section 3.2.4).
-pub fn full_ack<'a>(number: u32, told: Acknowledged) -> Sample<'a>
-    ensures { bytes_of result ≡ packet 0x8002_0000 number 0 0 (words (ack_words told)) [] }
+pub fn full_ack<'a>(number: u32, reported: Acknowledged) -> Sample<'a>
+    ensures { bytes_of result ≡ packet 0x8002_0000 number 0 0 (words (ack_words reported)) [] }
 {
-    control(2, number, Body::Acknowledged(told))
+    control(2, number, Body::Acknowledged(reported))
 }
 
 /// Returns a Light ACK: the acknowledgement point alone (section 3.2.4).

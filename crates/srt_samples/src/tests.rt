@@ -2,8 +2,8 @@
 //! The others were computed by Python's struct.pack, field by field from the diagrams of the draft (section 3).
 
 use crate::{
-    Acknowledged, Block, Caller, Difference, Field, Handshake, Kind, Loss, Offer, Outline, Phase,
-    Sample, ack, ack_ack, conclusion, data_packet, drop_request, first_difference, full_ack,
+    Acknowledged, Block, Caller, Dice, Difference, Field, Handshake, Kind, Loss, Offer, Outline,
+    Phase, Sample, ack, ack_ack, conclusion, data_packet, drop_request, first_difference, full_ack,
     handshake_packet, induction, keep_alive, light_ack, nak, shutdown,
 };
 use std::process::Abort;
@@ -62,7 +62,7 @@ fn packets_without_a_list(rt: HostRuntime) -> Result<(), Fail> {
 
 #[test]
 fn acknowledgements(rt: HostRuntime) -> Result<(), Fail> {
-    let told = Acknowledged {
+    let reported = Acknowledged {
         point: 8,
         rtt: 100_000,
         variance: 50_000,
@@ -70,7 +70,7 @@ fn acknowledgements(rt: HostRuntime) -> Result<(), Fail> {
     };
     assert_bytes(
         &rt,
-        full_ack(1, told).stamp(150_000).to(1),
+        full_ack(1, reported).stamp(150_000).to(1),
         "8002000000000001000249f00000000100000008000186a00000c350000003ff000000000000000000000000",
     )?;
     let light = light_ack(64).stamp(9_000).to(1);
@@ -188,8 +188,8 @@ fn handshakes_of_a_listener(rt: HostRuntime) -> Result<(), Fail> {
 }
 
 #[test]
-fn a_difference_is_told_in_words(rt: HostRuntime) -> Result<(), Fail> {
-    let came = nak(&[Loss::Single(8)])
+fn a_difference_is_put_in_words(rt: HostRuntime) -> Result<(), Fail> {
+    let arrived = nak(&[Loss::Single(8)])
         .stamp(1_000)
         .to(1)
         .bytes(rt.alloc())?;
@@ -207,11 +207,11 @@ fn a_difference_is_told_in_words(rt: HostRuntime) -> Result<(), Fail> {
         word: 8,
     };
     assert_eq!(rt;
-        first_difference(&came, &wanted),
+        first_difference(&arrived, &wanted),
         Some(Difference {
             at: 19,
             field: Field::Contents,
-            came: outline,
+            arrived: outline,
             wanted: Outline { word: 9, ..outline },
         })
     );
@@ -221,16 +221,32 @@ fn a_difference_is_told_in_words(rt: HostRuntime) -> Result<(), Fail> {
 /// Where one datagram is a prefix of the other, its differing word is 0.
 #[test]
 fn a_longer_datagram_differs_at_its_end(rt: HostRuntime) -> Result<(), Fail> {
-    let came = light_ack(64).to(1).bytes(rt.alloc())?;
+    let arrived = light_ack(64).to(1).bytes(rt.alloc())?;
     let wanted = ack(0, &[64, 7]).to(1).bytes(rt.alloc())?;
-    let Some(told) = first_difference(&came, &wanted) else {
+    let Some(reported) = first_difference(&arrived, &wanted) else {
         return Err(Fail::from("they differ"));
     };
     assert_eq!(rt;
-        (told.at, told.field, told.came.kind),
+        (reported.at, reported.field, reported.arrived.kind),
         (20, Field::Contents, Kind::Ack)
     );
-    assert_eq!(rt; (told.came.length, told.wanted.length), (20, 24));
-    assert_eq!(rt; (told.came.word, told.wanted.word), (0, 7));
+    assert_eq!(rt; (reported.arrived.length, reported.wanted.length), (20, 24));
+    assert_eq!(rt; (reported.arrived.word, reported.wanted.word), (0, 7));
+    Ok(())
+}
+
+/// What follows seed 7, by Python's whole numbers.
+#[test]
+fn random_numbers_are_those_of_the_generator(rt: HostRuntime) -> Result<(), Fail> {
+    let mut dice = Dice::new(7);
+    let numbers = [
+        dice.below(1000),
+        dice.below(1000),
+        dice.below(6),
+        dice.below(u32::MAX),
+        dice.below(0),
+        dice.below(1000),
+    ];
+    assert_eq!(rt; numbers, [278, 231, 3, 585718673, 0, 219]);
     Ok(())
 }

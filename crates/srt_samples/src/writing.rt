@@ -191,12 +191,20 @@ fn put_handshake_and_blocks(
 }
 
 /// Appends the words of a Full ACK.
-fn put_acknowledged(out: &mut Vec<u8>, told: Acknowledged) -> Result<(), AllocError>
-    ensures { OnOk result (out.new.items ≡ out.old.items ++ words (ack_words told)) }
+fn put_acknowledged(out: &mut Vec<u8>, reported: Acknowledged) -> Result<(), AllocError>
+    ensures { OnOk result (out.new.items ≡ out.old.items ++ words (ack_words reported)) }
 {
     put_words(
         out,
-        &[told.point, told.rtt, told.variance, told.available, 0, 0, 0],
+        &[
+            reported.point,
+            reported.rtt,
+            reported.variance,
+            reported.available,
+            0,
+            0,
+            0,
+        ],
     )
 }
 
@@ -208,7 +216,7 @@ fn put_body(out: &mut Vec<u8>, body: Body<'_>) -> Result<(), AllocError>
         Body::Nothing => put_words(out, &[]),
         Body::Point(point) => put_words(out, &[point]),
         Body::Words(list) => put_words(out, list),
-        Body::Acknowledged(told) => put_acknowledged(out, told),
+        Body::Acknowledged(reported) => put_acknowledged(out, reported),
         Body::Losses(losses) => put_losses(out, losses),
         Body::Dropped(first, last) => put_words(out, &[first, last]),
         Body::Handshake(handshake, blocks) => put_handshake_and_blocks(out, handshake, blocks),

@@ -4,8 +4,8 @@ use Rattle.std.proofs.Common.{inl, inr, refl, sym, ap, subst, ◌∙◌, arith, 
 use Rattle.std.proofs.Math.Seq.{take-length}
 use Rattle.std.specs.List.{cons_option}
 use Rattle.std.proofs.lemmas.List.Elements.{filter_map-append}
-use Rattle.srt_seq.specs.declared.shared.Role.{Role}
-use Rattle.srt_seq.specs.declared.shared.Role.TheVariants.{Publish, Request}
+use Rattle.srt_types.specs.declared.shared.Role.{Role}
+use Rattle.srt_types.specs.declared.shared.Role.TheVariants.{Publish, Request}
 use Rattle.srt_streamid.specs.declared.reading.Ask.{Ask}
 use Rattle.srt_streamid.specs.declared.reading.AskFault.{AskFault}
 use Rattle.srt_streamid.specs.declared.reading.AskFault.TheVariants.{NotUtf8, NoRoute, BadMode, RepeatedKey}
@@ -14,7 +14,7 @@ use Rattle.srt_streamid.specs.Reading.{role_in, ask_in, name_of}
 use Rattle.srt_streamid.specs.Spelling.{mode_of, SayRole, ListAsks, NameAsks, Asks, IsBadMode, IsSaidAgain, HasValueFault, NoneIsAtFault}
 use Rattle.srt_streamid.specs.Spelling.{HasFirstFault, NameNothing, ListNamesNothing, HasFault}
 use Rattle.srt_streamid.specs.Laws.{AskIsRead, FaultIsRead, NameIsInside, NameIsSaid}
-use Rattle.srt_streamid.proofs.Asked.{list_or_not, Told, told}
+use Rattle.srt_streamid.proofs.Requested.{list_or_not, Reported, reported}
 
 one_role : (a b : Role) → mode_of a ≡ mode_of b → a ≡ b
 one_role Publish Publish e = refl
@@ -152,19 +152,19 @@ one_fault bytes RepeatedKey NoRoute x y = absurd (clean_is_clean [] (parts_of by
 one_fault bytes BadMode RepeatedKey x y = absurd (first_is_one [] (parts_of bytes) x.2 y.2)
 one_fault bytes RepeatedKey BadMode x y = absurd (first_is_one [] (parts_of bytes) y.2 x.2)
 
-ask_told : (bytes : List ℕ) (ask : Ask) (read : Result Ask AskFault) → Told bytes read → Asks bytes ask → read ≡ Ok ask
-ask_told bytes ask (Ok other) t a = ap Ok (one_ask bytes other ask t a)
-ask_told bytes ask (Err fault) t a = absurd (no_fault bytes ask fault a t)
+ask_reported : (bytes : List ℕ) (ask : Ask) (read : Result Ask AskFault) → Reported bytes read → Asks bytes ask → read ≡ Ok ask
+ask_reported bytes ask (Ok other) t a = ap Ok (one_ask bytes other ask t a)
+ask_reported bytes ask (Err fault) t a = absurd (no_fault bytes ask fault a t)
 
-fault_told : (bytes : List ℕ) (fault : AskFault) (read : Result Ask AskFault) → Told bytes read → HasFault bytes fault → read ≡ Err fault
-fault_told bytes fault (Ok ask) t h = absurd (no_fault bytes ask fault t h)
-fault_told bytes fault (Err other) t h = ap Err (one_fault bytes other fault t h)
+fault_reported : (bytes : List ℕ) (fault : AskFault) (read : Result Ask AskFault) → Reported bytes read → HasFault bytes fault → read ≡ Err fault
+fault_reported bytes fault (Ok ask) t h = absurd (no_fault bytes ask fault t h)
+fault_reported bytes fault (Err other) t h = ap Err (one_fault bytes other fault t h)
 
 pub ask_is_read : AskIsRead
-ask_is_read bytes ask = (λ e. subst (Told bytes) e (told bytes), ask_told bytes ask (ask_in bytes) (told bytes))
+ask_is_read bytes ask = (λ e. subst (Reported bytes) e (reported bytes), ask_reported bytes ask (ask_in bytes) (reported bytes))
 
 pub fault_is_read : FaultIsRead
-fault_is_read bytes fault = (λ e. subst (Told bytes) e (told bytes), fault_told bytes fault (ask_in bytes) (told bytes))
+fault_is_read bytes fault = (λ e. subst (Reported bytes) e (reported bytes), fault_reported bytes fault (ask_in bytes) (reported bytes))
 
 list_inside : (bytes : List ℕ) (ask : Ask) → 0 < ask.len → ListAsks bytes ask → ask.start + ask.len ≤ length bytes
 list_inside bytes ask some a = omega (arith, a.len, length-take ask.len (drop ask.start bytes), length-drop ask.start bytes)

@@ -1,6 +1,6 @@
-pub mod Asked
+pub mod Requested
 pub mod Cuts
 pub mod Exact
 pub mod Anywhere
 pub mod Places
-pub mod Told
+pub mod Reported

@@ -2,8 +2,8 @@
 use Rattle.std.specs.Prelude.{ℕ, List, [], ◌∷◌, Option, None, Some, Result, Ok, Err, length, take, drop, codes, is_some, nat_eq, unwrap_or, ◌==◌, if◌then◌else◌}
 use Rattle.std.specs.List.{starts_with}
 use Rattle.std.specs.Str.{is_utf8, bytes_eq}
-use Rattle.srt_seq.specs.declared.shared.Role.{Role}
-use Rattle.srt_seq.specs.declared.shared.Role.TheVariants.{Publish, Request}
+use Rattle.srt_types.specs.declared.shared.Role.{Role}
+use Rattle.srt_types.specs.declared.shared.Role.TheVariants.{Publish, Request}
 use Rattle.srt_streamid.specs.declared.keys.Found.{Found}
 use Rattle.srt_streamid.specs.declared.keys.Span.{Span}
 use Rattle.srt_streamid.specs.declared.reading.Ask.{Ask}
@@ -51,12 +51,12 @@ abbrev pub named : (start len : ℕ) → Role → Result Ask AskFault
 named start len role = if len == 0 then Err NoRoute else Ok (record { start = start; len = len; role = role })
 
 -- the request of a list, from the state after all parts; without a mode the role is request (appendix B.2)
-abbrev pub asked : Found → Result Ask AskFault
-asked found = asked_as found.name found.role
+abbrev pub requested : Found → Result Ask AskFault
+requested found = requested_as found.name found.role
   where
-    asked_as : Option Span → Option Role → Result Ask AskFault
-    asked_as None role = Err NoRoute
-    asked_as (Some name) role = named name.start name.len (unwrap_or role Request)
+    requested_as : Option Span → Option Role → Result Ask AskFault
+    requested_as None role = Err NoRoute
+    requested_as (Some name) role = named name.start name.len (unwrap_or role Request)
 
 -- the state before any part
 abbrev pub nothing : Found
@@ -64,7 +64,7 @@ nothing = record { name = None; role = None }
 
 -- the request of a list, whose parts follow its first four bytes
 unfoldable pub list_in : List ℕ → Result Ask AskFault
-list_in bytes = with_parts nothing (parts_of bytes) >>= asked
+list_in bytes = with_parts nothing (parts_of bytes) >>= requested
 
 -- the request of a Stream ID, or its fault; a text that is no list is itself the name (our choice)
 unfoldable pub ask_in : List ℕ → Result Ask AskFault

@@ -7,7 +7,7 @@ ghost use Rattle.srt_streamid.specs.Parts.{parts_from, parts_behind, keys_in, fi
 ghost use Rattle.srt_streamid.specs.Reading.{role_in, list_in};
 
 use crate::reading::{Ask, AskFault, named};
-use srt_seq::Role;
+use srt_types::Role;
 
 /// The position of a name in the bytes of a Stream ID.
 #[derive(Clone, Copy)]
@@ -64,7 +64,7 @@ fn role_of(mode: &[u8]) -> Result<Role, AskFault>
 }
 
 impl Found {
-    ghost use Rattle.srt_streamid.specs.Reading.{nothing, with_name, with_mode, with_part, asked};
+    ghost use Rattle.srt_streamid.specs.Reading.{nothing, with_name, with_mode, with_part, requested};
     ghost use Rattle.srt_streamid.specs.Parts.{Piece};
 
     /// Returns the state before any part: neither a name nor a role.
@@ -129,8 +129,8 @@ impl Found {
 
     /// Returns the request of the whole list; without a mode the role is request. `NoRoute` if no name was found, or an
     /// empty one.
-    pub fn asked(self) -> Result<Ask, AskFault>
-        ensures { result ≡ asked self }
+    pub fn requested(self) -> Result<Ask, AskFault>
+        ensures { result ≡ requested self }
     {
         match self.name {
             Some(name) => named(name.start, name.len, self.role.unwrap_or(Role::Request)),
@@ -164,7 +164,7 @@ pub fn read_list(bytes: &[u8]) -> Result<Ask, AskFault>
         let (part, more) = first_part(list);
         found = found.with_part(start, part)?;
         let Some(more) = more else {
-            return found.asked();
+            return found.requested();
         };
         start += part.len() + 1;
         list = more;

@@ -10,7 +10,7 @@ ghost use Rattle.srt_streamid.specs.declared.reading.Ask.{Ask as TheAsk};
 ghost use Rattle.srt_streamid.specs.declared.reading.AskFault.{AskFault as TheFault};
 
 use crate::keys::{key_of_list, read_list};
-use srt_seq::Role;
+use srt_types::Role;
 use std::str;
 
 /// The request in a Stream ID. The route's name is a span of the bytes that were read.

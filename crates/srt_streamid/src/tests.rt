@@ -1,7 +1,7 @@
 //! Stream IDs, and the routes and roles that they request.
 
 use crate::{Ask, AskFault, read};
-use srt_seq::Role;
+use srt_types::Role;
 use std::test::Fail;
 
 fn asks(start: usize, len: usize, role: Role) -> Result<Ask, AskFault> {

@@ -1,5 +1,5 @@
 use Rattle.std.proofs.Common.{◌≡◌, ◌+◌, ◌*◌, ◌%◌, ◌≤◌, ◌++◌, length}
-use Rattle.srt_seq.specs.Words.{words_in}
+use Rattle.srt_types.specs.Words.{words_in}
 use Rattle.srt_hs.proofs.contents.words_of.Given as goal
 
 abbrev pub invariant-loop-rest : goal.invariant-loop-rest
