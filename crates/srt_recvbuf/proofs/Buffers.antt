@@ -8,11 +8,11 @@ use Rattle.std.proofs.lemmas.Bool.Decides.{nat_tests}
 use Rattle.std.proofs.lemmas.Int.{ints}
 use Rattle.std.proofs.lemmas.Grind.{common_steps}
 use Rattle.std.proofs.lemmas.List.{get_or_past}
-use Rattle.srt_seq.specs.Window.{word_of, counted_from, in_window, offset_of, number_word}
-use Rattle.srt_seq.specs.declared.numbers.Seq31.{Seq31}
-use Rattle.srt_seq.proofs.Ranges.{counted_is}
+use Rattle.srt_types.specs.Window.{word_of, counted_from, in_window, offset_of, number_word}
+use Rattle.srt_types.specs.declared.numbers.Seq31.{Seq31}
+use Rattle.srt_types.proofs.Ranges.{counted_is}
 use Rattle.srt_ring.specs.Ring.{payload_at}
-use Rattle.srt_seq.specs.Runs.{least_from, numbers_from, Range, span}
+use Rattle.srt_types.specs.Runs.{least_from, numbers_from, Range, span}
 use Rattle.srt_recvbuf.specs.Receiving.{Arrival, Receiving, arrival_of, is_received, is_requested, is_missing, is_dropped, end_of}
 use Rattle.srt_recvbuf.specs.Receiving.{ack_point, with_number, put_of, moved_to, settled, waiting, first_due, next_due, requested, names}
 use Rattle.srt_recvbuf.specs.declared.buffer.Put.TheVariants.{New, Repeat}
@@ -75,24 +75,24 @@ module _ (width initial origin front end point : ℕ) (cells : ℕ → Cell) (r 
   pub point_is : point ≤ width → ack_point width r ≡ r.front + point
   point_is le = least_is (is_missing width r) r.front width point le (λ k lt. cell_missing k ∙ h.not_missing k lt) (λ lt. cell_missing point ∙ h.missing lt)
 
+-- a number past the window passes no test of cells that an empty one fails
+past_window : (width initial origin : ℕ) (b : RecvBuf) (r : Receiving) → StandsFor width initial origin b r → (passes : ℕ → Bool) (test : Cell → Bool)
+    → ((d : ℕ) → passes (r.front + d) ≡ test (cell_at b.window d)) → test Missing ≡ false → (n : ℕ) → r.front + width ≤ n → passes n ≡ false
+past_window width initial origin b r h passes test of_cell empty n le =
+    let w = b.window in
+    let d = n - r.front in
+    let e : r.front + d ≡ n = omega (arith, le) in
+    let past = get_or_past w.places.items d MissingState (omega (arith, le, h.0)) in
+    ap passes (sym e) ∙ of_cell d ∙ ap (λ p. test (cell_of p (payload_at w.payloads d))) past ∙ empty
+
 -- no number past the window is received
 pub window_ends : (width initial origin : ℕ) (b : RecvBuf) (r : Receiving) → StandsFor width initial origin b r → NothingBeyond width r
-window_ends width initial origin b r h n le =
-    let w = b.window in
-    let d = n - r.front in
-    let e : r.front + d ≡ n = omega (arith, le) in
-    let past = get_or_past w.places.items d MissingState (omega (arith, le, h.0)) in
-    let none = ap (λ p. cell_is_received (cell_of p (payload_at w.payloads d))) past in
-    ap (is_received r) (sym e) ∙ cell_received width initial origin _ _ _ _ r h.1 d ∙ none
+window_ends width initial origin b r h =
+    past_window width initial origin b r h (is_received r) cell_is_received (cell_received width initial origin _ _ _ _ r h.1) refl
 
 pub drops_end : (width initial origin : ℕ) (b : RecvBuf) (r : Receiving) → StandsFor width initial origin b r → NothingDroppedBeyond width r
-drops_end width initial origin b r h n le =
-    let w = b.window in
-    let d = n - r.front in
-    let e : r.front + d ≡ n = omega (arith, le) in
-    let past = get_or_past w.places.items d MissingState (omega (arith, le, h.0)) in
-    let none = ap (λ p. cell_is_dropped (cell_of p (payload_at w.payloads d))) past in
-    ap (is_dropped width r) (sym e) ∙ cell_dropped width initial origin _ _ _ _ r h.1 d ∙ none
+drops_end width initial origin b r h =
+    past_window width initial origin b r h (is_dropped width r) cell_is_dropped (cell_dropped width initial origin _ _ _ _ r h.1) refl
 
 -- the number of a sequence number of the window, counted from the initial one: none, or the front's plus the offset
 pub own_none : (initial position width word front : ℕ) → front ≡ number_word initial position

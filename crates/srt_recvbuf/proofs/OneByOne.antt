@@ -4,7 +4,7 @@ use Rattle.std.proofs.Common.{sym, ap, ◌∙◌, ◌⊎◌, inl, inr, arith}
 use Rattle.std.specs.Prelude.{filter_map, is_some}
 use Rattle.std.specs.List.{cons_option}
 use Rattle.std.proofs.lemmas.Bool.{cases_eq, eq-eqb, ne_eqb}
-use Rattle.srt_seq.specs.Runs.{numbers_from, least_from}
+use Rattle.srt_types.specs.Runs.{numbers_from, least_from}
 use Rattle.srt_recvbuf.specs.Receiving.{Arrival, arrival_of, is_requested, is_dropped, end_of}
 use Rattle.srt_recvbuf.specs.OneByOne.{OthersWait, PassesOneByOne}
 

@@ -2,7 +2,7 @@
 use Rattle.std.proofs.Common.{◌≡◌, ◌≢◌, ℕ, zero, suc, ◌+◌, ◌-◌, ◌<◌, ◌≤◌, Bool, true, false, not, [], refl, sym, ap, subst, ◌∙◌, ◌⊎◌, inl, inr, arith}
 use Rattle.std.proofs.lemmas.Bool.{not-false, not-true, cases_eq, cases_lt}
 use Rattle.std.specs.Prelude.{filter}
-use Rattle.srt_seq.specs.Runs.{least_from, numbers_from}
+use Rattle.srt_types.specs.Runs.{least_from, numbers_from}
 use Rattle.srt_recvbuf.specs.Receiving.{Receiving, is_missing, is_dropped, end_of, ack_point, gaps_from}
 use Rattle.srt_recvbuf.specs.Points.{AckPoints, SettlesAtTheLeast}
 use Rattle.srt_recvbuf.proofs.OneByOne.{found}

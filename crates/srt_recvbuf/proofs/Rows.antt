@@ -1,6 +1,6 @@
 -- Computed examples.
 use Rattle.std.proofs.Common.{◌≡◌, ℕ, ◌+◌, ◌^◌, pos, true, false, None, Some, [], ◌∷◌, length, refl}
-use Rattle.srt_seq.specs.Window.{counted_from, in_window, number_word}
+use Rattle.srt_types.specs.Window.{counted_from, in_window, number_word}
 use Rattle.srt_recvbuf.specs.declared.buffer.Put.TheVariants.{New, Repeat, Outside}
 use Rattle.srt_recvbuf.specs.Receiving.{Receiving, nothing_yet, received, put_of, requested, is_dropped, deliverable, passed, gaps, ack_point, available}
 use Rattle.srt_recvbuf.specs.Stands.{said_runs}

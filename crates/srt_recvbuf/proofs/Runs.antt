@@ -3,7 +3,7 @@ use Rattle.std.proofs.Common.{◌≡◌, ◌≢◌, ℕ, zero, suc, ◌+◌, ◌
 use Rattle.std.proofs.Common.{take, min, max, append_assoc, append-nil, refl, sym, ap, ◌∙◌, inl, inr, arith}
 use Rattle.std.specs.Prelude.{filter}
 use Rattle.std.proofs.lemmas.Bool.{not-true, cases_eq, cases_lt, eq-eqb, ne_eqb}
-use Rattle.srt_seq.specs.Runs.{Run, run_before, runs, numbers_from}
+use Rattle.srt_types.specs.Runs.{Run, run_before, runs, numbers_from}
 
 -- numbers that don't pass can be omitted
 pub passed_over : (test : ℕ → Bool) (p m c : ℕ)

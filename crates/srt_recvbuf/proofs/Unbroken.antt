@@ -4,7 +4,7 @@ use Rattle.std.proofs.Common.{ap, subst, ◌∙◌, inl, inr, arith}
 use Rattle.std.specs.Prelude.{is_some, filter_map}
 use Rattle.std.specs.List.{cons_option}
 use Rattle.std.proofs.lemmas.Bool.{cases_eq, cases_lt, ne_eqb}
-use Rattle.srt_seq.specs.Runs.{least_from, numbers_from}
+use Rattle.srt_types.specs.Runs.{least_from, numbers_from}
 use Rattle.srt_recvbuf.specs.Receiving.{Arrival, Request, Receiving, arrival_of, is_received, is_missing, is_dropped, end_of, ack_point}
 use Rattle.srt_recvbuf.specs.Receiving.{waiting, unbroken, passed, moved_to}
 use Rattle.srt_recvbuf.specs.OneByOne.{NothingBeyond, UnbrokenOneByOne}

@@ -1,9 +1,9 @@
 -- The forms of the buffer's clauses: how a call changes the record that a buffer represents, and which facts hold of
 -- the record.
 use Rattle.std.specs.Prelude.{◌≡◌, ℕ, ◌+◌, ◌-◌, ℤ, pos, ◌+ℤ◌, Bool, Option, List, option_map, map, filter, take}
-use Rattle.srt_seq.specs.Window.{word_of, counted_from, number_word}
-use Rattle.srt_seq.specs.Runs.{runs, numbers_from}
-use Rattle.srt_seq.specs.declared.numbers.Seq31.{Seq31}
+use Rattle.srt_types.specs.Window.{word_of, counted_from, number_word}
+use Rattle.srt_types.specs.Runs.{runs, numbers_from}
+use Rattle.srt_types.specs.declared.numbers.Seq31.{Seq31}
 use Rattle.srt_recvbuf.specs.Cells.{cell_at, cell_is_missing}
 use Rattle.srt_recvbuf.specs.Receiving.{Arrival, Receiving, received}
 use Rattle.srt_recvbuf.specs.Stands.{StandsFor, run_words, words_of}

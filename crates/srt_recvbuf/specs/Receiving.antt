@@ -2,8 +2,8 @@
 -- from the initial sequence number, without a wrap. Lists have the newest first.
 use Rattle.std.specs.Prelude.{ℕ, ◌+◌, ◌-◌, ◌^◌, ℤ, pos, int_le, Bool, false, Option, None, Some, List, [], ◌∷◌, filter, find, filter_map}
 use Rattle.std.specs.Prelude.{take, take_while, min, max, not, is_some, nat_lt, nat_le, ◌==◌, ◌&&◌, ◌||◌, if◌then◌else◌}
-use Rattle.srt_seq.specs.Window.{in_window}
-use Rattle.srt_seq.specs.Runs.{Range, span, is_in, numbers_from, least_from, Run, runs}
+use Rattle.srt_types.specs.Window.{in_window}
+use Rattle.srt_types.specs.Runs.{Range, span, is_in, numbers_from, least_from, Run, runs}
 use Rattle.srt_recvbuf.specs.declared.buffer.Put.{Put}
 use Rattle.srt_recvbuf.specs.declared.buffer.Put.TheVariants.{New, Repeat, Outside}
 

@@ -2,9 +2,9 @@
 -- the initial one. The buffer has times of a clock; the record has times since an origin, which is any time of that
 -- clock. A packet's due time on the clock is the origin plus its due time in the record.
 use Rattle.std.specs.Prelude.{◌≡◌, ℕ, ◌+◌, ◌-◌, ◌%◌, ◌^◌, ◌<◌, pos, ◌+ℤ◌, Bool, true, false, Option, None, Some, List, map, if◌then◌else◌}
-use Rattle.srt_seq.specs.Window.{word_of, counted_from, in_window, number_word}
-use Rattle.srt_seq.specs.Runs.{Range, Run, range_from}
-use Rattle.srt_seq.specs.declared.numbers.Seq31.{Seq31}
+use Rattle.srt_types.specs.Window.{word_of, counted_from, in_window, number_word}
+use Rattle.srt_types.specs.Runs.{Range, Run, range_from}
+use Rattle.srt_types.specs.declared.numbers.Seq31.{Seq31}
 use Rattle.srt_recvbuf.specs.Receiving.{Arrival, Receiving, arrival_of, is_requested, end_of, next_due, runs_from}
 use Rattle.srt_recvbuf.specs.Cells.{Cell, Missing, Dropped, Received, cell_is_missing, cell_at, width_of}
 use Rattle.srt_recvbuf.specs.declared.buffer.RecvBuf.{RecvBuf}

@@ -3,12 +3,12 @@
 
 ghost use Rattle.std.specs.Prelude.{◌≡◌, ◌≢◌, ℕ, ◌+◌, ◌-◌, ◌^◌, ◌<◌, ◌≤◌, ◌+ℤ◌, Option, None, Some, IfOk, IfSome, is_some, option_copied};
 ghost use Rattle.std.specs.Prelude.{length, max, true, false, nat_le, nat_lt, ◌&&◌};
-ghost use Rattle.srt_seq.specs.Window.{word_of, counted_from, in_window, offset_of, number_word};
+ghost use Rattle.srt_types.specs.Window.{word_of, counted_from, in_window, offset_of, number_word};
 ghost use Rattle.srt_recvbuf.specs.Cells.{width_of, cell_at, cell_is_missing, cell_is_received};
 
 use crate::window::{NumberState, Seek, Window};
-use srt_seq::limits::RANGE_END;
-use srt_seq::{PayloadRef, Seq31};
+use srt_types::limits::RANGE_END;
+use srt_types::{PayloadRef, Seq31};
 use std::alloc::{AllocError, Global};
 
 /// Result of `RecvBuf::put`: what was done with a data packet (section 3.1).

@@ -2,14 +2,14 @@
 //! most 32.
 
 ghost use Rattle.std.specs.Prelude.{◌≡◌, ◌+◌, ◌-◌, ◌≤◌, nat_lt};
-ghost use Rattle.srt_seq.specs.Window.{word_of};
-ghost use Rattle.srt_seq.specs.Runs.{runs};
+ghost use Rattle.srt_types.specs.Window.{word_of};
+ghost use Rattle.srt_types.specs.Runs.{runs};
 
 use crate::buffer::RecvBuf;
 use crate::window::Seek;
 use arrayvec::ArrayVec;
-use srt_seq::Seq31;
-use srt_seq::limits::MAX_NAK_RUNS;
+use srt_types::Seq31;
+use srt_types::limits::MAX_NAK_RUNS;
 
 impl RecvBuf {
     ghost use Rattle.srt_recvbuf.specs.Stands.{said_runs, words_of};

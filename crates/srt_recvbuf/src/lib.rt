@@ -2,7 +2,7 @@
 //!
 //! It stores the packets of one stream that are received and not yet delivered, in a window of 32 to 8192 sequence
 //! numbers. It has no clock and sends nothing. `srt_pub` defines when ACKs and NAKs are due and encodes them;
-//! `srt_tsbpd` computes a packet's due time; `srt_ring` stores the payload bytes.
+//! `srt_timing` computes a packet's due time; `srt_ring` stores the payload bytes.
 //!
 //! Types: [`RecvBuf`], the buffer; [`Put`], the result of storing one packet.
 //!

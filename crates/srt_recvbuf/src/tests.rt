@@ -4,7 +4,7 @@ mod plain;
 mod random;
 
 use crate::{Put, RecvBuf};
-use srt_seq::{PayloadRef, Seq31};
+use srt_types::{PayloadRef, Seq31};
 use std::test::Fail;
 
 fn number(word: u32) -> Result<Seq31, Fail> {

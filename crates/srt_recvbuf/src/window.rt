@@ -5,7 +5,7 @@ ghost use Rattle.srt_ring.specs.Ring.{width_of as width_in};
 
 use circular_buffer::HeapCircularBuffer;
 use srt_ring::PayloadRing;
-use srt_seq::PayloadRef;
+use srt_types::PayloadRef;
 use std::alloc::{AllocError, Global};
 
 /// The state of one sequence number of the window.

@@ -7,7 +7,7 @@ use Rattle.std.proofs.lemmas.Bool.Decides.{nat_tests}
 use Rattle.std.proofs.lemmas.List.Sums.{count_by-le-length}
 use Rattle.std.proofs.lemmas.List.Elements.{All-head, All-tail}
 use Rattle.std.proofs.lemmas.List.Recursion.{is_count_by}
-use Rattle.srt_seq.specs.Counts.{message_number}
+use Rattle.srt_types.specs.Counts.{message_number}
 use Rattle.srt_sendbuf.specs.Sending.{Queued, Sending, front, base, is_marked, acknowledged, expired_before, queued_before, IsLater}
 use Rattle.srt_sendbuf.specs.Places.{Kept, is_old}
 use Rattle.srt_sendbuf.specs.Stands.{IsInOrder, IsKept, IsMoved, kept_as}

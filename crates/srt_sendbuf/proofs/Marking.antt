@@ -6,11 +6,11 @@ use Rattle.std.proofs.lemmas.Bool.{cases_lt, true≢false}
 use Rattle.std.proofs.lemmas.Bool.Decides.{nat_tests}
 use Rattle.std.proofs.lemmas.Nat.{mul-le}
 use Rattle.std.proofs.Math.Nat.{suc-mul}
-use Rattle.srt_seq.specs.Window.{word_of}
-use Rattle.srt_seq.specs.Counts.{message_of}
-use Rattle.srt_seq.specs.Runs.{Range, is_asked, ranges_from}
+use Rattle.srt_types.specs.Window.{word_of}
+use Rattle.srt_types.specs.Counts.{message_of}
+use Rattle.srt_types.specs.Runs.{Range, is_requested, ranges_from}
 use Rattle.srt_loss.specs.Window.{is_in_part}
-use Rattle.srt_sendbuf.specs.Sending.{Sending, front, next, is_in_span, is_marked, asked}
+use Rattle.srt_sendbuf.specs.Sending.{Sending, front, next, is_in_span, is_marked, requested}
 use Rattle.srt_sendbuf.specs.Places.{lost_at}
 use Rattle.srt_sendbuf.specs.Stands.{StandsFor, HasMarked, TakesParts}
 use Rattle.srt_sendbuf.specs.declared.buffer.SendBuf.{SendBuf}
@@ -67,10 +67,10 @@ marked_as p q a b e m =
     }
 
 -- the record after a loss list whose numbers in flight are those of the marked places
-pub asked_stands : (width initial : ℕ) (a b : SendBuf) (named : ℕ → Bool) (ranges : List Range) (r : Sending) → StandsFor width initial a r
-    → HasMarked named a b → ((d : ℕ) → d < a.sent → is_asked ranges (front r + d) ≡ named d)
-    → StandsFor width initial b (asked ranges r)
-asked_stands width initial a b named ranges r h m e =
+pub requested_stands : (width initial : ℕ) (a b : SendBuf) (named : ℕ → Bool) (ranges : List Range) (r : Sending) → StandsFor width initial a r
+    → HasMarked named a b → ((d : ℕ) → d < a.sent → is_requested ranges (front r + d) ≡ named d)
+    → StandsFor width initial b (requested ranges r)
+requested_stands width initial a b named ranges r h m e =
     record {
       width_is = m.same.width ∙ h.width_is;
       fields =
@@ -99,12 +99,12 @@ asked_stands width initial a b named ranges r h m e =
     mixed x y true e = refl
     mixed x y false e = absurd (true≢false (sym e))
 
-    lost : (d : ℕ) → d < a.sent → lost_at b.ring d ≡ is_marked (asked ranges r).marks (front r + d)
+    lost : (d : ℕ) → d < a.sent → lost_at b.ring d ≡ is_marked (requested ranges r).marks (front r + d)
     lost d lt =
         m.lost_is d lt
         ∙ ap (λ t. t || lost_at a.ring d) (sym (e d lt))
-        ∙ ap (λ t. is_asked ranges (front r + d) || t) (h.fields.lost_is d lt)
-        ∙ mixed (is_asked ranges (front r + d)) (is_marked r.marks (front r + d)) (is_in_span (front r) (next r) (front r + d)) (flies d lt)
+        ∙ ap (λ t. is_requested ranges (front r + d) || t) (h.fields.lost_is d lt)
+        ∙ mixed (is_requested ranges (front r + d)) (is_marked r.marks (front r + d)) (is_in_span (front r) (next r) (front r + d)) (flies d lt)
 
 -- one part: the places that are marked, and the bounds of the lost places
 pub part_lost : (first last d : ℕ) (lost lost2 : Bool)
@@ -169,7 +169,7 @@ part_lowest first last low high low2 high2 lost lost2 le ls some none lowest = l
 -- ranges that are read from a loss list
 pub taken_nothing : (b : SendBuf) (list left : List Range) → left ≡ list → TakesParts b b list left
 taken_nothing b list left e =
-    (λ d. false, nothing_marked b, λ initial from place w lt. ap (λ xs. is_asked (ranges_from initial xs) (from + place)) (sym e))
+    (λ d. false, nothing_marked b, λ initial from place w lt. ap (λ xs. is_requested (ranges_from initial xs) (from + place)) (sym e))
 
 pub taken_both : (a b c : SendBuf) (list between left : List Range) → TakesParts a b list between → TakesParts b c between left → TakesParts a c list left
 taken_both a b c list between left s t = (
@@ -178,14 +178,14 @@ taken_both a b c list between left s t = (
   λ initial from place w lt.
       s.2 initial from place w lt
       ∙ ap (λ x. s.0 place || x) (t.2 initial from place (w ∙ sym (ap word_of s.1.front_is)) (let e = s.1.sent_is in omega (arith, e, lt)))
-      ∙ together (s.0 place) (t.0 place) (is_asked (ranges_from initial left) (from + place)),
+      ∙ together (s.0 place) (t.0 place) (is_requested (ranges_from initial left) (from + place)),
 )
 
 pub taken_all : (width initial : ℕ) (a b : SendBuf) (list left : List Range) (r : Sending)
-    → StandsFor width initial a r → TakesParts a b list left → left ≡ [] → StandsFor width initial b (asked (ranges_from initial list) r)
+    → StandsFor width initial a r → TakesParts a b list left → left ≡ [] → StandsFor width initial b (requested (ranges_from initial list) r)
 taken_all width initial a b list left r h t e =
-    asked_stands width initial a b t.0 (ranges_from initial list) r h t.1
-    (λ d lt. t.2 initial (front r) d (sym h.fields.word_is) lt ∙ ap (λ xs. t.0 d || is_asked (ranges_from initial xs) (front r + d)) e ∙ alone (t.0 d))
+    requested_stands width initial a b t.0 (ranges_from initial list) r h t.1
+    (λ d lt. t.2 initial (front r) d (sym h.fields.word_is) lt ∙ ap (λ xs. t.0 d || is_requested (ranges_from initial xs) (front r + d)) e ∙ alone (t.0 d))
 
 -- each step makes at most as many marks as there are packets in flight
 pub one_turn_more : (turns first before after sent sent2 : ℕ)

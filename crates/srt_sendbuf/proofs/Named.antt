@@ -5,8 +5,8 @@ use Rattle.std.specs.Prelude.{All, IfSome, slice_index_or}
 use Rattle.std.specs.List.Sorted.{IsNonDecreasingBy}
 use Rattle.std.proofs.lemmas.List.Elements.{All-push}
 use Rattle.std.proofs.lemmas.List.Folds.{list_any-append}
-use Rattle.srt_seq.specs.Runs.{Range, is_in, is_asked, ranges_from}
-use Rattle.srt_seq.proofs.Ranges.{ranges_from_initial}
+use Rattle.srt_types.specs.Runs.{Range, is_in, is_requested, ranges_from}
+use Rattle.srt_types.proofs.Ranges.{ranges_from_initial}
 use Rattle.srt_loss.specs.Window.{is_in_part, IsPartOf}
 use Rattle.srt_sendbuf.specs.Parts.{is_in_parts, with_part, AreWithin, IsTaken}
 use Rattle.srt_sendbuf.proofs.Asks.{alone}
@@ -26,10 +26,10 @@ pub taken_more : (word width : ℕ) (list left : List Range) (x : Range) (parts 
     → IsTaken word width list left (is_in_parts (with_part parts part))
 taken_more word width list left x parts part f l here before initial from d e lt =
     before initial from d e lt
-    ∙ ap (λ b. is_in_parts parts d || (b || is_asked (ranges_from initial left) (from + d)))
+    ∙ ap (λ b. is_in_parts parts d || (b || is_requested (ranges_from initial left) (from + d)))
     (ranges_from_initial initial (from + d) x f l ∙ ap (is_in x) (omega arith) ∙ here (initial + from) e d lt)
-    ∙ together (is_in_parts parts d) (is_in_part part d) (is_asked (ranges_from initial left) (from + d))
-    ∙ ap (λ b. b || is_asked (ranges_from initial left) (from + d)) (sym (in_more parts part d))
+    ∙ together (is_in_parts parts d) (is_in_part part d) (is_requested (ranges_from initial left) (from + d))
+    ∙ ap (λ b. b || is_requested (ranges_from initial left) (from + d)) (sym (in_more parts part d))
 
 pub within_more : (width : ℕ) (parts : List (ℕ × ℕ)) (part : Option (ℕ × ℕ))
     → AreWithin width parts → IfSome part (λ p. (p.0 ≤ p.1) × (p.1 < width)) → AreWithin width (with_part parts part)

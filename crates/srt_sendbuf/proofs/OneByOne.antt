@@ -6,7 +6,7 @@ use Rattle.std.proofs.lemmas.Bool.{cases_eq, eq-eqb, ne_eqb, true≢false}
 use Rattle.std.proofs.lemmas.Bool.Decides.{nat_tests}
 use Rattle.std.proofs.lemmas.Int.{ints}
 use Rattle.std.proofs.lemmas.List.Elements.{All-nil, All-push}
-use Rattle.srt_seq.specs.Runs.{numbers_from}
+use Rattle.srt_types.specs.Runs.{numbers_from}
 use Rattle.srt_sendbuf.specs.Sending.{Queued, Sending, front, next, in_flight, lost, is_marked, queued, sent, IsTimely, IsLater}
 use Rattle.srt_sendbuf.specs.OneByOne.{TimesGoOn, ExpiryGoesOn, LostOneByOne, NewOneByOne}
 use Rattle.srt_sendbuf.proofs.Fronts.{test, many, many_is}

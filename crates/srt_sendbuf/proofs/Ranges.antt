@@ -4,12 +4,12 @@ use Rattle.std.proofs.Common.{◌∷◌, refl, sym, ap, ◌∙◌, arith}
 use Rattle.std.specs.List.{list_any}
 use Rattle.std.proofs.lemmas.Bool.{or_right, true≢false}
 use Rattle.std.proofs.lemmas.Bool.Decides.{nat_tests}
-use Rattle.srt_seq.specs.Window.{counted_from}
-use Rattle.srt_seq.specs.Runs.{Range, is_in, is_asked, numbers_from, range_from}
+use Rattle.srt_types.specs.Window.{counted_from}
+use Rattle.srt_types.specs.Runs.{Range, is_in, is_requested, numbers_from, range_from}
 use Rattle.std.specs.Prelude.{option_map, unwrap_or}
-use Rattle.srt_seq.specs.Window.{word_of, in_window}
-use Rattle.srt_seq.proofs.Windows.{numbers_from_initial}
-use Rattle.srt_seq.proofs.Ranges.{ranges_from_initial}
+use Rattle.srt_types.specs.Window.{word_of, in_window}
+use Rattle.srt_types.proofs.Windows.{numbers_from_initial}
+use Rattle.srt_types.proofs.Ranges.{ranges_from_initial}
 use Rattle.srt_loss.specs.Window.{is_in_part, IsPartOf}
 use Rattle.srt_sendbuf.specs.Sending.{Sending, front, base, next}
 use Rattle.srt_sendbuf.specs.Stands.{StandsFor}
@@ -80,13 +80,13 @@ own_number initial word from width steps e = same steps (in_window (counted_from
     same (Some d) None e = cc
     same (Some d) (Some x) e = let k = inner (initial + from + d) (initial + x) e in ap Some (omega (arith, k))
 
-pub none_asked : (ns : List ℕ) → list_any (is_asked []) ns ≡ false
-none_asked [] = refl
-none_asked (n ∷ ns) = none_asked ns
+pub none_requested : (ns : List ℕ) → list_any (is_requested []) ns ≡ false
+none_requested [] = refl
+none_requested (n ∷ ns) = none_requested ns
 
-pub some_asked : (test : ℕ → Bool) (from places : ℕ) → list_any test (numbers_from from places) ≡ true → 0 < places
-some_asked test from zero e = absurd (true≢false (sym e))
-some_asked test from (suc places) e = omega arith
+pub some_requested : (test : ℕ → Bool) (from places : ℕ) → list_any test (numbers_from from places) ≡ true → 0 < places
+some_requested test from zero e = absurd (true≢false (sym e))
+some_requested test from (suc places) e = omega arith
 
 -- the place of the base: the buffer's distance before the front
 pub record IsBase (initial word back sent : ℕ) (r : Sending) : Type 0 where

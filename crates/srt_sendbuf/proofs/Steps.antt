@@ -5,8 +5,8 @@ use Rattle.std.specs.Prelude.{All, filter, slice_get, nat_lt}
 use Rattle.std.proofs.lemmas.Bool.{false_from_ne_true, cases_lt, cases_eq, eq-eqb, ne_eqb, lt-ltb, true≢false}
 use Rattle.std.proofs.lemmas.Bool.Decides.{nat_tests}
 use Rattle.std.proofs.lemmas.List.Elements.{All-head, All-tail, All-nil, All-push}
-use Rattle.srt_seq.specs.Counts.{message_number}
-use Rattle.srt_seq.specs.Runs.{numbers_from}
+use Rattle.srt_types.specs.Counts.{message_number}
+use Rattle.srt_types.specs.Runs.{numbers_from}
 use Rattle.srt_sendbuf.specs.Sending.{Queued, Mark, Sent, All_of, Sending, nothing_yet, front, next, sent_end, in_flight, lost, is_marked}
 use Rattle.srt_sendbuf.specs.Sending.{queued, all_lost, sent, due_number, IsTimely}
 use Rattle.srt_sendbuf.specs.Places.{Kept}

@@ -1,5 +1,5 @@
 pub mod Sending
-pub mod Told
+pub mod Outgoing
 pub mod Marks
 pub mod Places
 pub mod Parts

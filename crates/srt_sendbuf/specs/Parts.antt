@@ -1,7 +1,7 @@
 -- The parts of a window of places that a loss list covers. A part is a pair of a first and a last place.
 use Rattle.std.specs.Prelude.{◌≡◌, ℕ, ◌+◌, ◌%◌, ◌^◌, ◌<◌, ◌≤◌, Bool, ◌||◌, Option, None, Some, List, [], ◌∷◌, ◌++◌, All}
 use Rattle.std.specs.List.{list_any}
-use Rattle.srt_seq.specs.Runs.{Range, is_asked, ranges_from}
+use Rattle.srt_types.specs.Runs.{Range, is_requested, ranges_from}
 use Rattle.srt_loss.specs.Window.{is_in_part}
 
 -- whether a place is in any of the parts, whose ends are inclusive
@@ -22,4 +22,4 @@ AreWithin width parts = All (λ part. (part.0 ≤ part.1) × (part.1 < width)) p
 abbrev pub IsTaken : (word width : ℕ) → (list left : List Range) → (named : ℕ → Bool) → Type 0
 IsTaken word width list left named =
     (initial from place : ℕ) → (initial + from) % 2 ^ 31 ≡ word → place < width
-    → is_asked (ranges_from initial list) (from + place) ≡ (named place || is_asked (ranges_from initial left) (from + place))
+    → is_requested (ranges_from initial list) (from + place) ≡ (named place || is_requested (ranges_from initial left) (from + place))

@@ -1,6 +1,6 @@
 -- The places of a ring and their packets.
 use Rattle.std.specs.Prelude.{◌≡◌, ℕ, ◌/◌, ◌<◌, ◌==◌, if◌then◌else◌, ℤ, pos, int_lt, Bool, false, Option, None, Some, List, length, slice_get}
-use Rattle.srt_seq.specs.Counts.{message_of}
+use Rattle.srt_types.specs.Counts.{message_of}
 use Rattle.srt_ring.specs.declared.ring.PayloadRing.{PayloadRing}
 use Rattle.srt_ring.specs.Buffers.{slot_of}
 use Rattle.srt_ring.specs.Ring.{payload_at, first_of}

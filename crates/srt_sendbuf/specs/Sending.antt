@@ -3,8 +3,8 @@
 use Rattle.std.specs.Prelude.{ℕ, ◌+◌, ◌-◌, ℤ, pos, int_lt, Bool, true, false, Option, None, Some, List, [], ◌∷◌, ◌++◌, All, filter, length}
 use Rattle.std.specs.Prelude.{count_by, slice_get, max, nat_lt, nat_le, ◌==◌, ◌&&◌, ◌||◌, if◌then◌else◌, ◌≤◌}
 use Rattle.std.specs.List.{list_any}
-use Rattle.srt_seq.specs.Window.{in_window, counted_from}
-use Rattle.srt_seq.specs.Runs.{Range, is_in, is_asked, numbers_from}
+use Rattle.srt_types.specs.Window.{in_window, counted_from}
+use Rattle.srt_types.specs.Runs.{Range, is_in, is_requested, numbers_from}
 
 -- a payload and its queueing time in microseconds
 pub record Queued : Type 0 where
@@ -16,7 +16,7 @@ pub data Mark : Type 0 where
   -- a number was sent
   Sent : (number : ℕ) → Mark
   -- a NAK reported these ranges; only numbers from `low` on and before `high` are marked
-  Asked : (low high : ℕ) (ranges : List Range) → Mark
+  Requested : (low high : ℕ) (ranges : List Range) → Mark
   -- all numbers from `low` on and before `high` are marked as lost
   All_of : (low high : ℕ) → Mark
 
@@ -44,7 +44,7 @@ base s = max s.acked (front s - 8192)
 abbrev pub sent_end : List Mark → ℕ
 sent_end [] = 0
 sent_end (Sent n ∷ marks) = max (n + 1) (sent_end marks)
-sent_end (Asked low high ranges ∷ marks) = sent_end marks
+sent_end (Requested low high ranges ∷ marks) = sent_end marks
 sent_end (All_of low high ∷ marks) = sent_end marks
 
 -- the first number not yet sent; never below the front
@@ -71,7 +71,7 @@ is_in_span low high n = nat_le low n && nat_lt n high
 abbrev pub is_marked : List Mark → ℕ → Bool
 is_marked [] n = false
 is_marked (Sent k ∷ marks) n = if k == n then false else is_marked marks n
-is_marked (Asked low high ranges ∷ marks) n = (is_in_span low high n && is_asked ranges n) || is_marked marks n
+is_marked (Requested low high ranges ∷ marks) n = (is_in_span low high n && is_requested ranges n) || is_marked marks n
 is_marked (All_of low high ∷ marks) n = is_in_span low high n || is_marked marks n
 
 -- the lost numbers in flight, lowest first
@@ -114,8 +114,8 @@ abbrev pub expired_before : ℤ → Sending → Sending
 expired_before before s = record s { expired = queued_before before s.queue }
 
 -- the record after a loss list: its numbers in flight are marked (section 3.2.5)
-abbrev pub asked : List Range → Sending → Sending
-asked ranges s = record s { marks = Asked (front s) (next s) ranges ∷ s.marks }
+abbrev pub requested : List Range → Sending → Sending
+requested ranges s = record s { marks = Requested (front s) (next s) ranges ∷ s.marks }
 
 -- whether a range contains a number from the base up to the front
 abbrev pub range_asks_for_gone : Range → Sending → Bool
@@ -123,7 +123,7 @@ range_asks_for_gone range s = list_any (is_in range) (numbers_from (base s) (fro
 
 -- whether a loss list contains a number from the base up to the front
 abbrev pub asks_for_gone : List Range → Sending → Bool
-asks_for_gone ranges s = list_any (is_asked ranges) (numbers_from (base s) (front s - base s))
+asks_for_gone ranges s = list_any (is_requested ranges) (numbers_from (base s) (front s - base s))
 
 -- the record after all numbers in flight are marked as lost
 abbrev pub all_lost : Sending → Sending

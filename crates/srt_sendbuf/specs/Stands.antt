@@ -1,8 +1,8 @@
 -- Which record a buffer's fields represent.
 use Rattle.std.specs.Prelude.{◌≡◌, ℕ, ◌+◌, ◌-◌, ◌%◌, ◌^◌, ◌<◌, ◌≤◌, ⊤, Bool, true, ◌||◌, Option, None, Some, List, [], ◌∷◌, All, length, slice_get, min}
-use Rattle.srt_seq.specs.Window.{word_of}
-use Rattle.srt_seq.specs.Counts.{message_number, message_of}
-use Rattle.srt_seq.specs.Runs.{Range}
+use Rattle.srt_types.specs.Window.{word_of}
+use Rattle.srt_types.specs.Counts.{message_number, message_of}
+use Rattle.srt_types.specs.Runs.{Range}
 use Rattle.srt_sendbuf.specs.Sending.{Queued, Sending, front, base, next, is_marked}
 use Rattle.srt_sendbuf.specs.Places.{Kept, kept_at, lost_at, length_of, width_of, marks_of, HasSame}
 use Rattle.srt_sendbuf.specs.Parts.{IsTaken}

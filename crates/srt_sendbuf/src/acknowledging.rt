@@ -2,11 +2,11 @@
 //! is from the base to next, inclusive; the base is at most 8192 before the front.
 
 ghost use Rattle.std.specs.Prelude.{◌≡◌, ℕ, ◌+◌, ◌%◌, ◌^◌, ◌≤◌, false, option_map, is_some, min, IfSome};
-ghost use Rattle.srt_seq.specs.Window.{word_of};
+ghost use Rattle.srt_types.specs.Window.{word_of};
 
 use crate::buffer::{SendBuf, message_after};
-use srt_seq::Seq31;
-use srt_seq::limits::ACK_REACH;
+use srt_types::Seq31;
+use srt_types::limits::ACK_REACH;
 
 impl SendBuf {
     ghost use Rattle.srt_sendbuf.specs.Sending.{base, acknowledged_at, after_ack, is_growth};

@@ -3,9 +3,9 @@
 
 ghost use Rattle.std.specs.Prelude.{◌≡◌, ℕ, ◌+◌, ◌-◌, ◌*◌, ◌/◌, ◌<◌, ◌≤◌, ◌↔◌, true, false, Some, [], length, max, option_map, nat_lt, IsErr, IfOk, OnErr};
 ghost use Rattle.std.specs.List.Sorted.{IsNonDecreasingBy};
-ghost use Rattle.srt_seq.specs.Window.{word_of};
-ghost use Rattle.srt_seq.specs.Counts.{message_of, message_number};
-ghost use Rattle.srt_seq.specs.Runs.{ranges_from};
+ghost use Rattle.srt_types.specs.Window.{word_of};
+ghost use Rattle.srt_types.specs.Counts.{message_of, message_number};
+ghost use Rattle.srt_types.specs.Runs.{ranges_from};
 ghost use Rattle.srt_loss.specs.Window.{is_in_part};
 ghost use Rattle.srt_sendbuf.specs.Places.{length_of, lost_at, marks_of};
 ghost use Rattle.srt_sendbuf.specs.Parts.{is_in_parts, AreWithin};
@@ -13,8 +13,8 @@ ghost use Rattle.srt_sendbuf.specs.Parts.{is_in_parts, AreWithin};
 use crate::parts::{PARTS, next_parts, split};
 use crate::ring::{Marked, Ring};
 use srt_loss::{LossRef, Ranges};
-use srt_seq::limits::ACK_REACH;
-use srt_seq::{Msg26, Seq31};
+use srt_types::limits::ACK_REACH;
+use srt_types::{Msg26, Seq31};
 use std::alloc::{AllocError, Global};
 
 /// The cap of `behind`. All values above `ACK_REACH` behave alike, so the counter stops here.
@@ -94,8 +94,8 @@ pub struct SendBuf {
 
 impl SendBuf {
     ghost use Rattle.srt_sendbuf.specs.Sending.{Sending, nothing_yet, front, room, in_flight, is_all_acknowledged, lost, queued};
-    ghost use Rattle.srt_sendbuf.specs.Sending.{expired_before, asked, all_lost, IsTimely, IsLater};
-    ghost use Rattle.srt_sendbuf.specs.Told.{gone_for, gone_by};
+    ghost use Rattle.srt_sendbuf.specs.Sending.{expired_before, requested, all_lost, IsTimely, IsLater};
+    ghost use Rattle.srt_sendbuf.specs.Outgoing.{gone_for, gone_by};
     ghost use Rattle.srt_sendbuf.specs.Stands.{StandsFor, ForWhatever, Becomes, BecomesIf, MovesFront, HasMarked, TakesParts, marks};
 
     /// Allocates an empty buffer of `width` packets, 32 to 8192, for a stream with the initial number 0; `start`
@@ -280,7 +280,7 @@ impl SendBuf {
     /// neither ascend nor descend. Up to 364 ranges, the maximum of a datagram, mark each number in flight at most
     /// once, however they overlap (`marks`). Doesn't allocate.
     pub fn lose(&mut self, losses: &LossRef<'_>) -> Option<DropRun>
-        ensures stands { Becomes self.old self.new (λ initial r. asked (ranges_from initial losses.now) r) }
+        ensures stands { Becomes self.old self.new (λ initial r. requested (ranges_from initial losses.now) r) }
         ensures answer { ForWhatever self.old (λ width initial r. option_map gone_by result ≡ gone_for initial (ranges_from initial losses.now) r) }
         ensures marks { ForWhatever self.old (λ width initial r. marks self.new ≤ marks self.old + (length losses.now / 365 + 1) * in_flight r) }
     {

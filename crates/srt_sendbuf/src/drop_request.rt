@@ -3,16 +3,16 @@
 //! choice).
 
 ghost use Rattle.std.specs.Prelude.{◌≡◌, ◌^◌, ◌<◌};
-ghost use Rattle.srt_seq.specs.Runs.{span, ranges_from, range_from};
+ghost use Rattle.srt_types.specs.Runs.{span, ranges_from, range_from};
 ghost use Rattle.srt_loss.specs.Text.{range_of};
 
 use crate::buffer::{DropRun, SendBuf};
 use srt_loss::{LossRef, part_in};
-use srt_seq::Seq31;
+use srt_types::Seq31;
 
 impl SendBuf {
     ghost use Rattle.srt_sendbuf.specs.Sending.{front, base, asks_for_gone, range_asks_for_gone};
-    ghost use Rattle.srt_sendbuf.specs.Told.{gone, gone_by};
+    ghost use Rattle.srt_sendbuf.specs.Outgoing.{gone, gone_by};
     ghost use Rattle.srt_sendbuf.specs.Stands.{ForWhatever};
 
     /// Whether a range contains a number from the base up to the front, that is, an expired number that isn't

@@ -8,13 +8,13 @@ use crate::buffer::{Out, SendBuf};
 
 impl SendBuf {
     ghost use Rattle.srt_sendbuf.specs.Sending.{front, sent, due_past, after_due, after_new};
-    ghost use Rattle.srt_sendbuf.specs.Told.{told, told_by, told_due, told_new};
+    ghost use Rattle.srt_sendbuf.specs.Outgoing.{outgoing, outgoing_of, next_outgoing, next_new_outgoing};
     ghost use Rattle.srt_sendbuf.specs.Stands.{ForWhatever, Becomes};
 
     /// Returns the packet of a place.
     fn out(&self, at: usize, again: bool) -> Option<Out<'_>>
         requires { at < length_of self.now.ring }
-        ensures answer { ForWhatever self.now (λ width initial r. option_map told_by result ≡ option_map (told initial) (due_past at again r)) }
+        ensures answer { ForWhatever self.now (λ width initial r. option_map outgoing_of result ≡ option_map (outgoing initial) (due_past at again r)) }
         ensures fits { IfSome result (λ o. length o.payload.now ≤ 1456) }
     {
         let place = self.ring.place(at)?;
@@ -57,7 +57,7 @@ impl SendBuf {
     /// provided that fewer than `window` packets (the flow window) are in flight (section 3.2.4). None if no packet is
     /// due. O(1), and no byte is copied. The packet is counted as sent once `note_sent` is called.
     pub fn next_due(&self, window: u32) -> Option<Out<'_>>
-        ensures answer { ForWhatever self.now (λ width initial r. option_map told_by result ≡ told_due initial window r) }
+        ensures answer { ForWhatever self.now (λ width initial r. option_map outgoing_of result ≡ next_outgoing initial window r) }
         ensures fits { IfSome result (λ o. length o.payload.now ≤ 1456) }
     {
         if self.low < self.high {
@@ -83,7 +83,7 @@ impl SendBuf {
     /// packets (the flow window) or more are in flight (section 3.2.4). O(1), and no byte is copied. The packet is
     /// counted as sent once `note_new_sent` is called.
     pub fn next_new(&self, window: u32) -> Option<Out<'_>>
-        ensures answer { ForWhatever self.now (λ width initial r. option_map told_by result ≡ told_new initial window r) }
+        ensures answer { ForWhatever self.now (λ width initial r. option_map outgoing_of result ≡ next_new_outgoing initial window r) }
         ensures fits { IfSome result (λ o. length o.payload.now ≤ 1456) }
     {
         if self.has_new(window) {

@@ -2,12 +2,12 @@
 
 ghost use Rattle.std.specs.Prelude.{◌≡◌, ◌+◌, ◌^◌, ◌<◌, ◌≤◌, ◌∷◌, [], IfSome, IfNone, length};
 ghost use Rattle.std.specs.List.Sorted.{IsPermutation, IsNonDecreasingBy};
-ghost use Rattle.srt_seq.specs.Window.{word_of};
+ghost use Rattle.srt_types.specs.Window.{word_of};
 ghost use Rattle.srt_sendbuf.specs.Parts.{is_in_parts, with_part, AreWithin, IsTaken};
 
 use arrayvec::ArrayVec;
 use srt_loss::{Ranges, part_in};
-use srt_seq::Seq31;
+use srt_types::Seq31;
 
 /// Maximum number of parts that are read from a list at once. One datagram's loss list has fewer: at most 364 ranges,
 /// in 1456 bytes.

@@ -2,7 +2,7 @@
 
 ghost use Rattle.std.specs.Prelude.{◌≡◌, ℕ, ◌+◌, ◌-◌, ◌^◌, ◌<◌, ◌≤◌, ◌/◌, min, max, length, IfOk, vec_len, slice_get, nat_le, nat_lt, ◌==◌};
 ghost use Rattle.std.specs.Prelude.{◌&&◌, true, false, Some, None, if◌then◌else◌};
-ghost use Rattle.srt_seq.specs.Counts.{message_of};
+ghost use Rattle.srt_types.specs.Counts.{message_of};
 ghost use Rattle.srt_ring.specs.Buffers.{slot_of};
 ghost use Rattle.srt_ring.specs.Ring.{width_of as width_in, first_of, warm_of};
 ghost use Rattle.srt_sendbuf.specs.inside.Hints.{hint_at};
@@ -11,7 +11,7 @@ ghost use Rattle.srt_sendbuf.specs.Marks.{is_lost};
 use crate::hints::{BLOCK, Hints};
 use circular_buffer::HeapCircularBuffer;
 use srt_ring::PayloadRing;
-use srt_seq::Msg26;
+use srt_types::Msg26;
 use std::alloc::{AllocError, Global};
 
 /// The data of a packet except its payload.

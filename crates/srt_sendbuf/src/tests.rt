@@ -5,7 +5,7 @@ mod random;
 
 use crate::SendBuf;
 use srt_loss::read;
-use srt_seq::Seq31;
+use srt_types::Seq31;
 use std::test::Fail;
 
 #[derive(Clone, Copy)]

@@ -2,7 +2,7 @@
 //! it computes each result from the whole list.
 
 use crate::Put;
-use srt_seq::Seq31;
+use srt_types::Seq31;
 use std::alloc::{AllocError, Global};
 
 /// Number of sequence numbers before they wrap.

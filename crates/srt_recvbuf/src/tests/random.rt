@@ -4,7 +4,8 @@ ghost use Rattle.std.specs.Prelude.{◌≤◌};
 
 use crate::tests::plain::{Plain, wire};
 use crate::{Put, RecvBuf};
-use srt_seq::{PayloadRef, Seq31};
+use srt_samples::Dice;
+use srt_types::{PayloadRef, Seq31};
 use std::alloc::{AllocError, Global};
 use std::test::Fail;
 
@@ -15,24 +16,6 @@ enum Delivery {
     Live,
     /// Buffer mode: each packet when no number before it is missing.
     Buffer,
-}
-
-/// A linear congruential generator.
-#[derive(Drop)]
-struct Dice {
-    state: u64,
-}
-
-impl Dice {
-    /// Returns a number below a count; 0 if the count is 0.
-    fn below(&mut self, count: u32) -> u32 {
-        self.state = self
-            .state
-            .wrapping_mul(6364136223846793005)
-            .wrapping_add(1442695040888963407);
-        let high = (self.state >> 33) as u32;
-        if count == 0 { 0 } else { high % count }
-    }
 }
 
 /// One stream in both implementations.
@@ -54,7 +37,7 @@ impl Both {
     {
         Ok(Both {
             alloc,
-            dice: Dice { state: seed },
+            dice: Dice::new(seed),
             delivery,
             width,
             now: 0,

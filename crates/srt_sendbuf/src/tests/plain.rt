@@ -1,7 +1,7 @@
 //! The reference implementation: a slow sender over a plain list. Its numbers don't wrap, it keeps everything that was
 //! queued, and it computes each result from the whole list.
 
-use srt_seq::Seq31;
+use srt_types::Seq31;
 use std::alloc::{AllocError, Global};
 
 /// Number of sequence numbers before they wrap.
@@ -38,7 +38,7 @@ pub(super) struct Gone {
 
 /// The sequence numbers from the first to the last.
 #[derive(Clone, Copy)]
-pub(super) struct Asked {
+pub(super) struct Requested {
     pub first: Seq31,
     pub last: Seq31,
 }
@@ -164,8 +164,8 @@ impl Plain {
         self.front().wrapping_sub(front)
     }
 
-    fn is_asked(&self, asked: &[Asked], k: u64) -> bool {
-        for range in asked {
+    fn is_requested(&self, requested: &[Requested], k: u64) -> bool {
+        for range in requested {
             if distance(range.first, self.wire(k)) <= distance(range.first, range.last) {
                 return true;
             }
@@ -179,14 +179,14 @@ impl Plain {
         }
     }
 
-    pub(super) fn lose(&mut self, asked: &[Asked]) -> Option<Gone> {
+    pub(super) fn lose(&mut self, requested: &[Requested]) -> Option<Gone> {
         for k in self.front()..self.next() {
-            if self.is_asked(asked, k) {
+            if self.is_requested(requested, k) {
                 self.mark(k, true);
             }
         }
         for k in self.base()..self.front() {
-            if self.is_asked(asked, k) {
+            if self.is_requested(requested, k) {
                 return Some(Gone {
                     first: self.wire(self.base()),
                     last: self.wire(self.front().wrapping_sub(1)),

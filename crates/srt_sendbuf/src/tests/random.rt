@@ -2,10 +2,10 @@
 
 ghost use Rattle.std.specs.Prelude.{◌≤◌};
 
-use crate::tests::plain::{Asked, Due, Gone, Plain};
+use crate::tests::plain::{Due, Gone, Plain, Requested};
 use crate::{DropRun, Out, SendBuf};
 use srt_loss::read;
-use srt_seq::Seq31;
+use srt_types::Seq31;
 use std::alloc::{AllocError, Global};
 use std::test::Fail;
 
@@ -68,7 +68,7 @@ fn gone_of(run: &DropRun) -> Gone {
 }
 
 /// Returns the bytes of a loss list of two ranges.
-fn bytes_of(one: Asked, two: Asked) -> [u8; 16] {
+fn bytes_of(one: Requested, two: Requested) -> [u8; 16] {
     let a = (one.first.get() | 1 << 31).to_be_bytes();
     let b = one.last.get().to_be_bytes();
     let c = (two.first.get() | 1 << 31).to_be_bytes();
@@ -125,7 +125,7 @@ impl Both {
     }
 
     /// Returns a range near the numbers in flight, narrow or wide.
-    fn asked(&mut self) -> Asked {
+    fn requested(&mut self) -> Requested {
         let first = self.number();
         let few = self.dice.below(5);
         let last = match self.dice.below(8) {
@@ -136,7 +136,7 @@ impl Both {
             2 => first.add(1 << 29),
             _ => first.add(few),
         };
-        Asked { first, last }
+        Requested { first, last }
     }
 
     fn queue(&mut self) -> Result<bool, AllocError> {
@@ -209,8 +209,8 @@ impl Both {
     }
 
     fn lose(&mut self) -> bool {
-        let one = self.asked();
-        let two = self.asked();
+        let one = self.requested();
+        let two = self.requested();
         let ours = match read(&bytes_of(one, two)) {
             Ok(losses) => self.ours.lose(&losses),
             // In one of them the last number is 2^30 or more past the first.

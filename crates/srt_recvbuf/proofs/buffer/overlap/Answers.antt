@@ -1,5 +1,5 @@
 use Rattle.std.proofs.Common.{◌+◌, arith}
-use Rattle.srt_seq.specs.Window.{word_of}
+use Rattle.srt_types.specs.Window.{word_of}
 use Rattle.srt_recvbuf.proofs.Buffers.{offset_found, offset_not_found, begins_inside, stands_outside}
 use Rattle.srt_recvbuf.proofs.buffer.overlap.Goals as goal
 

@@ -1,5 +1,5 @@
 use Rattle.std.proofs.Common.{◌≡◌, ℕ, ◌+◌}
-use Rattle.srt_seq.specs.Counts.{message_of, message_number}
+use Rattle.srt_types.specs.Counts.{message_of, message_number}
 use Rattle.srt_sendbuf.proofs.buffer.message_after.Given as goal
 
 abbrev pub invariant-loop : goal.invariant-loop

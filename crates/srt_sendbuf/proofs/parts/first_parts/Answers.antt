@@ -1,5 +1,5 @@
 use Rattle.std.proofs.Common.{length, sym, ap, subst, arith}
-use Rattle.srt_seq.specs.Window.{word_of}
+use Rattle.srt_types.specs.Window.{word_of}
 use Rattle.srt_loss.specs.Text.{range_of}
 use Rattle.srt_sendbuf.specs.Parts.{is_in_parts, AreWithin, IsTaken}
 use Rattle.srt_sendbuf.proofs.Named.{taken_more, within_more, length_more}

@@ -1,5 +1,5 @@
 use Rattle.std.proofs.Common.{◌+◌, ◌≤◌, length}
-use Rattle.srt_seq.specs.Window.{word_of}
+use Rattle.srt_types.specs.Window.{word_of}
 use Rattle.srt_sendbuf.specs.Parts.{is_in_parts, AreWithin, IsTaken}
 use Rattle.srt_sendbuf.proofs.parts.first_parts.Given as goal
 

@@ -1,6 +1,6 @@
 use Rattle.std.proofs.Common.{◌≡◌, ℕ, ap, sym, subst, refl, Bool, ◌∙◌, ◌&&◌, ◌^◌, arith}
 use Rattle.std.specs.Prelude.{nat_le, nat_lt}
-use Rattle.srt_seq.specs.Window.{word_of}
+use Rattle.srt_types.specs.Window.{word_of}
 use Rattle.srt_recvbuf.specs.Receiving.{Receiving}
 use Rattle.srt_recvbuf.specs.Stands.{StandsFor, own_range}
 use Rattle.srt_recvbuf.specs.Cells.{width_of, cell_is_received}

@@ -1,5 +1,5 @@
 use Rattle.std.proofs.Common.{◌≡◌, ◌+◌, ap, sym, subst, ◌∙◌, arith}
-use Rattle.srt_seq.specs.Window.{counted_from, word_of, in_window}
+use Rattle.srt_types.specs.Window.{counted_from, word_of, in_window}
 use Rattle.srt_recvbuf.specs.Receiving.{Receiving, with_number, put_of}
 use Rattle.srt_recvbuf.specs.Stands.{StandsFor}
 use Rattle.srt_recvbuf.specs.Cells.{width_of}

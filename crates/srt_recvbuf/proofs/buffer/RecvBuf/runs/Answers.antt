@@ -1,6 +1,6 @@
 use Rattle.std.proofs.Common.{◌≡◌, ◌+◌, ap, sym, ◌∙◌, map, take, min}
-use Rattle.srt_seq.specs.Window.{word_of, counted_from, in_window}
-use Rattle.srt_seq.specs.Runs.{runs}
+use Rattle.srt_types.specs.Window.{word_of, counted_from, in_window}
+use Rattle.srt_types.specs.Runs.{runs}
 use Rattle.srt_recvbuf.specs.Receiving.{is_missing, end_of, runs_from}
 use Rattle.srt_recvbuf.specs.Stands.{run_words, words_of}
 use Rattle.srt_recvbuf.proofs.Buffers.{own_none, own_some, cell_missing}

@@ -1,8 +1,8 @@
 use Rattle.std.proofs.Common.{◌≡◌, ◌+◌, ◌-◌, ◌<◌, ap, sym, ◌∙◌, [], ◌∷◌, ◌++◌, map, take, length, length-append, arith}
 use Rattle.std.specs.Prelude.{filter}
 use Rattle.std.proofs.lemmas.List.{map-append}
-use Rattle.srt_seq.specs.Window.{word_of, number_word}
-use Rattle.srt_seq.specs.Runs.{runs, numbers_from}
+use Rattle.srt_types.specs.Window.{word_of, number_word}
+use Rattle.srt_types.specs.Runs.{runs, numbers_from}
 use Rattle.srt_recvbuf.specs.Cells.{cell_at, cell_is_missing}
 use Rattle.srt_recvbuf.specs.Stands.{run_words, words_of}
 use Rattle.std.proofs.lemmas.Bool.{not-false, not-true}

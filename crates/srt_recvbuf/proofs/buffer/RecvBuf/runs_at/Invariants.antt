@@ -1,7 +1,7 @@
 use Rattle.std.proofs.Common.{◌≡◌, ℕ, ◌+◌, ◌-◌, ◌≤◌, ◌++◌, Bool, length, take, map}
 use Rattle.std.specs.Prelude.{filter}
-use Rattle.srt_seq.specs.Window.{word_of, number_word}
-use Rattle.srt_seq.specs.Runs.{runs, numbers_from}
+use Rattle.srt_types.specs.Window.{word_of, number_word}
+use Rattle.srt_types.specs.Runs.{runs, numbers_from}
 use Rattle.srt_recvbuf.specs.Cells.{cell_at, cell_is_missing}
 use Rattle.srt_recvbuf.specs.Stands.{run_words, words_of}
 use Rattle.srt_recvbuf.proofs.buffer.RecvBuf.runs_at.Given as goal

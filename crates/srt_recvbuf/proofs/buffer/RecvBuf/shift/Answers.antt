@@ -1,5 +1,5 @@
 use Rattle.std.proofs.Common.{◌+◌, ap, sym, ◌∙◌, refl, arith}
-use Rattle.srt_seq.specs.Window.{word_of}
+use Rattle.srt_types.specs.Window.{word_of}
 use Rattle.srt_recvbuf.specs.Cells.{width_of}
 use Rattle.srt_recvbuf.proofs.Buffers.{shifted, with_fields}
 use Rattle.srt_recvbuf.proofs.buffer.RecvBuf.shift.Goals as goal

@@ -1,9 +1,9 @@
 use Rattle.std.proofs.Common.{◌-◌, ◌||◌, sym, ap, ◌∙◌}
-use Rattle.srt_seq.specs.Runs.{numbers_from, range_from, ranges_from}
+use Rattle.srt_types.specs.Runs.{numbers_from, range_from, ranges_from}
 use Rattle.srt_loss.specs.Text.{range_of}
 use Rattle.srt_sendbuf.specs.Sending.{base, front, asks_for_gone}
 use Rattle.srt_sendbuf.proofs.Asks.{asks_more}
-use Rattle.srt_sendbuf.proofs.Ranges.{none_asked}
+use Rattle.srt_sendbuf.proofs.Ranges.{none_requested}
 use Rattle.srt_sendbuf.proofs.buffer.SendBuf.asks_any_gone.Goals as goal
 
 pub loop-range-init : goal.loop-range-init
@@ -26,4 +26,4 @@ returns-then-asks_gone c width initial r h =
 pub returns : goal.returns
 returns c width initial r h =
     sym (c.loop-range.invariant width initial r h ∙ ap (λ rs. asks_for_gone (ranges_from initial rs) r) c.in_default.ensures.none.0
-    ∙ none_asked (numbers_from (base r) (front r - base r)))
+    ∙ none_requested (numbers_from (base r) (front r - base r)))

@@ -1,5 +1,5 @@
 use Rattle.std.proofs.Common.{◌≡◌, ℕ, length}
-use Rattle.srt_seq.specs.Runs.{ranges_from}
+use Rattle.srt_types.specs.Runs.{ranges_from}
 use Rattle.srt_sendbuf.specs.Sending.{Sending, asks_for_gone}
 use Rattle.srt_sendbuf.specs.Stands.{StandsFor}
 use Rattle.srt_sendbuf.proofs.buffer.SendBuf.asks_any_gone.Given as goal

@@ -1,6 +1,6 @@
 use Rattle.std.proofs.Common.{◌+◌, sym, ap, ◌∙◌}
 use Rattle.std.specs.List.{list_any}
-use Rattle.srt_seq.specs.Runs.{is_in, numbers_from, range_from}
+use Rattle.srt_types.specs.Runs.{is_in, numbers_from, range_from}
 use Rattle.srt_loss.specs.Text.{range_of}
 use Rattle.srt_sendbuf.specs.Sending.{base}
 use Rattle.srt_sendbuf.proofs.Ranges.{asks_part, asks_none, base_is}

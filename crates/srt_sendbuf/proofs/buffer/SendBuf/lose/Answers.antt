@@ -1,7 +1,7 @@
 use Rattle.std.proofs.Common.{◌≡◌, ◌+◌, ◌-◌, ◌<◌, true, Some, sym, ap, ◌∙◌, length, arith}
-use Rattle.srt_seq.specs.Runs.{is_asked, ranges_from}
-use Rattle.srt_sendbuf.specs.Sending.{front, base, next, asked, asks_for_gone}
-use Rattle.srt_sendbuf.proofs.Ranges.{some_asked}
+use Rattle.srt_types.specs.Runs.{is_requested, ranges_from}
+use Rattle.srt_sendbuf.specs.Sending.{front, base, next, requested, asks_for_gone}
+use Rattle.srt_sendbuf.proofs.Ranges.{some_requested}
 use Rattle.srt_sendbuf.proofs.Marking.{taken_nothing, taken_both, taken_all, one_turn_more, turns_in_all}
 use Rattle.srt_sendbuf.proofs.buffer.SendBuf.lose.Goals as goal
 
@@ -46,9 +46,9 @@ returns-then-gone-clause-answer c width initial r h =
     c.loop-ranges.invariant.lost c.lose_next.ensures.lost)
     (c.lose_next.ensures.none c.loop-ranges-test.false) in
     let asks : asks_for_gone (ranges_from initial c.args.losses.now) r ≡ true = sym (c.asks_any_gone-gone.ensures width initial r h) ∙ c.if-gone.true in
-    let some = some_asked (is_asked (ranges_from initial c.args.losses.now)) (base r) (front r - base r) asks in
+    let some = some_requested (is_requested (ranges_from initial c.args.losses.now)) (base r) (front r - base r) asks in
     let below : base r < front r = omega (arith, some) in
-    rw asks (ap Some (c.gone.ensures width initial (asked (ranges_from initial c.args.losses.now) r) after below))
+    rw asks (ap Some (c.gone.ensures width initial (requested (ranges_from initial c.args.losses.now) r) after below))
 
 pub returns-then-gone-clause-marks : goal.returns-then-gone-clause-marks
 returns-then-gone-clause-marks c width initial r h =

@@ -1,6 +1,6 @@
 use Rattle.std.proofs.Common.{◌≡◌, ℕ, ◌+◌, Option, Some, None, sym, ap, ◌∙◌}
 use Rattle.std.specs.Prelude.{option_map}
-use Rattle.srt_seq.specs.Window.{word_of, counted_from, in_window}
+use Rattle.srt_types.specs.Window.{word_of, counted_from, in_window}
 use Rattle.srt_sendbuf.specs.Sending.{Sending, base, acknowledged_by}
 use Rattle.srt_sendbuf.proofs.Ranges.{own_number, IsBase, base_is}
 use Rattle.srt_sendbuf.proofs.buffer.SendBuf.steps_of.Goals as goal
