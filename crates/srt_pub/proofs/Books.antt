@@ -7,18 +7,18 @@ use Rattle.std.proofs.lemmas.List.{length-map, take-map}
 use Rattle.std.proofs.lemmas.List.Folds.{find_at}
 use Rattle.std.proofs.lemmas.Option.{slice_get-get_or}
 use Rattle.std.proofs.lemmas.Bool.Decides.{nat_tests}
-use Rattle.srt_rtt.specs.Book as book
-use Rattle.srt_rtt.proofs.Confirmed.{not_found}
-use Rattle.srt_pub.specs.Publishing.{Full, Note, Came, Sent, Confirmed, Report, FullAck, LightAck, fulls, is_confirmed, answers}
+use Rattle.srt_timing.specs.Book as book
+use Rattle.srt_timing.proofs.Confirmed.{not_found}
+use Rattle.srt_pub.specs.Publishing.{Full, Note, Arrived, Sent, Confirmed, Report, FullAck, LightAck, fulls, is_confirmed, answers}
 use Rattle.srt_pub.specs.Publishing.{confirmed_by, confirmed_notes, sample_of}
 use Rattle.srt_pub.specs.Kept.{noted_of, book_of}
 use Rattle.srt_pub.specs.declared.region.Region.{Region}
 use Rattle.srt_recvbuf.specs.declared.buffer.Put.{Put}
 use Rattle.srt_packet.specs.declared.writing.Rates.{Rates}
 
-pub book_came : (time : ℕ) (region : Region) (put : Put) (notes : List Note) → book_of (Came time region put ∷ notes) ≡ book_of notes
+pub book_arrived : (time : ℕ) (region : Region) (put : Put) (notes : List Note) → book_of (Arrived time region put ∷ notes) ≡ book_of notes
 unfolding book_of
-book_came time region put notes = refl
+book_arrived time region put notes = refl
 
 -- a report that isn't a Full ACK
 pub book_sent : (time : ℕ) (r : Report) (notes : List Note) → fulls (Sent time r ∷ notes) ≡ fulls notes → book_of (Sent time r ∷ notes) ≡ book_of notes
@@ -109,26 +109,26 @@ confirms_some number d notes e =
 both : (a b : ℕ) (c : Bool) → (if b == a then true else c) ≡ ((a == b) || c)
 both a b c = grind (arith, nat_tests)
 
-marked_all : (notes : List Note) (full : Full) (sample : ℕ) (fs : List Full)
-    → map (book.marked full.index) (map (noted_of notes) fs) ≡ map (noted_of (Confirmed full sample ∷ notes)) fs
-marked_all notes full sample [] = refl
-marked_all notes full sample (f ∷ fs) =
+marked_all : (notes : List Note) (time stamp : ℕ) (full : Full) (sample : ℕ) (fs : List Full)
+    → map (book.marked full.index) (map (noted_of notes) fs) ≡ map (noted_of (Confirmed time stamp full sample ∷ notes)) fs
+marked_all notes time stamp full sample [] = refl
+marked_all notes time stamp full sample (f ∷ fs) =
     ap
     (λ (b : Bool). record { index = f.index; moment = f.time; is_confirmed = b } ∷ map (book.marked full.index) (map (noted_of notes) fs))
     (both full.index f.index (is_confirmed notes f.index))
-    ∙ ap (λ (ns : List book.Noted). noted_of (Confirmed full sample ∷ notes) f ∷ ns) (marked_all notes full sample fs)
+    ∙ ap (λ (ns : List book.Noted). noted_of (Confirmed time stamp full sample ∷ notes) f ∷ ns) (marked_all notes time stamp full sample fs)
 
-by_option : (time : ℕ) (notes : List Note) (o : Option Full)
-    → book.with_marked (option_map (noted_of notes) o) (book_of notes) ≡ book_of (confirmed_notes time o notes)
+by_option : (time stamp : ℕ) (notes : List Note) (o : Option Full)
+    → book.with_marked (option_map (noted_of notes) o) (book_of notes) ≡ book_of (confirmed_notes time stamp o notes)
 unfolding book_of
-by_option time notes None = refl
-by_option time notes (Some full) = marked_all notes full (sample_of time full) (fulls notes)
+by_option time stamp notes None = refl
+by_option time stamp notes (Some full) = marked_all notes time stamp full (sample_of time full) (fulls notes)
 
-pub book_confirmed : (number time : ℕ) (notes : List Note)
-    → book.confirmed number (book_of notes) ≡ book_of (confirmed_notes time (confirmed_by number notes) notes)
-book_confirmed number time notes =
+pub book_confirmed : (number time stamp : ℕ) (notes : List Note)
+    → book.confirmed number (book_of notes) ≡ book_of (confirmed_notes time stamp (confirmed_by number notes) notes)
+book_confirmed number time stamp notes =
     ap (λ (o : Option book.Noted). book.with_marked o (book_of notes)) (same_waiting number notes)
-    ∙ by_option time notes (confirmed_by number notes)
+    ∙ by_option time stamp notes (confirmed_by number notes)
 
 sample_option : (time : ℕ) (notes : List Note) (o : Option Full)
     → option_map (book.sample_at time) (option_map (noted_of notes) o) ≡ option_map (sample_of time) o

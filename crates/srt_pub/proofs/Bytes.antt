@@ -1,13 +1,13 @@
 -- The bytes of the packets that a session sends.
 use Rattle.std.proofs.Common.{◌≡◌, ◌≢◌, ℕ, ◌%◌, ◌^◌, ◌<◌, Bool, true, false, cond, List, [], ◌∷◌, ◌++◌, length, map, refl, ap, ◌∙◌, arith}
-use Rattle.srt_seq.specs.Window.{word_of, number_word}
-use Rattle.srt_seq.specs.Counts.{ack_number}
-use Rattle.srt_seq.specs.Runs.{Range, Run}
-use Rattle.srt_seq.specs.declared.numbers.Seq31.{Seq31}
+use Rattle.srt_types.specs.Window.{word_of, number_word}
+use Rattle.srt_types.specs.Counts.{ack_number}
+use Rattle.srt_types.specs.Runs.{Range, Run}
+use Rattle.srt_types.specs.declared.numbers.Seq31.{Seq31}
 use Rattle.srt_loss.specs.Text.{range_of, loss_words}
 use Rattle.srt_packet.specs.declared.writing.Body.TheVariants as out
 use Rattle.srt_packet.specs.declared.writing.Rates.{Rates}
-use Rattle.srt_seq.specs.Words.{words}
+use Rattle.srt_types.specs.Words.{words}
 use Rattle.arrayvec.specs.ArrayVec.{ArrayVec}
 use Rattle.srt_recvbuf.specs.Stands.{words_of, run_words}
 use Rattle.srt_pub.specs.Publishing.{FullAck, LightAck, KeepAlive, nak_report, nak_with}

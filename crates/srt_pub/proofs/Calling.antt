@@ -2,11 +2,11 @@
 use Rattle.std.proofs.Common.{◌≡◌, inl, inr, ℕ, suc, zero, ◌+◌, ◌-◌, ◌<◌, min, pos, Bool, true, false, cond, Option, Some, None, List, []}
 use Rattle.std.proofs.Common.{◌∷◌, length, take, refl, sym, ap, subst, ◌∙◌, arith}
 use Rattle.std.specs.Prelude.{int_le, filter_map}
-use Rattle.srt_seq.specs.Runs.{numbers_from}
+use Rattle.srt_types.specs.Runs.{numbers_from}
 use Rattle.std.specs.List.{take_while, prefix_len}
 use Rattle.std.proofs.lemmas.Bool.{cases_eq, cases_lt}
-use Rattle.srt_seq.specs.declared.shared.Mode.{Mode}
-use Rattle.srt_seq.specs.declared.shared.Mode.TheVariants.{Live, Buffer}
+use Rattle.srt_types.specs.declared.shared.Mode.{Mode}
+use Rattle.srt_types.specs.declared.shared.Mode.TheVariants.{Live, Buffer}
 use Rattle.srt_recvbuf.specs.Receiving.{Arrival, Receiving, arrival_of, ack_point, waiting, unbroken, most, first_due, in_order, deliverable, passed}
 use Rattle.srt_recvbuf.specs.OneByOne.{NothingBeyond}
 use Rattle.srt_recvbuf.proofs.OneByOne.{others_wait, passes_one_by_one}

@@ -4,14 +4,14 @@ use Rattle.std.proofs.Common.{length, refl, sym, ap, subst, ◌∙◌, arith, �
 use Rattle.std.specs.Prelude.{◌==◌, is_some, filter_map, nat_lt}
 use Rattle.std.specs.List.{cons_option}
 use Rattle.std.proofs.lemmas.Bool.{ne_eqb}
-use Rattle.srt_seq.specs.Window.{in_window, offset_of}
-use Rattle.srt_seq.specs.Runs.{Range, Run, span, least_from, numbers_from}
+use Rattle.srt_types.specs.Window.{in_window, offset_of}
+use Rattle.srt_types.specs.Runs.{Range, Run, span, least_from, numbers_from}
 use Rattle.srt_recvbuf.specs.Receiving.{Arrival, Receiving, arrival_of, is_received, is_requested, is_dropped, end_of, moved_to, settled}
 use Rattle.srt_recvbuf.specs.Receiving.{put_of, received, requested, with_number, next_due, after_next}
 use Rattle.srt_recvbuf.proofs.OneByOne.{found, found_number, number_or}
-use Rattle.srt_pub.specs.Publishing.{Terms, Note, Came, Sent, FullAck, LightAck, KeepAlive, Full, ack_of, acks_at, is_full_due, is_light_due}
+use Rattle.srt_pub.specs.Publishing.{Terms, Note, Arrived, Sent, FullAck, LightAck, KeepAlive, Full, ack_of, acks_at, is_full_due, is_light_due}
 use Rattle.srt_pub.specs.Publishing.{full_ack, noted, nak_report, confirmed_notes}
-use Rattle.srt_pub.specs.Counting.{one_if, capped, bytes_in, received_below, came_in, late_in, ahead_in, naks_in, numbers_in}
+use Rattle.srt_pub.specs.Counting.{one_if, capped, bytes_in, received_below, arrived_in, late_in, ahead_in, naks_in, numbers_in}
 use Rattle.srt_pub.specs.Counting.{reported_lost_in, full_windows_in, counts_of, Counted, Passes, with_one, with_put, with_steps, with_nak}
 use Rattle.srt_pub.specs.Counting.{with_full_window}
 use Rattle.srt_pub.specs.declared.counts.Counts.{Counts}
@@ -240,10 +240,10 @@ counts_acks terms point room time c xs delivered front notes is_full full h =
     ∙ acks_count (is_full_due terms.width point room time notes) (is_light_due notes) _ _ _ _ _ _ _ time xs delivered front notes
 
 -- an ACKACK changes no counter
-pub same_confirmed : (c : Counts) (xs : List Arrival) (delivered front time : ℕ) (o : Option Full) (notes : List Note)
-    → Counted c xs delivered front notes → Counted c xs delivered front (confirmed_notes time o notes)
-same_confirmed c xs delivered front time None notes h = h
-same_confirmed c xs delivered front time (Some full) notes h = h
+pub same_confirmed : (c : Counts) (xs : List Arrival) (delivered front time stamp : ℕ) (o : Option Full) (notes : List Note)
+    → Counted c xs delivered front notes → Counted c xs delivered front (confirmed_notes time stamp o notes)
+same_confirmed c xs delivered front time stamp None notes h = h
+same_confirmed c xs delivered front time stamp (Some full) notes h = h
 
 -- a NAK and the numbers that it reports are counted
 pub counts_nak : (time : ℕ) (all : Bool) (rs : List Run) (lost : ℕ) (c : Counts) (xs : List Arrival) (delivered front : ℕ)
@@ -252,15 +252,15 @@ pub counts_nak : (time : ℕ) (all : Bool) (rs : List Run) (lost : ℕ) (c : Cou
     → Counted (with_nak lost c) xs delivered front (Sent time (nak_report all rs) ∷ notes)
 counts_nak time all rs lost c xs delivered front notes e h = by all
   where
-    told : ℕ
-    told = reported_lost_in notes
+    earlier : ℕ
+    earlier = reported_lost_in notes
 
-    reported : capped (capped told + lost) ≡ capped (told + numbers_in rs)
-    reported = ap (λ n. capped (capped told + n)) e ∙ both_more told (numbers_in rs)
+    reported : capped (capped earlier + lost) ≡ capped (earlier + numbers_in rs)
+    reported = ap (λ n. capped (capped earlier + n)) e ∙ both_more earlier (numbers_in rs)
 
     one : with_nak lost c ≡ record (counts_of xs delivered front notes) {
       naks = capped (naks_in notes + 1);
-      reported_lost = capped (told + numbers_in rs);
+      reported_lost = capped (earlier + numbers_in rs);
       full_windows = capped (full_windows_in notes + 0);
     }
     one =
@@ -286,22 +286,22 @@ counts_alive c xs delivered front time notes h =
 
 -- a data packet is counted, also if it isn't stored
 pub counts_one : (time : ℕ) (region : Region) (put : Put) (c : Counts) (xs : List Arrival) (delivered front : ℕ) (notes : List Note)
-    → Counted c xs delivered front notes → Counted (with_one region c) xs delivered front (Came time region put ∷ notes)
+    → Counted c xs delivered front notes → Counted (with_one region c) xs delivered front (Arrived time region put ∷ notes)
 counts_one time region put c xs delivered front notes h = ap (with_one region) h ∙ by region
   where
-    by : (region : Region) → with_one region (counts_of xs delivered front notes) ≡ counts_of xs delivered front (Came time region put ∷ notes)
+    by : (region : Region) → with_one region (counts_of xs delivered front notes) ≡ counts_of xs delivered front (Arrived time region put ∷ notes)
     by Inside = λ i. record (counts_of xs delivered front notes) {
-      came = some_more (came_in notes) 1 i;
+      arrived = some_more (arrived_in notes) 1 i;
       late = none_more (late_in notes) i;
       ahead = none_more (ahead_in notes) i;
     }
     by Ahead = λ i. record (counts_of xs delivered front notes) {
-      came = some_more (came_in notes) 1 i;
+      arrived = some_more (arrived_in notes) 1 i;
       late = none_more (late_in notes) i;
       ahead = some_more (ahead_in notes) 1 i;
     }
     by Late = λ i. record (counts_of xs delivered front notes) {
-      came = some_more (came_in notes) 1 i;
+      arrived = some_more (arrived_in notes) 1 i;
       late = some_more (late_in notes) 1 i;
       ahead = none_more (ahead_in notes) i;
     }

@@ -5,9 +5,9 @@ use Rattle.std.specs.Prelude.{int_le, filter_map}
 use Rattle.std.specs.List.{take_while, prefix_len}
 use Rattle.std.proofs.lemmas.Bool.{cases_eq, eq-eqb, ne_eqb}
 use Rattle.std.proofs.lemmas.Bool.Decides.{nat_tests}
-use Rattle.srt_seq.specs.declared.shared.Mode.{Mode}
-use Rattle.srt_seq.specs.declared.shared.Mode.TheVariants.{Live, Buffer}
-use Rattle.srt_seq.specs.Runs.{numbers_from}
+use Rattle.srt_types.specs.declared.shared.Mode.{Mode}
+use Rattle.srt_types.specs.declared.shared.Mode.TheVariants.{Live, Buffer}
+use Rattle.srt_types.specs.Runs.{numbers_from}
 use Rattle.srt_recvbuf.specs.Receiving.{Arrival, Receiving, arrival_of, ack_point, waiting, unbroken, most, first_due, next_due}
 use Rattle.srt_recvbuf.specs.OneByOne.{NothingBeyond}
 use Rattle.srt_recvbuf.proofs.Unbroken.{unbroken_one_by_one}

@@ -4,8 +4,8 @@ use Rattle.std.proofs.Common.{Some, None, List, [], ◌∷◌, length, refl, sym
 use Rattle.std.specs.Prelude.{nat_lt, nat_le, ◌==◌, slice_get}
 use Rattle.std.proofs.lemmas.Bool.{cases_lt, lt-ltb, le-ltb}
 use Rattle.std.proofs.lemmas.Bool.Decides.{nat_tests}
-use Rattle.srt_pub.specs.Publishing.{Terms, Full, Note, Came, Sent, Confirmed, Report, FullAck, LightAck, fulls, is_confirmed, later_of}
-use Rattle.srt_pub.specs.Publishing.{latest_confirmed, says_pair, is_known, came_since_ack, time_of, is_full_due, is_light_due, full_ack}
+use Rattle.srt_pub.specs.Publishing.{Terms, Full, Note, Arrived, Sent, Confirmed, Report, FullAck, LightAck, fulls, is_confirmed, later_of}
+use Rattle.srt_pub.specs.Publishing.{latest_confirmed, says_pair, is_known, arrived_since_ack, time_of, is_full_due, is_light_due, full_ack}
 use Rattle.srt_pub.specs.Publishing.{ack_of, acks_at}
 use Rattle.srt_pub.specs.Kept.{IsNotPast, AreFulls, AreAcks}
 use Rattle.srt_pub.specs.declared.region.Region.{Region}
@@ -39,13 +39,13 @@ acks_first width =
       known_is = known_first width;
       same_is = λ d f lt e. absurd (nothing_there d f e);
       last_is = refl;
-      came_is = refl;
+      arrived_is = refl;
     }
 
-pub acks_came : (time : ℕ) (region : Region) (put : Put) (width front point came' : ℕ) (notes : List Note) (known : Bool) (same last came : ℕ)
-    → came' ≡ min (came + 1) 64 → AreAcks width front point notes known same last came
-    → AreAcks width front point (Came time region put ∷ notes) known same last came'
-acks_came time region put width front point came' notes known same last came more h =
+pub acks_arrived : (time : ℕ) (region : Region) (put : Put) (width front point came' : ℕ) (notes : List Note) (known : Bool) (same last arrived : ℕ)
+    → came' ≡ min (arrived + 1) 64 → AreAcks width front point notes known same last arrived
+    → AreAcks width front point (Arrived time region put ∷ notes) known same last came'
+acks_arrived time region put width front point came' notes known same last arrived more h =
     record {
       inside = h.inside;
       sent = h.sent;
@@ -53,15 +53,15 @@ acks_came time region put width front point came' notes known same last came mor
       known_is = h.known_is;
       same_is = h.same_is;
       last_is = h.last_is;
-      came_is = omega (arith, h.came_is, more);
+      arrived_is = omega (arith, h.arrived_is, more);
     }
 
 -- a report that isn't a Full ACK
-acks_said : (width front point time came' : ℕ) (r : Report) (notes : List Note) (known : Bool) (same last came : ℕ)
-    → fulls (Sent time r ∷ notes) ≡ fulls notes → came' ≡ min (came_since_ack (Sent time r ∷ notes)) 64
-    → AreAcks width front point notes known same last came
+acks_said : (width front point time came' : ℕ) (r : Report) (notes : List Note) (known : Bool) (same last arrived : ℕ)
+    → fulls (Sent time r ∷ notes) ≡ fulls notes → came' ≡ min (arrived_since_ack (Sent time r ∷ notes)) 64
+    → AreAcks width front point notes known same last arrived
     → AreAcks width front point (Sent time r ∷ notes) known same last came'
-acks_said width front point time came' r notes known same last came fs_are came_is h =
+acks_said width front point time came' r notes known same last arrived fs_are arrived_is h =
     let F : List Full → Type 0 = λ fs. AreFulls width front point fs in
     record {
       inside = h.inside;
@@ -74,23 +74,24 @@ acks_said width front point time came' r notes known same last came fs_are came_
       known_is = h.known_is;
       same_is = λ d f lt e. h.same_is d f lt (sym (ap (λ fs. slice_get fs d) fs_are) ∙ e);
       last_is = h.last_is ∙ sym (ap time_of fs_are);
-      came_is = came_is;
+      arrived_is = arrived_is;
     }
 
-pub acks_light : (width front point time said : ℕ) (notes : List Note) (known : Bool) (same last came : ℕ)
-    → AreAcks width front point notes known same last came → AreAcks width front point (Sent time (LightAck said) ∷ notes) known same last 0
-acks_light width front point time said notes known same last came h = acks_said width front point time 0 (LightAck said) notes known same last came refl refl h
+pub acks_light : (width front point time said : ℕ) (notes : List Note) (known : Bool) (same last arrived : ℕ)
+    → AreAcks width front point notes known same last arrived → AreAcks width front point (Sent time (LightAck said) ∷ notes) known same last 0
+acks_light width front point time said notes known same last arrived h =
+    acks_said width front point time 0 (LightAck said) notes known same last arrived refl refl h
 
 -- a report that isn't an ACK
 pub record IsNoAck (time : ℕ) (r : Report) (notes : List Note) : Type 0 where
   pub fulls_are : fulls (Sent time r ∷ notes) ≡ fulls notes
-  pub came_is : came_since_ack (Sent time r ∷ notes) ≡ came_since_ack notes
+  pub arrived_is : arrived_since_ack (Sent time r ∷ notes) ≡ arrived_since_ack notes
 
-pub acks_other : (width front point time : ℕ) (r : Report) (notes : List Note) (known : Bool) (same last came : ℕ) → IsNoAck time r notes
-    → AreAcks width front point notes known same last came
-    → AreAcks width front point (Sent time r ∷ notes) known same last came
-acks_other width front point time r notes known same last came n h =
-    acks_said width front point time came r notes known same last came n.fulls_are (h.came_is ∙ sym (ap (λ k. min k 64) n.came_is)) h
+pub acks_other : (width front point time : ℕ) (r : Report) (notes : List Note) (known : Bool) (same last arrived : ℕ) → IsNoAck time r notes
+    → AreAcks width front point notes known same last arrived
+    → AreAcks width front point (Sent time r ∷ notes) known same last arrived
+acks_other width front point time r notes known same last arrived n h =
+    acks_said width front point time arrived r notes known same last arrived n.fulls_are (h.arrived_is ∙ sym (ap (λ k. min k 64) n.arrived_is)) h
 
 -- the front or the acknowledgement point moves on: none of the Full ACKs reported the new pair
 no_pair : (width front a front_steps point fp fa : ℕ) → 0 < front_steps + point → a + point ≤ front + front_steps + width → fp ≤ a
@@ -110,10 +111,10 @@ unknown width front a front_steps point fs (Some f) more inside h among =
 none_below : (d : ℕ) (b : Bool) → b ≡ false → nat_lt d 0 ≡ b
 none_below d b e = grind (arith, nat_tests)
 
-pub acks_moved : (width front a front_steps point : ℕ) (notes : List Note) (known : Bool) (same last came : ℕ) → 0 < front_steps + point
-    → a + point ≤ front + front_steps + width → AreAcks width front a notes known same last came
-    → AreAcks width (front + front_steps) (a + point) notes false 0 last came
-acks_moved width front a front_steps point notes known same last came more inside h =
+pub acks_moved : (width front a front_steps point : ℕ) (notes : List Note) (known : Bool) (same last arrived : ℕ) → 0 < front_steps + point
+    → a + point ≤ front + front_steps + width → AreAcks width front a notes known same last arrived
+    → AreAcks width (front + front_steps) (a + point) notes false 0 last arrived
+acks_moved width front a front_steps point notes known same last arrived more inside h =
     record {
       inside = inside;
       sent =
@@ -127,7 +128,7 @@ acks_moved width front a front_steps point notes known same last came more insid
       known_is = sym (unknown width front a front_steps point (fulls notes) (latest_confirmed notes) more inside h.sent h.confirmed.latest);
       same_is = λ d f lt e. let k = h.sent.high d f e in none_below d _ (no_pair width front a front_steps point f.point f.available more inside k.0 k.1);
       last_is = h.last_is;
-      came_is = h.came_is;
+      arrived_is = h.arrived_is;
     }
 
 -- a Full ACK is sent, which reports the current pair
@@ -183,10 +184,10 @@ one_more d e same b i lt h = grind (arith, nat_tests)
 at_first : (d same : ℕ) (b : Bool) → d ≡ 0 → b ≡ true → nat_lt d (min (same + 1) 64) ≡ b
 at_first d same b i h = grind (arith, nat_tests)
 
-pub acks_full : (width front a time rtt variance room same' : ℕ) (rates : Rates) (notes : List Note) (known : Bool) (same last came : ℕ)
-    → room ≡ front + width - a → same' ≡ min (same + 1) 64 → AreAcks width front a notes known same last came
+pub acks_full : (width front a time rtt variance room same' : ℕ) (rates : Rates) (notes : List Note) (known : Bool) (same last arrived : ℕ)
+    → room ≡ front + width - a → same' ≡ min (same + 1) 64 → AreAcks width front a notes known same last arrived
     → AreAcks width front a (Sent time (FullAck (length (fulls notes)) a rtt variance room rates) ∷ notes) known same' time 0
-acks_full width front a time rtt variance room same' rates notes known same last came is more h =
+acks_full width front a time rtt variance room same' rates notes known same last arrived is more h =
     let x : Full = record { index = length (fulls notes); time = time; point = a; available = room } in
     record {
       inside = h.inside;
@@ -205,7 +206,7 @@ acks_full width front a time rtt variance room same' rates notes known same last
         | inr k ↦ one_more d k.0 same _ k.1 lt (h.same_is k.0 f (omega (arith, k.1, lt)) k.2)
       ]);
       last_is = refl;
-      came_is = refl;
+      arrived_is = refl;
     }
 
 -- a Full ACK is confirmed
@@ -260,10 +261,10 @@ among_later f g (Some x) fs d at among is = elim (cases_lt f.index x.index) [
 not_it : (a b : ℕ) (c : Bool) → a < b → c ≡ false → ((a == b) || c) ≡ false
 not_it a b c lt e = grind (arith, nat_tests)
 
-pub acks_confirmed : (width front a d sample : ℕ) (f : Full) (notes : List Note) (known known' : Bool) (same last came : ℕ) → d < 64
-    → slice_get (fulls notes) d ≡ Some f → known' ≡ (known || nat_lt d same) → AreAcks width front a notes known same last came
-    → AreAcks width front a (Confirmed f sample ∷ notes) known' same last came
-acks_confirmed width front a d sample f notes known known' same last came lt at is h =
+pub acks_confirmed : (width front a d time stamp sample : ℕ) (f : Full) (notes : List Note) (known known' : Bool) (same last arrived : ℕ) → d < 64
+    → slice_get (fulls notes) d ≡ Some f → known' ≡ (known || nat_lt d same) → AreAcks width front a notes known same last arrived
+    → AreAcks width front a (Confirmed time stamp f sample ∷ notes) known' same last arrived
+acks_confirmed width front a d time stamp sample f notes known known' same last arrived lt at is h =
     record {
       inside = h.inside;
       sent = h.sent;
@@ -279,7 +280,7 @@ acks_confirmed width front a d sample f notes known known' same last came lt at 
           h.known_is (h.same_is d f lt at);
       same_is = h.same_is;
       last_is = h.last_is;
-      came_is = h.came_is;
+      arrived_is = h.arrived_is;
     }
 
 due_when_known : (known : Bool) (b : Bool) → known ≡ true → false ≡ (b && not known)
@@ -297,24 +298,24 @@ due_when_unknown known b e = rw e (by b)
     by false = refl
 
 -- whether a Full ACK is due
-pub full_not_due : (width front point time : ℕ) (notes : List Note) (known : Bool) (same last came : ℕ) → known ≡ true
-    → AreAcks width front point notes known same last came
+pub full_not_due : (width front point time : ℕ) (notes : List Note) (known : Bool) (same last arrived : ℕ) → known ≡ true
+    → AreAcks width front point notes known same last arrived
     → false ≡ is_full_due width point (front + width - point) time notes
 unfolding is_full_due
-full_not_due width front point time notes known same last came k h =
+full_not_due width front point time notes known same last arrived k h =
     due_when_known (is_known width point (front + width - point) (latest_confirmed notes)) _ (sym h.known_is ∙ k)
 
-pub full_due : (width front point time since : ℕ) (notes : List Note) (known : Bool) (same last came : ℕ) → known ≡ false
-    → since ≡ time - last → AreAcks width front point notes known same last came
+pub full_due : (width front point time since : ℕ) (notes : List Note) (known : Bool) (same last arrived : ℕ) → known ≡ false
+    → since ≡ time - last → AreAcks width front point notes known same last arrived
     → nat_le 10_000 since ≡ is_full_due width point (front + width - point) time notes
 unfolding is_full_due
-full_due width front point time since notes known same last came k s h =
+full_due width front point time since notes known same last arrived k s h =
     ap (nat_le 10_000) (s ∙ ap (λ x. time - x) h.last_is)
     ∙ due_when_unknown (is_known width point (front + width - point) (latest_confirmed notes)) _ (sym h.known_is ∙ k)
 
-pub light_due : (width front point : ℕ) (notes : List Note) (known : Bool) (same last came : ℕ)
-    → AreAcks width front point notes known same last came → nat_le 64 came ≡ is_light_due notes
-light_due width front point notes known same last came h = let e = h.came_is in grind (arith, nat_tests)
+pub light_due : (width front point : ℕ) (notes : List Note) (known : Bool) (same last arrived : ℕ)
+    → AreAcks width front point notes known same last arrived → nat_le 64 arrived ≡ is_light_due notes
+light_due width front point notes known same last arrived h = let e = h.arrived_is in grind (arith, nat_tests)
 
 pub acks_by : (terms : Terms) (a available time : ℕ) (notes : List Note) (full light : Bool) → is_full_due terms.width a available time notes ≡ full
     → is_light_due notes ≡ light
@@ -324,7 +325,7 @@ acks_by terms a available time notes full light f l =
     ap (λ b. ack_of b (is_light_due notes) (full_ack terms a available notes) (LightAck a)) f
     ∙ ap (λ b. ack_of full b (full_ack terms a available notes) (LightAck a)) l
 
-pub acks_still : (width front front' a a' : ℕ) (notes : List Note) (known : Bool) (same last came : ℕ)
-    → front ≡ front' → a ≡ a' → AreAcks width front a notes known same last came → AreAcks width front' a' notes known same last came
-acks_still width front front' a a' notes known same last came p q h =
-    subst (λ (x : ℕ). AreAcks width front' x notes known same last came) q (subst (λ (x : ℕ). AreAcks width x a notes known same last came) p h)
+pub acks_still : (width front front' a a' : ℕ) (notes : List Note) (known : Bool) (same last arrived : ℕ)
+    → front ≡ front' → a ≡ a' → AreAcks width front a notes known same last arrived → AreAcks width front' a' notes known same last arrived
+acks_still width front front' a a' notes known same last arrived p q h =
+    subst (λ (x : ℕ). AreAcks width front' x notes known same last arrived) q (subst (λ (x : ℕ). AreAcks width x a notes known same last arrived) p h)

@@ -5,10 +5,10 @@ use Rattle.std.specs.Prelude.{nat_lt, nat_le, ◌==◌, is_some, filter_map, int
 use Rattle.std.specs.List.{cons_option}
 use Rattle.std.proofs.lemmas.Bool.{cases_lt, cases_eq, cases_Bool, eq-eqb, ne_eqb, and_left, not-true, not-false, le-ltb}
 use Rattle.std.proofs.lemmas.Bool.Decides.{nat_tests}
-use Rattle.srt_seq.specs.declared.shared.Mode.{Mode}
-use Rattle.srt_seq.specs.declared.shared.Mode.TheVariants.{Live, Buffer}
-use Rattle.srt_seq.specs.Window.{in_window}
-use Rattle.srt_seq.specs.Runs.{Range, span, least_from, numbers_from}
+use Rattle.srt_types.specs.declared.shared.Mode.{Mode}
+use Rattle.srt_types.specs.declared.shared.Mode.TheVariants.{Live, Buffer}
+use Rattle.srt_types.specs.Window.{in_window}
+use Rattle.srt_types.specs.Runs.{Range, span, least_from, numbers_from}
 use Rattle.srt_recvbuf.specs.Receiving.{Arrival, Request, Receiving, arrival_of, is_received, is_requested, is_dropped, is_missing, end_of}
 use Rattle.srt_recvbuf.specs.Receiving.{ack_point, moved_to, settled, passed, with_number, received, requested, waiting, nothing_yet}
 use Rattle.srt_recvbuf.specs.Receiving.{first_due, next_due, after_next}

@@ -1,7 +1,7 @@
 -- The intervals that are shorter than a time, and the median, place by place.
-use Rattle.std.proofs.Common.{◌≡◌, ℕ, zero, suc, ◌+◌, List, max, refl, ap, sym, ◌∙◌, arith}
+use Rattle.std.proofs.Common.{◌≡◌, ℕ, suc, ◌+◌, List, max, refl, ap, sym, ◌∙◌, arith}
 use Rattle.std.specs.Prelude.{nat_lt}
-use Rattle.srt_seq.specs.Capped.{one_if}
+use Rattle.srt_types.specs.Capped.{one_if}
 use Rattle.srt_pub.specs.Publishing.{interval, shorter, up_to_median, longest_up_to_median}
 
 pub none_shorter : (times : List ℕ) (time : ℕ) → 0 ≡ shorter times time 0

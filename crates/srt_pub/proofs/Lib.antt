@@ -13,3 +13,4 @@ pub mod Advancing
 pub mod Counting
 pub mod Reported
 pub mod Draining
+pub mod Corrections

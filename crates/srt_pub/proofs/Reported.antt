@@ -5,12 +5,12 @@ use Rattle.std.specs.Prelude.{filter}
 use Rattle.std.specs.List.{sum_by}
 use Rattle.std.proofs.lemmas.Bool.{cases_eq, eq-eqb, ne_eqb}
 use Rattle.std.proofs.lemmas.List.Sums.{sum_by-cons}
-use Rattle.srt_seq.specs.Window.{word_of, number_word, offset_of}
-use Rattle.srt_seq.specs.Runs.{Run, run_before, runs, numbers_from}
-use Rattle.srt_seq.specs.declared.numbers.Seq31.{Seq31}
+use Rattle.srt_types.specs.Window.{word_of, number_word, offset_of}
+use Rattle.srt_types.specs.Runs.{Run, run_before, runs, numbers_from}
+use Rattle.srt_types.specs.declared.numbers.Seq31.{Seq31}
 use Rattle.srt_recvbuf.specs.Receiving.{Receiving, is_missing, end_of}
 use Rattle.srt_recvbuf.specs.Stands.{words_of, run_words}
-use Rattle.srt_pub.specs.Publishing.{gaps_told, runs_said}
+use Rattle.srt_pub.specs.Publishing.{gaps_reported, runs_said}
 use Rattle.srt_pub.specs.Stands.{Each}
 use Rattle.srt_pub.specs.Counting.{numbers_between, numbers_in_pairs, numbers_in}
 
@@ -81,7 +81,7 @@ same_pairs (p ∷ pairs) =
     ∙ sym (sum_by-cons of_words (word_of p.0, word_of p.1) (words_of pairs))
 
 gaps_between : (all : Bool) (width seen : ℕ) (r : Receiving)
-    → end_of r.arrivals ≤ r.front + width → Each (IsBetween r.front (r.front + width)) (gaps_told all width seen r)
+    → end_of r.arrivals ≤ r.front + width → Each (IsBetween r.front (r.front + width)) (gaps_reported all width seen r)
 gaps_between true width seen r ends =
     kept _ (is_missing width r) _
     (consecutive r.front (r.front + width) r.front (end_of r.arrivals - r.front) (omega arith) (omega (arith, ends)))
@@ -90,10 +90,10 @@ gaps_between false width seen r ends =
     (consecutive r.front (r.front + width) (max seen r.front) (end_of r.arrivals - max seen r.front) (omega arith) (omega (arith, ends)))
 
 -- the length of the runs that a NAK reports
-pub numbers_told : (all : Bool) (width seen initial : ℕ) (r : Receiving) (pairs : List (Seq31 × Seq31))
-    → end_of r.arrivals ≤ r.front + width → width ≤ 8192 → words_of pairs ≡ map (run_words initial) (runs_said (gaps_told all width seen r))
-    → numbers_in_pairs pairs ≡ numbers_in (runs_said (gaps_told all width seen r))
-numbers_told all width seen initial r pairs ends narrow said =
+pub numbers_reported : (all : Bool) (width seen initial : ℕ) (r : Receiving) (pairs : List (Seq31 × Seq31))
+    → end_of r.arrivals ≤ r.front + width → width ≤ 8192 → words_of pairs ≡ map (run_words initial) (runs_said (gaps_reported all width seen r))
+    → numbers_in_pairs pairs ≡ numbers_in (runs_said (gaps_reported all width seen r))
+numbers_reported all width seen initial r pairs ends narrow said =
     same_pairs pairs ∙ ap (sum_by of_words) said
-    ∙ all_spans initial r.front (r.front + width) (runs_said (gaps_told all width seen r)) (omega (arith, narrow))
+    ∙ all_spans initial r.front (r.front + width) (runs_said (gaps_reported all width seen r)) (omega (arith, narrow))
     (taken _ 32 _ (grouped r.front (r.front + width) _ (gaps_between all width seen r ends)))

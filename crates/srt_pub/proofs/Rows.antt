@@ -1,17 +1,20 @@
 -- Computed examples of what a session delivers and sends.
-use Rattle.std.proofs.Common.{◌≡◌, ℕ, zero, suc, ◌+◌, true, false, Option, None, Some, List, [], ◌∷◌, length, ◌++◌, refl}
+use Rattle.std.proofs.Common.{◌≡◌, ℕ, zero, suc, ◌+◌, true, false, Option, None, Some, List, [], ◌∷◌, length, ◌++◌, ℤ, pos, refl}
 use Rattle.std.specs.Prelude.{map, option_map}
-use Rattle.srt_seq.specs.declared.shared.Mode.TheVariants.{Live, Buffer}
-use Rattle.srt_seq.specs.declared.shared.Callers.TheVariants.{Draft}
-use Rattle.srt_seq.specs.Window.{in_window}
-use Rattle.srt_seq.specs.Lift.{lift, stamped_from}
+use Rattle.srt_types.specs.declared.shared.Mode.TheVariants.{Live, Buffer}
+use Rattle.srt_types.specs.declared.shared.Callers.{Callers}
+use Rattle.srt_types.specs.declared.shared.Callers.TheVariants.{Draft, Libsrt}
+use Rattle.srt_types.specs.Window.{in_window}
+use Rattle.srt_types.specs.Lift.{lift, stamped_from}
 use Rattle.srt_packet.specs.Grammar.{Body, Data, KeepAlive, AckAck, DropRequest}
 use Rattle.srt_recvbuf.specs.Receiving.{Arrival, gaps, is_dropped}
 use Rattle.srt_pub.specs.declared.ends.PubEnd.{PubEnd}
 use Rattle.srt_pub.specs.declared.ends.PubEnd.TheVariants as ends
 use Rattle.srt_pub.specs.Heard.{heard_from}
 use Rattle.srt_pub.specs.Publishing.{Terms, Publishing, opened, took, deliveries, delivered, reports, reported, Full, latest_confirmed}
-use Rattle.srt_pub.specs.Publishing.{round_trip, confirmed_by, is_full_due, acks_at, naks}
+use Rattle.srt_pub.specs.Publishing.{round_trip, confirmed_by, is_full_due, acks_at, naks, correction_of, clock_of}
+use Rattle.srt_timing.specs.Clock.{sampled}
+use Rattle.srt_timing.specs.declared.clock.Clock.{Clock}
 use Rattle.srt_pub.specs.Publishing.{shorter, longest_up_to_median, median_interval, packet_rate}
 use Rattle.srt_pub.specs.Calls.{ended}
 use Rattle.srt_pub.specs.Says.{says}
@@ -262,3 +265,39 @@ too_few = refl
 just_enough : packet_rate (times_after 0 (40 ∷ 40 ∷ 40 ∷ 50 ∷ 40 ∷ 40 ∷ 40 ∷ 40 ∷ 40 ∷ [])) ≡ 20_000
 unfolding shorter longest_up_to_median
 just_enough = refl
+
+-- a live session follows the clock of a sender that uses libsrt: an ACK is sent with each data packet, and the second
+-- window moves the correction
+abbrev answers_at : (time stamp number : ℕ) → Event
+answers_at time stamp number = record { time = time; stamp = stamp; body = AckAck number; room = None }
+
+abbrev first_second : List Event
+first_second =
+    answers_at 2_010_000 5 3 ∷ answers_at 2_009_999 2_004_599 4 ∷ comes 2_000_999 2_000_999 3 0x61 ∷ comes 1_980_000 1_980_000 2 0x61
+    ∷ answers_at 1_508_000 1_503_250 2 ∷ comes 1_500_000 1_500_000 1 0x61 ∷ answers_at 1_010_000 1_004_500 1 ∷ comes 1_000_000 1_000_000 0 0x61 ∷ []
+
+abbrev second_second : List Event
+second_second =
+    answers_at 3_110_000 3_103_300 6 ∷ comes 3_100_000 3_100_000 5 0x61 ∷ answers_at 2_110_000 2_103_750 5 ∷ comes 2_100_000 2_100_000 4 0x61
+    ∷ first_second
+
+abbrev following : Callers → Terms
+following callers = record { mode = Live; width = 32; delay = 120_000; callers = callers }
+
+abbrev corrected : Callers → List Event → ℤ
+corrected callers events = correction_of (following callers) (after (following callers) 0 events).notes
+
+referenced : option_map (λ (c : Clock). c.reference) (clock_of (following Libsrt) (after (following Libsrt) 0 first_second).notes) ≡ Some (Some (pos 750))
+unfolding in_window lift confirmed_by is_full_due acks_at naks reports deliveries sampled
+referenced = refl
+
+corrections : (corrected Libsrt first_second ≡ pos 0) × (corrected Libsrt second_second ≡ pos 950) × (corrected Draft second_second ≡ pos 0)
+unfolding in_window lift confirmed_by is_full_due acks_at naks reports deliveries sampled
+corrections = (refl, refl, refl)
+
+-- a later packet is due by that much later
+due_corrected : (delivers (following Libsrt) 0 (still 5_120_949 ∷ comes 3_300_000 5_000_000 6 0x62 ∷ second_second) ≡ []) ×
+    (delivers (following Libsrt) 0 (still 5_120_950 ∷ comes 3_300_000 5_000_000 6 0x62 ∷ second_second) ≡ (0x62 ∷ []) ∷ []) ×
+    (delivers (following Draft) 0 (still 5_120_000 ∷ comes 3_300_000 5_000_000 6 0x62 ∷ second_second) ≡ (0x62 ∷ []) ∷ [])
+unfolding in_window lift confirmed_by is_full_due acks_at naks reports deliveries sampled
+due_corrected = (refl, refl, refl)

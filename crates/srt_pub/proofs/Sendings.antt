@@ -4,16 +4,16 @@ use Rattle.std.specs.Prelude.{nat_le, nat_lt, ◌==◌}
 use Rattle.std.proofs.lemmas.Bool.{eqb-true}
 use Rattle.std.proofs.lemmas.Bool.Decides.{nat_tests}
 use Rattle.std.proofs.lemmas.List.{map-append}
-use Rattle.srt_seq.specs.Given.{given}
-use Rattle.srt_seq.specs.declared.numbers.Seq31.{Seq31}
+use Rattle.srt_types.specs.Given.{given}
+use Rattle.srt_types.specs.declared.numbers.Seq31.{Seq31}
 use Rattle.srt_loss.specs.Text.{range_of, loss_words}
 use Rattle.srt_packet.specs.declared.encoded.EncodedPacket.{EncodedPacket}
 use Rattle.srt_packet.specs.Encoded.{bytes_of}
 use Rattle.srt_recvbuf.specs.Receiving.{end_of, ack_point}
 use Rattle.srt_recvbuf.proofs.Points.{no_gaps}
-use Rattle.srt_rtt.specs.RoundTrip.{after_samples, nak_interval}
+use Rattle.srt_timing.specs.RoundTrip.{after_samples, nak_interval}
 use Rattle.srt_pub.specs.Publishing.{Note, Sent, Report, KeepAlive, Terms, Publishing, samples, last_nak_of_all, last_sent, noted, nak_with}
-use Rattle.srt_pub.specs.Publishing.{naks, naks_of, gaps_told, runs_said, is_nak_due, keep_alives, keep_alive_if, acks, reports}
+use Rattle.srt_pub.specs.Publishing.{naks, naks_of, gaps_reported, runs_said, is_nak_due, keep_alives, keep_alive_if, acks, reports}
 use Rattle.srt_pub.specs.Says.{says}
 use Rattle.srt_pub.specs.Calls.{texts, listed, keep_alive_after}
 use Rattle.srt_pub.proofs.Logs.{after_acks}
@@ -31,7 +31,7 @@ alive_not false true time notes a n e = cc
 alive_not false false time notes a n e = ap keep_alive_if e
 
 pub naks_by : (terms : Terms) (time : ℕ) (m : Publishing) (all : Bool)
-    → all ≡ is_nak_due terms.callers time m.notes → naks terms time m ≡ nak_with all (runs_said (gaps_told all terms.width m.seen m.receiving))
+    → all ≡ is_nak_due terms.callers time m.notes → naks terms time m ≡ nak_with all (runs_said (gaps_reported all terms.width m.seen m.receiving))
 unfolding naks
 naks_by terms time m all e = ap (λ (b : Bool). naks_of b terms.width m.seen m.receiving) (sym e)
 

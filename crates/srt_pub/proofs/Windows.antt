@@ -3,7 +3,7 @@ use Rattle.std.proofs.Common.{◌≡◌, inl, inr, ℕ, ◌+◌, ◌-◌, ◌%�
 use Rattle.std.specs.Prelude.{is_some, is_none, option_map}
 use Rattle.std.proofs.lemmas.Bool.{cases_lt, lt-ltb}
 use Rattle.std.proofs.lemmas.Bool.Decides.{nat_tests}
-use Rattle.srt_seq.specs.Window.{in_window, counted_from, number_word, offset_of}
+use Rattle.srt_types.specs.Window.{in_window, counted_from, number_word, offset_of}
 use Rattle.srt_recvbuf.specs.declared.buffer.RecvBuf.{RecvBuf}
 use Rattle.srt_recvbuf.specs.Receiving.{Receiving, is_waiting}
 use Rattle.srt_recvbuf.specs.OneByOne.{NothingBeyond}

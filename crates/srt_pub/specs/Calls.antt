@@ -1,8 +1,8 @@
 -- The results of one call of a publisher, and of a sequence of calls.
 use Rattle.std.specs.Prelude.{ℕ, zero, suc, ◌-◌, Option, None, Some, List, [], ◌∷◌, map, Bool, true, false, nat_le}
-use Rattle.srt_seq.specs.Limits.{keep_alive_after_us}
-use Rattle.srt_seq.specs.declared.shared.Mode.{Mode}
-use Rattle.srt_seq.specs.declared.shared.Mode.TheVariants.{Live, Buffer}
+use Rattle.srt_types.specs.Limits.{keep_alive_after_us}
+use Rattle.srt_types.specs.declared.shared.Mode.{Mode}
+use Rattle.srt_types.specs.declared.shared.Mode.TheVariants.{Live, Buffer}
 use Rattle.srt_packet.specs.Grammar.{Body, Shutdown}
 use Rattle.srt_packet.specs.declared.encoded.EncodedPacket.{EncodedPacket}
 use Rattle.srt_packet.specs.Encoded.{bytes_of}

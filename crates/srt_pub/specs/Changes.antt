@@ -1,18 +1,19 @@
 -- The forms of the publisher's clauses: how a call changes the session that it represents, which facts hold of the
 -- session, and which packets are written.
 use Rattle.std.specs.Prelude.{◌≡◌, ℕ, ◌+◌, ◌<◌, ◌≤◌, ℤ, pos, ◌+ℤ◌, Bool, true, false, Option, List, map, length, IfSome}
-use Rattle.srt_seq.specs.Window.{word_of, counted_from, number_word}
-use Rattle.srt_seq.specs.Lift.{stamped_from}
-use Rattle.srt_seq.specs.declared.shared.Mode.TheVariants.{Live}
-use Rattle.srt_seq.specs.declared.numbers.Seq31.{Seq31}
-use Rattle.srt_seq.specs.Runs.{Range, range_from}
+use Rattle.srt_types.specs.Window.{word_of, counted_from, number_word}
+use Rattle.srt_types.specs.Lift.{stamped_from}
+use Rattle.srt_types.specs.declared.shared.Mode.TheVariants.{Live}
+use Rattle.srt_types.specs.declared.numbers.Seq31.{Seq31}
+use Rattle.srt_types.specs.Runs.{Range, range_from}
 use Rattle.srt_packet.specs.declared.encoded.EncodedPacket.{EncodedPacket}
 use Rattle.srt_packet.specs.Encoded.{bytes_of, IsPacketText}
 use Rattle.srt_recvbuf.specs.Receiving.{Receiving, ack_point, next_due, requested}
 use Rattle.srt_recvbuf.specs.Stands.{run_words}
 use Rattle.srt_pub.specs.Heard.{Heard}
 use Rattle.srt_pub.specs.Heard.Heard.{Data}
-use Rattle.srt_pub.specs.Publishing.{Terms, Publishing, Report, opened, noted, runs_said, gaps_told, due_in, took, with_data, loses_window}
+use Rattle.srt_pub.specs.Publishing.{Terms, Publishing, Report, opened, noted, runs_said, gaps_reported}
+use Rattle.srt_pub.specs.Publishing.{due_in, took, with_data, loses_window, confirmed_at, confirmed_by}
 use Rattle.srt_pub.specs.Says.{says}
 use Rattle.srt_pub.specs.Calls.{lost_if, texts, next_delivery}
 use Rattle.srt_pub.specs.Counting.{Passes}
@@ -106,7 +107,7 @@ with_sent time reports m = record m { notes = noted time reports m.notes }
 
 -- the runs that a NAK reports, as pairs of sequence numbers: of all gaps or of new ones
 abbrev pub nak_words : (all : Bool) → Terms → (initial : ℕ) → Publishing → List (ℕ × ℕ)
-nak_words all terms initial m = map (run_words initial) (runs_said (gaps_told all terms.width m.seen m.receiving))
+nak_words all terms initial m = map (run_words initial) (runs_said (gaps_reported all terms.width m.seen m.receiving))
 
 -- a packet that was written is a valid packet
 abbrev pub IsPacketIf : (written : Bool) → EncodedPacket → Type 0
@@ -116,11 +117,17 @@ IsPacketIf written packet = written ≡ true → IsPacketText (bytes_of packet)
 abbrev pub KeptIfNot : (written : Bool) → (old new : EncodedPacket) → Type 0
 KeptIfNot written old new = written ≡ false → new ≡ old
 
--- `due` is the due time of a packet with this timestamp that arrives at `now`, on the route's clock
-abbrev pub IsDueTime : Agreed → (stamp now : ℕ) → (due : ℤ) → Type 0
-IsDueTime agreed stamp now due =
+-- with this correction, `due` is the due time of a packet with this timestamp that arrives at `now`, on the route's clock
+abbrev pub IsDueTime : Agreed → (correction : ℤ) → (stamp now : ℕ) → (due : ℤ) → Type 0
+IsDueTime agreed correction stamp now due =
     (terms : Terms) (time : ℕ) → agreed.mode ≡ terms.mode → agreed.delay ≡ terms.delay → now ≡ agreed.opening + time
-    → due ≡ pos agreed.opening +ℤ due_in terms.mode terms time (stamped_from agreed.first.word stamp)
+    → due ≡ pos agreed.opening +ℤ due_in terms.mode terms correction time (stamped_from agreed.first.word stamp)
+
+-- an ACKACK with this number and timestamp arrives at the clock's time `now`
+abbrev pub ConfirmsAt : (now stamp number : ℕ) → (old new : Publisher) → Type 0
+ConfirmsAt now stamp number old new =
+    (terms : Terms) (initial opening begun caller time : ℕ) (m : Publishing) → now ≡ opening + time → StandsFor terms initial opening begun caller old m
+    → StandsFor terms initial opening begun caller new (confirmed_at time (stamped_from begun stamp) (confirmed_by number m.notes) m)
 
 -- in live mode, the numbers from `first` to `last` are dropped
 abbrev pub DropsInLiveMode : (first last : ℕ) → (old new : Publisher) → Type 0

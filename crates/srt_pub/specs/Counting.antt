@@ -1,14 +1,14 @@
 -- The counters of a publisher's session, as functions of everything that it received and sent.
-use Rattle.std.specs.Prelude.{◌≡◌, ℕ, zero, suc, ◌+◌, ◌-◌, ◌^◌, ◌≤◌, Bool, true, false, List, [], ◌∷◌, length, min, is_some, ◌==◌, if◌then◌else◌}
+use Rattle.std.specs.Prelude.{◌≡◌, ℕ, zero, suc, ◌+◌, ◌-◌, ◌≤◌, Bool, true, false, List, [], ◌∷◌, length, is_some, ◌==◌, if◌then◌else◌}
 use Rattle.std.specs.List.{sum_by}
-pub use Rattle.srt_seq.specs.Capped.{capped, one_if}
-use Rattle.srt_seq.specs.Window.{word_of, offset_of}
-use Rattle.srt_seq.specs.Runs.{Run}
-use Rattle.srt_seq.specs.declared.numbers.Seq31.{Seq31}
+pub use Rattle.srt_types.specs.Capped.{capped, one_if}
+use Rattle.srt_types.specs.Window.{word_of, offset_of}
+use Rattle.srt_types.specs.Runs.{Run}
+use Rattle.srt_types.specs.declared.numbers.Seq31.{Seq31}
 use Rattle.srt_recvbuf.specs.Receiving.{Arrival, Receiving, arrival_of}
 use Rattle.srt_recvbuf.specs.declared.buffer.Put.{Put}
 use Rattle.srt_recvbuf.specs.declared.buffer.Put.TheVariants.{New, Repeat, Outside}
-use Rattle.srt_pub.specs.Publishing.{Note, Came, Sent, Confirmed, Report, FullAck, NakOfAll, NakOfNew}
+use Rattle.srt_pub.specs.Publishing.{Note, Arrived, Sent, Confirmed, Report, FullAck, NakOfAll, NakOfNew}
 use Rattle.srt_pub.specs.declared.counts.Counts.{Counts}
 use Rattle.srt_pub.specs.declared.region.Region.{Region}
 use Rattle.srt_pub.specs.declared.region.Region.TheVariants.{Inside, Ahead, Late}
@@ -28,11 +28,11 @@ abbrev pub delivered_in : Receiving → ℕ
 delivered_in r = received_below r.arrivals r.front
 
 -- the number of unencrypted data packets that arrived, with any number
-abbrev pub came_in : List Note → ℕ
-came_in [] = 0
-came_in (Came time region put ∷ notes) = came_in notes + 1
-came_in (Sent time report ∷ notes) = came_in notes
-came_in (Confirmed full sample ∷ notes) = came_in notes
+abbrev pub arrived_in : List Note → ℕ
+arrived_in [] = 0
+arrived_in (Arrived time region put ∷ notes) = arrived_in notes + 1
+arrived_in (Sent time report ∷ notes) = arrived_in notes
+arrived_in (Confirmed time stamp full sample ∷ notes) = arrived_in notes
 
 abbrev pub is_late : Region → Bool
 is_late Late = true
@@ -47,15 +47,15 @@ is_ahead Late = false
 -- the number of arrivals that were too late, and below it the number of arrivals ahead of the window
 abbrev pub late_in : List Note → ℕ
 late_in [] = 0
-late_in (Came time region put ∷ notes) = late_in notes + one_if (is_late region)
+late_in (Arrived time region put ∷ notes) = late_in notes + one_if (is_late region)
 late_in (Sent time report ∷ notes) = late_in notes
-late_in (Confirmed full sample ∷ notes) = late_in notes
+late_in (Confirmed time stamp full sample ∷ notes) = late_in notes
 
 abbrev pub ahead_in : List Note → ℕ
 ahead_in [] = 0
-ahead_in (Came time region put ∷ notes) = ahead_in notes + one_if (is_ahead region)
+ahead_in (Arrived time region put ∷ notes) = ahead_in notes + one_if (is_ahead region)
 ahead_in (Sent time report ∷ notes) = ahead_in notes
-ahead_in (Confirmed full sample ∷ notes) = ahead_in notes
+ahead_in (Confirmed time stamp full sample ∷ notes) = ahead_in notes
 
 abbrev pub is_nak : Report → Bool
 is_nak (NakOfAll runs) = true
@@ -65,9 +65,9 @@ is_nak _ = false
 -- the number of NAKs that were sent
 abbrev pub naks_in : List Note → ℕ
 naks_in [] = 0
-naks_in (Came time region put ∷ notes) = naks_in notes
+naks_in (Arrived time region put ∷ notes) = naks_in notes
 naks_in (Sent time report ∷ notes) = if is_nak report then naks_in notes + 1 else naks_in notes
-naks_in (Confirmed full sample ∷ notes) = naks_in notes
+naks_in (Confirmed time stamp full sample ∷ notes) = naks_in notes
 
 -- the number of numbers in runs
 abbrev pub numbers_in : List Run → ℕ
@@ -89,9 +89,9 @@ reported_by _ = 0
 -- the number of numbers that all NAKs reported as lost; a number is counted once for each NAK that reported it
 abbrev pub reported_lost_in : List Note → ℕ
 reported_lost_in [] = 0
-reported_lost_in (Came time region put ∷ notes) = reported_lost_in notes
+reported_lost_in (Arrived time region put ∷ notes) = reported_lost_in notes
 reported_lost_in (Sent time report ∷ notes) = reported_lost_in notes + reported_by report
-reported_lost_in (Confirmed full sample ∷ notes) = reported_lost_in notes
+reported_lost_in (Confirmed time stamp full sample ∷ notes) = reported_lost_in notes
 
 -- whether a packet is a Full ACK that reports no available place
 abbrev pub is_of_full_window : Report → Bool
@@ -101,16 +101,16 @@ is_of_full_window _ = false
 -- the number of such Full ACKs that were sent
 abbrev pub full_windows_in : List Note → ℕ
 full_windows_in [] = 0
-full_windows_in (Came time region put ∷ notes) = full_windows_in notes
+full_windows_in (Arrived time region put ∷ notes) = full_windows_in notes
 full_windows_in (Sent time report ∷ notes) = full_windows_in notes + one_if (is_of_full_window report)
-full_windows_in (Confirmed full sample ∷ notes) = full_windows_in notes
+full_windows_in (Confirmed time stamp full sample ∷ notes) = full_windows_in notes
 
 -- the counters of a session with these arrivals, `delivered` packets delivered, this front, and these notes. The
 -- numbers below the front that weren't delivered were given up
 abbrev pub counts_of : List Arrival → (delivered front : ℕ) → List Note → Counts
 counts_of arrivals delivered front notes =
     record {
-      came = capped (came_in notes);
+      arrived = capped (arrived_in notes);
       late = capped (late_in notes);
       ahead = capped (ahead_in notes);
       received = capped (length arrivals);
@@ -132,9 +132,9 @@ pub record Passes (is_due : Bool) (r s : Receiving) : Type 0 where
 
 -- the counters after the arrival of an unencrypted data packet in this region
 abbrev pub with_one : Region → Counts → Counts
-with_one Inside c = record c { came = capped (c.came + 1) }
-with_one Ahead c = record c { came = capped (c.came + 1); ahead = capped (c.ahead + 1) }
-with_one Late c = record c { came = capped (c.came + 1); late = capped (c.late + 1) }
+with_one Inside c = record c { arrived = capped (c.arrived + 1) }
+with_one Ahead c = record c { arrived = capped (c.arrived + 1); ahead = capped (c.ahead + 1) }
+with_one Late c = record c { arrived = capped (c.arrived + 1); late = capped (c.late + 1) }
 
 -- the counters after a packet with a payload of this length was put into the window
 abbrev pub with_put : Put → (length : ℕ) → Counts → Counts

@@ -1,7 +1,7 @@
 -- A packet as a publisher's session processes it, its sequence numbers counted from the session's initial one.
 use Rattle.std.specs.Prelude.{ℕ, List}
-use Rattle.srt_seq.specs.Window.{counted_from}
-use Rattle.srt_seq.specs.Runs.{Range, range_from}
+use Rattle.srt_types.specs.Window.{counted_from}
+use Rattle.srt_types.specs.Runs.{Range, range_from}
 use Rattle.srt_packet.specs.Grammar as grammar
 
 -- a data packet, an ACKACK, a drop request, or another kind

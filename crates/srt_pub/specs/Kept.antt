@@ -1,11 +1,14 @@
 -- How a session's fields represent its notes: the ACKs, the measured rates, and the rest.
 use Rattle.std.specs.Prelude.{◌≡◌, ℕ, ◌+◌, ◌-◌, ◌%◌, ◌<◌, ◌≤◌, min, Bool, false, nat_lt, Option, None, Some, List, length, map, slice_get}
-use Rattle.std.specs.Prelude.{slice_index_or}
-use Rattle.srt_rtt.specs.Book as book
-use Rattle.srt_rtt.specs.RoundTrip as times
-use Rattle.srt_rtt.specs.declared.round_trip.Rtt.{Rtt}
-use Rattle.srt_pub.specs.Publishing.{Terms, Full, Note, fulls, is_confirmed, latest_confirmed, says_pair, is_known, came_since_ack, time_of}
-use Rattle.srt_pub.specs.Publishing.{samples, last_sent, last_nak_of_all, last_came, received_at, rating, round_trip}
+use Rattle.std.specs.Prelude.{slice_index_or, option_map}
+use Rattle.srt_timing.specs.Book as book
+use Rattle.srt_timing.specs.RoundTrip as times
+use Rattle.srt_timing.specs.declared.round_trip.Rtt.{Rtt}
+use Rattle.srt_timing.specs.Drift as clocks
+use Rattle.srt_timing.specs.declared.clock.Clock.{Clock}
+use Rattle.srt_timing.specs.declared.drift.Drift.{Drift}
+use Rattle.srt_pub.specs.Publishing.{Terms, Full, Note, fulls, is_confirmed, latest_confirmed, says_pair, is_known, arrived_since_ack, time_of}
+use Rattle.srt_pub.specs.Publishing.{samples, last_sent, last_nak_of_all, last_arrival, received_at, rating, round_trip, clock_of}
 use Rattle.srt_pub.specs.declared.acknowledgements.Acks.{Acks}
 use Rattle.srt_pub.specs.declared.log.Log.{Log}
 use Rattle.srt_pub.specs.declared.rates.Meter.{Meter}
@@ -39,18 +42,18 @@ pub record AreConfirmed (notes : List Note) : Type 0 where
 
 -- the fields have the values that the notes define: whether the current pair is confirmed, how many of the last 64
 -- Full ACKs reported it, the time of the last Full ACK, and the number of data packets since the last ACK, at most 64
-pub record AreAcks (width front point : ℕ) (notes : List Note) (known : Bool) (same last came : ℕ) : Type 0 where
+pub record AreAcks (width front point : ℕ) (notes : List Note) (known : Bool) (same last arrived : ℕ) : Type 0 where
   pub inside : point ≤ front + width
   pub sent : AreFulls width front point (fulls notes)
   pub confirmed : AreConfirmed notes
   pub known_is : known ≡ is_known width point (front + width - point) (latest_confirmed notes)
   pub same_is : (d : ℕ) (f : Full) → d < 64 → slice_get (fulls notes) d ≡ Some f → nat_lt d same ≡ says_pair point (front + width - point) f
   pub last_is : last ≡ time_of (fulls notes)
-  pub came_is : came ≡ min (came_since_ack notes) 64
+  pub arrived_is : arrived ≡ min (arrived_since_ack notes) 64
 
 -- the fields represent the ACKs of these notes, for a window of this width at this front and acknowledgement point
 abbrev pub AcksStandFor : (width front point : ℕ) → Acks → List Note → Type 0
-AcksStandFor width front point a notes = book.StandsFor a.book (book_of notes) × AreAcks width front point notes a.known a.same a.last a.came
+AcksStandFor width front point a notes = book.StandsFor a.book (book_of notes) × AreAcks width front point notes a.known a.same a.last a.arrived
 
 -- a ring stores the last 17 of these times, the newest at the index before `at`
 pub record AreLatest (at : ℕ) (kept : List (Option ℕ)) (times : List ℕ) : Type 0 where
@@ -69,14 +72,19 @@ Measures terms meter notes = MeterStandsFor (rating terms.mode terms.callers) me
 abbrev pub IsRoundTrip : Terms → Rtt → List Note → Type 0
 IsRoundTrip terms rtt notes = times.round_trip_of rtt ≡ round_trip terms.callers notes
 
+-- the sender's clock, if it is followed
+abbrev pub clock_in : Option Drift → Option Clock
+clock_in drift = option_map clocks.clock_of drift
+
 -- the fields represent these notes: the ACKs, the round trips, the times at which data packets were received, and the
--- times of the last data packet, of the last NAK of all gaps and of the last packet sent. `seen` is the end of the
--- received numbers at the end of the previous event
+-- times of the last data packet, of the last NAK of all gaps and of the last packet sent, and the sender's clock. `seen`
+-- is the end of the received numbers at the end of the previous event
 pub record LogStandsFor (terms : Terms) (front point : ℕ) (log : Log) (notes : List Note) (seen : ℕ) : Type 0 where
   pub acks : AcksStandFor terms.width front point log.acks notes
   pub times : times.StandsFor terms.callers log.rtt (samples notes)
   pub rates : Measures terms log.meter notes
-  pub came_is : log.came ≡ last_came notes
+  pub arrived_is : log.arrived ≡ last_arrival notes
   pub nak_is : log.nak ≡ last_nak_of_all notes
   pub sent_is : log.sent ≡ last_sent notes
   pub seen_is : log.seen ≡ seen - front
+  pub clock_is : clock_in log.drift ≡ clock_of terms notes

@@ -3,17 +3,19 @@
 -- first.
 use Rattle.std.specs.Prelude.{ℕ, zero, suc, ◌+◌, ◌-◌, ◌*◌, ◌/◌, ◌^◌, ℤ, pos, Bool, true, false, Option, None, Some, List, [], ◌∷◌, ◌++◌, find, take, max}
 use Rattle.std.specs.Prelude.{min, length, not, is_none, is_some, nat_lt, nat_le, slice_get, ◌==◌, ◌&&◌, ◌||◌, if◌then◌else◌}
-use Rattle.srt_seq.specs.Limits.{full_ack_interval_us, keep_alive_after_us, light_ack_packets}
-use Rattle.srt_seq.specs.declared.shared.Mode.{Mode}
-use Rattle.srt_seq.specs.declared.shared.Mode.TheVariants.{Live, Buffer}
-use Rattle.srt_seq.specs.declared.shared.Callers.{Callers}
-use Rattle.srt_seq.specs.declared.shared.Callers.TheVariants.{Draft, Libsrt}
-use Rattle.srt_seq.specs.Window.{in_window}
-use Rattle.srt_seq.specs.Capped.{one_if}
-use Rattle.srt_seq.specs.Runs.{Range, Run, runs}
-use Rattle.srt_seq.specs.Counts.{ack_number}
-use Rattle.srt_tsbpd.specs.Deadline.{due_time}
-use Rattle.srt_rtt.specs.RoundTrip.{RoundTrip, after_samples, nak_interval}
+use Rattle.srt_types.specs.Limits.{full_ack_interval_us, keep_alive_after_us, light_ack_packets}
+use Rattle.srt_types.specs.declared.shared.Mode.{Mode}
+use Rattle.srt_types.specs.declared.shared.Mode.TheVariants.{Live, Buffer}
+use Rattle.srt_types.specs.declared.shared.Callers.{Callers}
+use Rattle.srt_types.specs.declared.shared.Callers.TheVariants.{Draft, Libsrt}
+use Rattle.srt_types.specs.Window.{in_window}
+use Rattle.srt_types.specs.Capped.{one_if}
+use Rattle.srt_types.specs.Runs.{Range, Run, runs}
+use Rattle.srt_types.specs.Counts.{ack_number}
+use Rattle.srt_timing.specs.Deadline.{due_time}
+use Rattle.srt_timing.specs.Clock.{Sample, clock_after}
+use Rattle.srt_timing.specs.declared.clock.Clock.{Clock}
+use Rattle.srt_timing.specs.RoundTrip.{RoundTrip, after_samples, nak_interval}
 use Rattle.srt_recvbuf.specs.Receiving.{Arrival, Receiving, nothing_yet, end_of, gaps, gaps_from, ack_point, available, is_received, is_waiting}
 use Rattle.srt_recvbuf.specs.Receiving.{deliverable, in_order, passed, received, requested, put_of}
 use Rattle.srt_recvbuf.specs.declared.buffer.Put.{Put}
@@ -55,11 +57,11 @@ pub data Report : Type 0 where
 pub data Note : Type 0 where
   -- an unencrypted data packet arrived at this time; its number is in this region, and `put` is the buffer's result
   -- for it
-  Came : (time : ℕ) (region : Region) (put : Put) → Note
+  Arrived : (time : ℕ) (region : Region) (put : Put) → Note
   -- a packet was sent
   Sent : (time : ℕ) (report : Report) → Note
-  -- a Full ACK was confirmed, with this sample of the round-trip time
-  Confirmed : (full : Full) (sample : ℕ) → Note
+  -- an ACKACK with this timestamp confirmed a Full ACK, with this sample of the round-trip time
+  Confirmed : (time stamp : ℕ) (full : Full) (sample : ℕ) → Note
 
 -- everything received, all notes, and the end of the received numbers at the end of the previous event
 pub record Publishing : Type 0 where
@@ -71,21 +73,51 @@ pub record Publishing : Type 0 where
 abbrev pub opened : Publishing
 opened = record { receiving = nothing_yet; notes = []; seen = 0 }
 
--- the due time of a packet with this timestamp: in buffer mode at once
-abbrev pub due_in : Mode → Terms → (time stamp : ℕ) → ℤ
-due_in Live terms time stamp = due_time terms.delay time stamp
-due_in Buffer terms time stamp = pos 0
-
 -- the samples of confirmed Full ACKs (section 4.10)
 abbrev pub samples : List Note → List ℕ
 samples [] = []
-samples (Came time region put ∷ notes) = samples notes
+samples (Arrived time region put ∷ notes) = samples notes
 samples (Sent time report ∷ notes) = samples notes
-samples (Confirmed full sample ∷ notes) = sample ∷ samples notes
+samples (Confirmed time stamp full sample ∷ notes) = sample ∷ samples notes
 
 -- the smoothed round-trip time and its variance (section 4.10)
 abbrev pub round_trip : Callers → List Note → RoundTrip
 round_trip callers notes = after_samples callers (samples notes)
+
+-- whether a session follows its sender's clock: only in live mode, with callers that use libsrt (section 4.7; that
+-- others are taken to have no drift is our choice)
+abbrev pub follows : Mode → Callers → Bool
+follows Buffer callers = false
+follows Live Draft = false
+follows Live Libsrt = true
+
+-- the samples of the sender's clock: the ACKACKs that confirmed a Full ACK
+abbrev pub clock_samples : List Note → List Sample
+clock_samples [] = []
+clock_samples (Arrived time region put ∷ notes) = clock_samples notes
+clock_samples (Sent time report ∷ notes) = clock_samples notes
+clock_samples (Confirmed time stamp full sample ∷ notes) = record { time = time; stamp = stamp; round_trip = sample } ∷ clock_samples notes
+
+-- the sender's clock; None if it isn't followed
+abbrev pub clock_if : (followed : Bool) → List Sample → Option Clock
+clock_if true samples = Some (clock_after samples)
+clock_if false samples = None
+
+abbrev pub clock_of : Terms → List Note → Option Clock
+clock_of terms notes = clock_if (follows terms.mode terms.callers) (clock_samples notes)
+
+-- by how much the sender's clock is slow since the opening; 0 if it isn't followed
+abbrev pub correction_in : Option Clock → ℤ
+correction_in None = pos 0
+correction_in (Some clock) = clock.correction
+
+abbrev pub correction_of : Terms → List Note → ℤ
+correction_of terms notes = correction_in (clock_of terms notes)
+
+-- the due time of a packet with this timestamp that arrives at this time: in buffer mode at once
+abbrev pub due_in : Mode → Terms → (correction : ℤ) → (time stamp : ℕ) → ℤ
+due_in Live terms correction time stamp = due_time terms.delay correction time stamp
+due_in Buffer terms correction time stamp = pos 0
 
 abbrev pub full_of : (time : ℕ) → Report → List Full
 full_of time (FullAck index point rtt variance available rates) = record { index = index; time = time; point = point; available = available } ∷ []
@@ -94,16 +126,16 @@ full_of time _ = []
 -- the Full ACKs that were sent
 abbrev pub fulls : List Note → List Full
 fulls [] = []
-fulls (Came time region put ∷ notes) = fulls notes
+fulls (Arrived time region put ∷ notes) = fulls notes
 fulls (Sent time report ∷ notes) = full_of time report ++ fulls notes
-fulls (Confirmed full sample ∷ notes) = fulls notes
+fulls (Confirmed time stamp full sample ∷ notes) = fulls notes
 
 -- whether the Full ACK with this index was confirmed
 abbrev pub is_confirmed : List Note → (index : ℕ) → Bool
 is_confirmed [] index = false
-is_confirmed (Came time region put ∷ notes) index = is_confirmed notes index
+is_confirmed (Arrived time region put ∷ notes) index = is_confirmed notes index
 is_confirmed (Sent time report ∷ notes) index = is_confirmed notes index
-is_confirmed (Confirmed full sample ∷ notes) index = full.index == index || is_confirmed notes index
+is_confirmed (Confirmed time stamp full sample ∷ notes) index = full.index == index || is_confirmed notes index
 
 -- whether an ACKACK with this number confirms this Full ACK: it has this number and isn't confirmed yet
 abbrev pub answers : (number : ℕ) → List Note → Full → Bool
@@ -122,9 +154,9 @@ later_of full (Some other) = if nat_lt full.index other.index then Some other el
 -- of all confirmed Full ACKs, the one that was sent last
 abbrev pub latest_confirmed : List Note → Option Full
 latest_confirmed [] = None
-latest_confirmed (Came time region put ∷ notes) = latest_confirmed notes
+latest_confirmed (Arrived time region put ∷ notes) = latest_confirmed notes
 latest_confirmed (Sent time report ∷ notes) = latest_confirmed notes
-latest_confirmed (Confirmed full sample ∷ notes) = later_of full (latest_confirmed notes)
+latest_confirmed (Confirmed time stamp full sample ∷ notes) = later_of full (latest_confirmed notes)
 
 -- whether a Full ACK reported this acknowledgement point and this available buffer size
 abbrev pub says_pair : (point room : ℕ) → Full → Bool
@@ -142,11 +174,11 @@ is_ack (LightAck point) = true
 is_ack _ = false
 
 -- the number of data packets since the last ACK of either kind (section 4.8.1)
-abbrev pub came_since_ack : List Note → ℕ
-came_since_ack [] = 0
-came_since_ack (Came time region put ∷ notes) = came_since_ack notes + 1
-came_since_ack (Sent time report ∷ notes) = if is_ack report then 0 else came_since_ack notes
-came_since_ack (Confirmed full sample ∷ notes) = came_since_ack notes
+abbrev pub arrived_since_ack : List Note → ℕ
+arrived_since_ack [] = 0
+arrived_since_ack (Arrived time region put ∷ notes) = arrived_since_ack notes + 1
+arrived_since_ack (Sent time report ∷ notes) = if is_ack report then 0 else arrived_since_ack notes
+arrived_since_ack (Confirmed time stamp full sample ∷ notes) = arrived_since_ack notes
 
 -- the time of the last Full ACK; 0, the opening, without one
 abbrev pub time_of : List Full → ℕ
@@ -160,22 +192,22 @@ is_nak_of_all _ = false
 -- the time of the last packet sent, and below it the time of the last NAK of all gaps; 0, the opening, without one
 abbrev pub last_sent : List Note → ℕ
 last_sent [] = 0
-last_sent (Came time region put ∷ notes) = last_sent notes
+last_sent (Arrived time region put ∷ notes) = last_sent notes
 last_sent (Sent time report ∷ notes) = time
-last_sent (Confirmed full sample ∷ notes) = last_sent notes
+last_sent (Confirmed time stamp full sample ∷ notes) = last_sent notes
 
 abbrev pub last_nak_of_all : List Note → ℕ
 last_nak_of_all [] = 0
-last_nak_of_all (Came time region put ∷ notes) = last_nak_of_all notes
+last_nak_of_all (Arrived time region put ∷ notes) = last_nak_of_all notes
 last_nak_of_all (Sent time report ∷ notes) = if is_nak_of_all report then time else last_nak_of_all notes
-last_nak_of_all (Confirmed full sample ∷ notes) = last_nak_of_all notes
+last_nak_of_all (Confirmed time stamp full sample ∷ notes) = last_nak_of_all notes
 
 -- the time of the last unencrypted data packet; 0, the opening, without one
-abbrev pub last_came : List Note → ℕ
-last_came [] = 0
-last_came (Came time region put ∷ notes) = time
-last_came (Sent time report ∷ notes) = last_came notes
-last_came (Confirmed full sample ∷ notes) = last_came notes
+abbrev pub last_arrival : List Note → ℕ
+last_arrival [] = 0
+last_arrival (Arrived time region put ∷ notes) = time
+last_arrival (Sent time report ∷ notes) = last_arrival notes
+last_arrival (Confirmed time stamp full sample ∷ notes) = last_arrival notes
 
 -- the times with the time of this data packet, if it was the first copy of its number
 abbrev pub if_new : Put → (time : ℕ) → List ℕ → List ℕ
@@ -186,9 +218,9 @@ if_new Outside time times = times
 -- the times at which data packets were received: the first copy of each number only
 abbrev pub received_at : List Note → List ℕ
 received_at [] = []
-received_at (Came time region put ∷ notes) = if_new put time (received_at notes)
+received_at (Arrived time region put ∷ notes) = if_new put time (received_at notes)
 received_at (Sent time report ∷ notes) = received_at notes
-received_at (Confirmed full sample ∷ notes) = received_at notes
+received_at (Confirmed time stamp full sample ∷ notes) = received_at notes
 
 -- the time between two packets; a second if one of them is missing (our choice, as in libsrt)
 abbrev pub time_between : (later earlier : Option ℕ) → ℕ
@@ -257,7 +289,7 @@ is_full_due width point room time notes = nat_le full_ack_interval_us (time - ti
 
 -- whether a Light ACK is due: after 64 data packets (section 4.8.1)
 abbrev pub is_light_due : List Note → Bool
-is_light_due notes = nat_le light_ack_packets (came_since_ack notes)
+is_light_due notes = nat_le light_ack_packets (arrived_since_ack notes)
 
 -- the Full ACK of the current state
 abbrev pub full_ack : Terms → (point room : ℕ) → List Note → Report
@@ -296,12 +328,12 @@ is_nak_due callers time notes = nat_le (nak_interval (round_trip callers notes))
 
 -- the gaps that a NAK reports: all gaps at each interval, else those above the numbers received before this event
 -- (section 4.8.2)
-abbrev pub gaps_told : (all : Bool) → (width seen : ℕ) → Receiving → List ℕ
-gaps_told true width seen r = gaps width r
-gaps_told false width seen r = gaps_from width (max seen r.front) r
+abbrev pub gaps_reported : (all : Bool) → (width seen : ℕ) → Receiving → List ℕ
+gaps_reported true width seen r = gaps width r
+gaps_reported false width seen r = gaps_from width (max seen r.front) r
 
 abbrev pub naks_of : (all : Bool) → (width seen : ℕ) → Receiving → List Report
-naks_of all width seen r = nak_with all (runs_said (gaps_told all width seen r))
+naks_of all width seen r = nak_with all (runs_said (gaps_reported all width seen r))
 
 -- the NAK that is due in a session, if any
 unfoldable pub naks : Terms → (time : ℕ) → Publishing → List Report
@@ -347,13 +379,13 @@ delivered terms time room p = record p { receiving = passed terms.width (deliver
 abbrev pub sample_of : (time : ℕ) → Full → ℕ
 sample_of time full = min (time - full.time) 10_000_000
 
-abbrev pub confirmed_notes : (time : ℕ) → Option Full → List Note → List Note
-confirmed_notes time None notes = notes
-confirmed_notes time (Some full) notes = Confirmed full (sample_of time full) ∷ notes
+abbrev pub confirmed_notes : (time stamp : ℕ) → Option Full → List Note → List Note
+confirmed_notes time stamp None notes = notes
+confirmed_notes time stamp (Some full) notes = Confirmed time stamp full (sample_of time full) ∷ notes
 
--- the session after an ACKACK; None means that it confirms no Full ACK
-abbrev pub confirmed_at : (time : ℕ) → Option Full → Publishing → Publishing
-confirmed_at time full p = record p { notes = confirmed_notes time full p.notes }
+-- the session after an ACKACK with this timestamp; None means that it confirms no Full ACK
+abbrev pub confirmed_at : (time stamp : ℕ) → Option Full → Publishing → Publishing
+confirmed_at time stamp full p = record p { notes = confirmed_notes time stamp full p.notes }
 
 -- the region of a data packet's number: in the window, ahead of it by fewer than 2^30, or neither
 unfoldable pub region_in : (width number : ℕ) → Receiving → Region
@@ -366,8 +398,8 @@ region_in width number r =
 abbrev pub with_data : Terms → (time stamp number : ℕ) → List ℕ → Publishing → Publishing
 with_data terms time stamp number payload p =
     record {
-      receiving = received terms.width number payload (due_in terms.mode terms time stamp) p.receiving;
-      notes = Came time (region_in terms.width number p.receiving) (put_of (in_window number p.receiving.front terms.width) p.receiving) ∷ p.notes;
+      receiving = received terms.width number payload (due_in terms.mode terms (correction_of terms p.notes) time stamp) p.receiving;
+      notes = Arrived time (region_in terms.width number p.receiving) (put_of (in_window number p.receiving.front terms.width) p.receiving) ∷ p.notes;
       seen = p.seen;
     }
 
@@ -379,7 +411,7 @@ with_request Buffer terms range p = p
 -- the session after a packet; an encrypted data packet changes nothing
 abbrev pub took : Terms → (time stamp : ℕ) → Heard → Publishing → Publishing
 took terms time stamp (Data number encryption payload) p = if encryption == 0 then with_data terms time stamp number payload p else p
-took terms time stamp (AckAck number) p = confirmed_at time (confirmed_by number p.notes) p
+took terms time stamp (AckAck number) p = confirmed_at time stamp (confirmed_by number p.notes) p
 took terms time stamp (DropRequest range) p = with_request terms.mode terms range p
 took terms time stamp Other p = p
 

@@ -1,12 +1,12 @@
 -- The bytes of the packets that a session sends (sections 3.2.3 to 3.2.5).
 use Rattle.std.specs.Prelude.{ℕ, ◌%◌, ◌^◌, List, [], ◌∷◌, map}
-use Rattle.srt_seq.specs.Counts.{ack_number}
-use Rattle.srt_seq.specs.Runs.{Range, Run}
+use Rattle.srt_types.specs.Counts.{ack_number}
+use Rattle.srt_types.specs.Runs.{Range, Run}
 use Rattle.srt_loss.specs.Text.{loss_words}
 use Rattle.srt_packet.specs.declared.writing.Body.{Body}
-use Rattle.srt_seq.specs.Words.{words}
+use Rattle.srt_types.specs.Words.{words}
 use Rattle.srt_packet.specs.Text.{text}
-use Rattle.srt_seq.specs.Window.{number_word}
+use Rattle.srt_types.specs.Window.{number_word}
 use Rattle.srt_pub.specs.Publishing.{Report, FullAck, LightAck, NakOfAll, NakOfNew, KeepAlive}
 
 -- the sequence numbers of a run's first and last number

@@ -1,6 +1,6 @@
 -- The packets of an event, in the order in which they are sent.
 use Rattle.std.specs.Prelude.{List, ◌++◌}
-use Rattle.srt_seq.specs.Given.{given}
+use Rattle.srt_types.specs.Given.{given}
 use Rattle.srt_packet.specs.declared.encoded.EncodedPacket.{EncodedPacket}
 use Rattle.srt_pub.specs.Calls.{listed}
 use Rattle.srt_pub.specs.declared.reports.Reports.{Reports}

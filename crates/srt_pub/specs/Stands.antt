@@ -1,7 +1,7 @@
 -- Which session a publisher's fields represent.
 use Rattle.std.specs.Prelude.{◌≡◌, ℕ, ◌+◌, ◌^◌, ◌<◌, ◌≤◌, ⊤, pos, false, List, [], ◌∷◌, length}
-use Rattle.srt_seq.specs.declared.shared.Mode.{Mode}
-use Rattle.srt_seq.specs.declared.shared.Mode.TheVariants.{Live, Buffer}
+use Rattle.srt_types.specs.declared.shared.Mode.{Mode}
+use Rattle.srt_types.specs.declared.shared.Mode.TheVariants.{Live, Buffer}
 use Rattle.srt_recvbuf.specs.Receiving.{Arrival, Request, Receiving, is_dropped, end_of, ack_point}
 use Rattle.srt_recvbuf.specs.Stands as buffers
 use Rattle.srt_pub.specs.Publishing.{Terms, Publishing}

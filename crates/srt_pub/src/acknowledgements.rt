@@ -1,9 +1,9 @@
 //! Full ACKs, Light ACKs and their confirmation (draft-sharabayko-srt-01, sections 3.2.4, 3.2.8 and 4.8.1).
 
 ghost use Rattle.std.specs.Prelude.{◌≡◌, ℕ, ◌+◌, ◌-◌, ◌≤◌, ◌==◌, [], ◌∷◌, nat_lt, ◌||◌, ◌&&◌, true, false, Option, option_map, IfOk, IfSome};
-ghost use Rattle.srt_seq.specs.Given.{given};
+ghost use Rattle.srt_types.specs.Given.{given};
 ghost use Rattle.srt_packet.specs.Text.{IsWritable};
-ghost use Rattle.srt_pub.specs.Publishing.{Came, confirmed_by, confirmed_notes, sample_of, is_full_due, is_light_due, noted};
+ghost use Rattle.srt_pub.specs.Publishing.{Arrived, confirmed_by, confirmed_notes, sample_of, is_full_due, is_light_due, noted};
 ghost use Rattle.srt_pub.specs.Publishing.Report.{LightAck as TheLightAck};
 ghost use Rattle.srt_pub.specs.declared.region.Region.{Region};
 ghost use Rattle.srt_recvbuf.specs.declared.buffer.Put.{Put};
@@ -11,9 +11,9 @@ ghost use Rattle.srt_pub.specs.Calls.{listed};
 
 use crate::rates::Meter;
 use srt_packet::{Body, Rates};
-use srt_rtt::{AckBook, Rtt};
-use srt_seq::Seq31;
-use srt_seq::limits::{FULL_ACK_INTERVAL_US, FULL_ACKS_KEPT, LIGHT_ACK_PACKETS};
+use srt_timing::{AckBook, Rtt};
+use srt_types::Seq31;
+use srt_types::limits::{FULL_ACK_INTERVAL_US, FULL_ACKS_KEPT, LIGHT_ACK_PACKETS};
 use std::alloc::{AllocError, Global};
 
 /// The pair that a Full ACK reports.
@@ -42,7 +42,7 @@ pub struct Acks {
     /// Time of the last Full ACK; 0 at first.
     last: u64,
     /// Number of data packets since the last ACK of either kind; stops at 64.
-    came: u32,
+    arrived: u32,
 }
 
 impl Acks {
@@ -59,7 +59,7 @@ impl Acks {
             known: true,
             same: 0,
             last: 0,
-            came: 0,
+            arrived: 0,
         })
     }
 
@@ -71,14 +71,14 @@ impl Acks {
         self.known = true;
         self.same = 0;
         self.last = 0;
-        self.came = 0;
+        self.arrived = 0;
     }
 
     /// Counts an unencrypted data packet with any number.
-    pub fn came(&mut self)
-        ensures { (time : ℕ) (region : Region) (put : Put) → AcksBecome self.old self.new (λ point notes. Came time region put ∷ notes) }
+    pub fn arrived(&mut self)
+        ensures { (time : ℕ) (region : Region) (put : Put) → AcksBecome self.old self.new (λ point notes. Arrived time region put ∷ notes) }
     {
-        self.came = self.came.saturating_add(1).min(LIGHT_ACK_PACKETS);
+        self.arrived = self.arrived.saturating_add(1).min(LIGHT_ACK_PACKETS);
     }
 
     /// Records that the front and the acknowledgement point moved on by these numbers of packets. If either moved, the
@@ -98,7 +98,7 @@ impl Acks {
     /// Full ACKs, or one that was confirmed before.
     pub fn confirm(&mut self, number: u32, time: u64) -> Option<u64>
         ensures sample { AcksHoldOf self.old (λ width front point notes. result ≡ option_map (sample_of time) (confirmed_by number notes)) }
-        ensures stands { AcksBecome self.old self.new (λ point notes. confirmed_notes time (confirmed_by number notes) notes) }
+        ensures stands { (stamp : ℕ) → AcksBecome self.old self.new (λ point notes. confirmed_notes time stamp (confirmed_by number notes) notes) }
         ensures capped { IfSome result (λ s. s ≤ 10_000_000) }
     {
         let place = self.book.place_of(number)?;
@@ -120,7 +120,7 @@ impl Acks {
     fn is_light_due(&self) -> bool
         ensures { AcksHoldOf self.now (λ width front point notes. result ≡ is_light_due notes) }
     {
-        self.came >= LIGHT_ACK_PACKETS
+        self.arrived >= LIGHT_ACK_PACKETS
     }
 
     /// Writes a Full ACK and records that it is sent.
@@ -131,7 +131,7 @@ impl Acks {
     {
         self.same = self.same.saturating_add(1).min(FULL_ACKS_KEPT);
         self.last = time;
-        self.came = 0;
+        self.arrived = 0;
         *body = Body::FullAck {
             number: self.book.note(time),
             point: state.point,
@@ -148,7 +148,7 @@ impl Acks {
         ensures bytes { WritesLightAck time point body.new }
         ensures writable { IsWritable body.new }
     {
-        self.came = 0;
+        self.arrived = 0;
         *body = Body::LightAck { point };
     }
 

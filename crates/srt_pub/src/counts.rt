@@ -6,14 +6,14 @@ ghost use Rattle.srt_pub.specs.Counting.{one_if};
 
 use crate::region::Region;
 use srt_recvbuf::Put;
-use srt_seq::PayloadRef;
+use srt_types::PayloadRef;
 
 /// Counters of a session since its opening. Each stops at 2^64 - 1.
 #[derive(Clone, Copy, Debug, PartialEq, Eq)]
 pub struct Counts {
     /// Unencrypted data packets that arrived, with any number. Those that aren't counted in `received`, `late` or
     /// `ahead` were repeats of a received number of the window.
-    pub came: u64,
+    pub arrived: u64,
     /// Packets counted in `came` that arrived too late: their number is below the window's front, so it was delivered,
     /// given up or dropped before.
     pub late: u64,
@@ -47,7 +47,7 @@ impl Counts {
         ensures { result ≡ counts_of [] 0 0 [] }
     {
         Counts {
-            came: 0,
+            arrived: 0,
             late: 0,
             ahead: 0,
             received: 0,
@@ -64,7 +64,7 @@ impl Counts {
     pub(crate) fn come(&mut self, region: Region)
         ensures { self.new ≡ with_one region self.old }
     {
-        self.came = self.came.saturating_add(1);
+        self.arrived = self.arrived.saturating_add(1);
         match region {
             Region::Inside => {}
             Region::Ahead => self.ahead = self.ahead.saturating_add(1),

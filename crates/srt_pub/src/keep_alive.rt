@@ -1,18 +1,18 @@
 //! A publisher's KEEPALIVE: sent after a second in which nothing was sent (draft-sharabayko-srt-01, section 3.2.3).
 
 ghost use Rattle.std.specs.Prelude.{◌≡◌, ◌-◌, ◌∷◌, true, false, nat_le};
-ghost use Rattle.srt_seq.specs.Given.{given};
+ghost use Rattle.srt_types.specs.Given.{given};
 ghost use Rattle.srt_packet.specs.Encoded.{bytes_of, IsPacketText};
 ghost use Rattle.srt_pub.specs.Publishing.{last_sent};
 ghost use Rattle.srt_pub.specs.Calls.{keep_alive_after, listed};
-ghost use Rattle.srt_seq.specs.Limits.{keep_alive_after_us};
+ghost use Rattle.srt_types.specs.Limits.{keep_alive_after_us};
 ghost use Rattle.srt_pub.specs.Publishing.Note.{Sent};
 ghost use Rattle.srt_pub.specs.Publishing.Report.{KeepAlive as TheKeepAlive};
 
 use crate::log::Log;
 use crate::session::Publisher;
 use srt_packet::{Body, EncodedPacket};
-use srt_seq::limits::KEEP_ALIVE_AFTER_US;
+use srt_types::limits::KEEP_ALIVE_AFTER_US;
 
 impl Publisher {
     ghost use Rattle.srt_pub.specs.Stands.{opening_of};

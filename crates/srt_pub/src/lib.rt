@@ -16,7 +16,7 @@
 //! Files: `session.rt` has the rules for data, drop requests and delivery; `opening.rt` a session's parameters;
 //! `due_times.rt` due times; `window_lost.rt` the lost window that ends a live session; `transmit.rt` what is sent at
 //! the end of an event; `acknowledgements.rt` Full ACKs, Light ACKs and ACKACKs; `nak.rt` NAKs and their interval;
-//! `keep_alive.rt` KEEPALIVEs; `log.rt` the times of the last packets; `rates.rt` the measured packet rates;
+//! `keep_alive.rt` KEEPALIVEs; `log.rt` the times of the last packets and the drift of the sender's clock; `rates.rt` the measured packet rates;
 //! `questions.rt` the state that a route polls; `region.rt` the region of a number; `counts.rt` the counters, and
 //! `statistics.rt` the snapshot. `specs/Publishing.antt` defines what a session sends, `specs/Says.antt` its bytes,
 //! `specs/Counting.antt` its counters; `laws.rt` states facts about these.

@@ -1,12 +1,15 @@
 //! The state that a session keeps of its events: acknowledgements, round trips and the times of its last packets.
 //! Which NAK is due is in `nak.rt`, and whether a KEEPALIVE is due in `keep_alive.rt`.
 
-ghost use Rattle.std.specs.Prelude.{◌≡◌, ℕ, ◌+◌, ◌-◌, ◌≤◌, [], ◌∷◌, IfOk, true, false};
-ghost use Rattle.srt_seq.specs.Given.{given};
+ghost use Rattle.std.specs.Prelude.{◌≡◌, ℕ, ◌+◌, ◌-◌, ◌^◌, ◌<◌, ◌≤◌, [], ◌∷◌, IfOk, IfSome, option_map, true, false};
+ghost use Rattle.srt_types.specs.Given.{given};
 ghost use Rattle.srt_packet.specs.Text.{IsWritable};
-ghost use Rattle.srt_seq.specs.declared.shared.Mode.TheVariants.{Live as TheLive};
-ghost use Rattle.srt_seq.specs.declared.shared.Callers.TheVariants.{Draft as TheDraft};
-ghost use Rattle.srt_pub.specs.Publishing.{Terms, Came, confirmed_by, confirmed_notes, rating};
+ghost use Rattle.srt_types.specs.declared.shared.Mode.TheVariants.{Live as TheLive};
+ghost use Rattle.srt_types.specs.declared.shared.Callers.TheVariants.{Draft as TheDraft};
+ghost use Rattle.srt_pub.specs.Publishing.{Terms, Arrived, clock_of, confirmed_by, confirmed_notes, correction_of, rating};
+ghost use Rattle.srt_timing.specs.Clock.{IsSlow, sampled};
+ghost use Rattle.srt_timing.specs.declared.clock.Clock.{Clock};
+ghost use Rattle.srt_pub.specs.Kept.{clock_in};
 ghost use Rattle.srt_pub.specs.declared.region.Region.{Region};
 ghost use Rattle.srt_pub.specs.Calls.{listed};
 
@@ -14,8 +17,8 @@ use crate::acknowledgements::{Acks, State};
 use crate::rates::{Meter, Rating};
 use srt_packet::Body;
 use srt_recvbuf::Put;
-use srt_rtt::SampledRtt;
-use srt_seq::{Callers, Mode};
+use srt_timing::{Drift, SampledRtt};
+use srt_types::{Callers, Mode, Stamp32};
 use std::alloc::{AllocError, Global};
 
 /// The state that a session keeps of its events. All times are microseconds since the opening. At the opening, the
@@ -29,7 +32,7 @@ pub struct Log {
     /// Times of the last new data packets.
     pub meter: Meter,
     /// Time of the last unencrypted data packet.
-    pub came: u64,
+    pub arrived: u64,
     /// Time of the last NAK of all gaps.
     pub nak: u64,
     /// Time of the last ACK, NAK or KEEPALIVE.
@@ -37,11 +40,13 @@ pub struct Log {
     /// Distance from the front to the end of the received numbers, in packets, at the end of the last event. A NAK of
     /// new gaps starts there.
     pub seen: u32,
+    /// Drift of the sender's clock; None if it isn't followed (section 4.7).
+    pub drift: Option<Drift>,
 }
 
 impl Log {
     ghost use Rattle.srt_pub.specs.Kept.{LogStandsFor};
-    ghost use Rattle.srt_pub.specs.inside.Noting.{LogBecomes, LogMoves, LogNotesAck, LogSees, LogWritesAck, ReportsFullWindow};
+    ghost use Rattle.srt_pub.specs.inside.Noting.{LogBecomes, LogHoldsOf, LogMoves, LogNotesAck, LogSees, LogWritesAck, ReportsFullWindow};
 
     /// Allocates the log of a session without events. The only call that allocates; the error is a failed allocation.
     pub fn open(alloc: Global) -> Result<Log, AllocError>
@@ -51,10 +56,11 @@ impl Log {
             acks: Acks::open(alloc)?,
             rtt: SampledRtt::start(Callers::Draft),
             meter: Meter::open(alloc)?,
-            came: 0,
+            arrived: 0,
             nak: 0,
             sent: 0,
             seen: 0,
+            drift: None,
         })
     }
 
@@ -65,19 +71,20 @@ impl Log {
         self.acks.clear();
         self.rtt = SampledRtt::start(callers);
         self.meter.start(rating(mode, callers));
-        self.came = 0;
+        self.arrived = 0;
         self.nak = 0;
         self.sent = 0;
         self.seen = 0;
+        self.drift = drift_at_first(mode, callers);
     }
 
     /// Records the arrival of an unencrypted data packet at a time; `put` is the buffer's result for it.
     pub fn note_data(&mut self, put: Put, time: u64)
-        ensures { (region : Region) → LogBecomes self.old self.new (λ notes. Came time region put ∷ notes) }
+        ensures { (region : Region) → LogBecomes self.old self.new (λ notes. Arrived time region put ∷ notes) }
     {
-        self.acks.came();
+        self.acks.arrived();
         self.meter.come(put, time);
-        self.came = time;
+        self.arrived = time;
     }
 
     /// Records that the front and the acknowledgement point moved on by these numbers of packets.
@@ -88,13 +95,39 @@ impl Log {
         self.seen = self.seen.saturating_sub(front_steps);
     }
 
-    /// Records an ACKACK with this number. If it confirms one of the last 64 Full ACKs for the first time, it yields a
-    /// sample of the round-trip time (section 3.2.8).
-    pub fn confirm(&mut self, number: u32, time: u64)
-        ensures { LogBecomes self.old self.new (λ notes. confirmed_notes time (confirmed_by number notes) notes) }
+    /// Records an ACKACK with this number and this timestamp, relative to the conclusion's. If it confirms one of the
+    /// last 64 Full ACKs for the first time, it yields a sample of the round-trip time and of the sender's clock (section
+    /// 3.2.8).
+    pub fn confirm(&mut self, number: u32, time: u64, stamp: Stamp32)
+        requires { time < 2 ^ 62 }
+        ensures { LogBecomes self.old self.new (λ notes. confirmed_notes time stamp.word (confirmed_by number notes) notes) }
     {
-        if let Some(sample) = self.acks.confirm(number, time) {
-            self.rtt.sample(sample);
+        if let Some(round_trip) = self.acks.confirm(number, time) {
+            self.drift = with_sample(self.drift, time, stamp, round_trip);
+            self.rtt.sample(round_trip);
+        }
+    }
+
+    /// Returns by how much the sender's clock is slow since the opening, in microseconds; negative if it is fast. None if
+    /// it isn't followed.
+    pub fn followed_correction(&self) -> Option<i64>
+        ensures value { LogHoldsOf self.now (λ terms notes. result ≡ option_map (λ (c : Clock). c.correction) (clock_of terms notes)) }
+        ensures slow { IfSome result (λ c. IsSlow c (2 ^ 62)) }
+    {
+        match self.drift {
+            Some(drift) => Some(drift.correction()),
+            None => None,
+        }
+    }
+
+    /// Returns the same correction; 0 if the clock isn't followed.
+    pub fn correction(&self) -> i64
+        ensures value { LogHoldsOf self.now (λ terms notes. result ≡ correction_of terms notes) }
+        ensures slow { IsSlow result (2 ^ 62) }
+    {
+        match self.drift {
+            Some(drift) => drift.correction(),
+            None => 0,
         }
     }
 
@@ -143,5 +176,34 @@ fn rating(mode: Mode, callers: Callers) -> Rating
             Callers::Draft => Rating::Unmeasured,
             Callers::Libsrt => Rating::Measured,
         },
+    }
+}
+
+/// Returns the drift of a sender's clock before its first sample; None if it isn't followed. It is followed only in live
+/// mode, with callers that use libsrt.
+fn drift_at_first(mode: Mode, callers: Callers) -> Option<Drift>
+    ensures { (terms : Terms) → terms.mode ≡ mode → terms.callers ≡ callers → clock_in result ≡ clock_of terms [] }
+{
+    match mode {
+        Mode::Buffer => None,
+        Mode::Live => match callers {
+            Callers::Draft => None,
+            Callers::Libsrt => Some(Drift::none()),
+        },
+    }
+}
+
+/// Returns the drift after a sample, if the clock is followed.
+fn with_sample(drift: Option<Drift>, time: u64, stamp: Stamp32, round_trip: u64) -> Option<Drift>
+    requires early { time < 2 ^ 62 }
+    requires short { round_trip ≤ 10_000_000 }
+    ensures { clock_in result ≡ option_map (sampled (record { time = time; stamp = stamp.word; round_trip = round_trip })) (clock_in drift) }
+{
+    match drift {
+        None => None,
+        Some(mut followed) => {
+            followed.sample(time, stamp, round_trip);
+            Some(followed)
+        }
     }
 }

@@ -2,11 +2,11 @@
 //! sections 3.2.5 and 4.8.2).
 
 ghost use Rattle.std.specs.Prelude.{◌≡◌, List, ◌∷◌, true, false, if◌then◌else◌};
-ghost use Rattle.srt_seq.specs.Given.{given};
+ghost use Rattle.srt_types.specs.Given.{given};
 ghost use Rattle.srt_packet.specs.Encoded.{bytes_of, IsPacketText};
 ghost use Rattle.srt_recvbuf.specs.Receiving.{end_of};
 ghost use Rattle.srt_recvbuf.specs.Stands.{words_of};
-ghost use Rattle.srt_seq.specs.Runs.{Run};
+ghost use Rattle.srt_types.specs.Runs.{Run};
 ghost use Rattle.srt_pub.specs.Counting.{capped, numbers_between, numbers_in_pairs};
 ghost use Rattle.srt_pub.specs.Publishing.{naks, is_nak_due, nak_report};
 ghost use Rattle.srt_pub.specs.Calls.{listed};
@@ -17,7 +17,7 @@ use crate::session::{Publisher, steps};
 use arrayvec::ArrayVec;
 use srt_loss::write;
 use srt_packet::{Body, EncodedPacket};
-use srt_seq::Seq31;
+use srt_types::Seq31;
 
 impl Publisher {
     ghost use Rattle.srt_pub.specs.Stands.{opening_of};

@@ -1,6 +1,6 @@
 //! The parameters of a session's opening.
 
-use srt_seq::{Callers, Mode, Seq31, Stamp32};
+use srt_types::{Callers, Mode, Seq31, Stamp32};
 
 /// The parameters of a session: the time of its opening, the fields of the caller's conclusion, and the terms that the
 /// handshake agreed.

@@ -2,10 +2,10 @@
 //! last data packet.
 
 ghost use Rattle.std.specs.Prelude.{◌≡◌, ◌-◌};
-ghost use Rattle.srt_pub.specs.Publishing.{has_undelivered, last_came};
+ghost use Rattle.srt_pub.specs.Publishing.{has_undelivered, last_arrival};
 
 use crate::session::{Publisher, steps};
-use srt_seq::Mode;
+use srt_types::Mode;
 
 impl Publisher {
     ghost use Rattle.srt_pub.specs.Changes.{HoldsOf, HoldsOfAt};
@@ -24,9 +24,9 @@ impl Publisher {
     /// Returns the time since the last unencrypted data packet, in microseconds; since the opening if none has
     /// arrived. O(1).
     pub fn silent_for(&self, now: u64) -> u64
-        ensures { HoldsOfAt now self.now (λ terms time m. result ≡ time - last_came m.notes) }
+        ensures { HoldsOfAt now self.now (λ terms time m. result ≡ time - last_arrival m.notes) }
     {
         now.saturating_sub(self.agreed.opening)
-            .saturating_sub(self.log.came)
+            .saturating_sub(self.log.arrived)
     }
 }

@@ -3,7 +3,7 @@
 //! 0.
 
 ghost use Rattle.std.specs.Prelude.{◌≡◌, ℕ, ◌<◌, ◌≤◌, List, [], ◌∷◌, IfOk, vec_len, nat_lt, slice_get};
-ghost use Rattle.srt_seq.specs.Capped.{one_if};
+ghost use Rattle.srt_types.specs.Capped.{one_if};
 ghost use Rattle.srt_recvbuf.specs.declared.buffer.Put.{Put as ThePut};
 ghost use Rattle.srt_pub.specs.Publishing.{if_new, interval, median_interval, packet_rate, rate_at, rates_in, rates_with, shorter, time_between};
 ghost use Rattle.srt_pub.specs.Publishing.{up_to_median};
@@ -124,7 +124,7 @@ impl Meter {
 
     /// Returns the arrival time of the new packet at a place; the latest is at place 0. None where fewer arrived.
     /// O(1).
-    fn came_at(&self, place: usize) -> Option<u64>
+    fn arrived_at(&self, place: usize) -> Option<u64>
         requires { place ≤ 16 }
         ensures { (times : List ℕ) → AreLatest self.now.at self.now.times.items times → result ≡ slice_get times place }
     {
@@ -137,7 +137,7 @@ impl Meter {
         requires { place < 16 }
         ensures { (times : List ℕ) → AreLatest self.now.at self.now.times.items times → result ≡ interval times place }
     {
-        time_between(self.came_at(place), self.came_at(place + 1))
+        time_between(self.arrived_at(place), self.arrived_at(place + 1))
     }
 
     /// Returns how many of the latest 16 intervals are shorter than a time in microseconds.

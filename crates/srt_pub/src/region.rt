@@ -1,12 +1,12 @@
 //! The position of a data packet's number relative to the window (draft-sharabayko-srt-01, section 3.1).
 
 ghost use Rattle.std.specs.Prelude.{◌≡◌};
-ghost use Rattle.srt_seq.specs.Window.{counted_from};
+ghost use Rattle.srt_types.specs.Window.{counted_from};
 ghost use Rattle.srt_pub.specs.Publishing.{region_in};
 
 use crate::session::{Publisher, steps};
-use srt_seq::Seq31;
-use srt_seq::limits::RANGE_END;
+use srt_types::Seq31;
+use srt_types::limits::RANGE_END;
 
 /// The position of a data packet's number relative to the window.
 #[derive(Clone, Copy, Debug, PartialEq, Eq)]

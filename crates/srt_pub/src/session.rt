@@ -2,11 +2,11 @@
 //! 3.2.8, 3.2.9, 4.5 and 4.6).
 
 ghost use Rattle.std.specs.Prelude.{◌≡◌, ℕ, ◌+◌, ◌-◌, ◌%◌, ◌^◌, ◌<◌, ◌≤◌, is_some, length, option_copied, IfOk, IfSome};
-ghost use Rattle.srt_seq.specs.Window.{word_of};
+ghost use Rattle.srt_types.specs.Window.{word_of};
 ghost use Rattle.srt_packet.specs.View.{body_of};
 ghost use Rattle.srt_pub.specs.Heard.{heard_from};
 ghost use Rattle.srt_pub.specs.Heard.Heard.{Data};
-ghost use Rattle.srt_pub.specs.Publishing.{opened, with_request, confirmed_at, confirmed_by};
+ghost use Rattle.srt_pub.specs.Publishing.{opened, with_request};
 ghost use Rattle.srt_pub.specs.Calls.{ended, next_delivery, after_delivery};
 
 use crate::counts::Counts;
@@ -16,7 +16,7 @@ use crate::log::Log;
 use crate::opening::Opening;
 use srt_packet::{Kind, PacketRef};
 use srt_recvbuf::{Put, RecvBuf};
-use srt_seq::{Callers, Mode, PayloadRef, Seq31, Stamp32};
+use srt_types::{Callers, Mode, PayloadRef, Seq31, Stamp32};
 use std::alloc::{AllocError, Global};
 
 /// A data packet without its timestamp.
@@ -44,7 +44,7 @@ pub struct Publisher {
 
 impl Publisher {
     ghost use Rattle.srt_pub.specs.Stands.{StandsFor, opening_of, width_of};
-    ghost use Rattle.srt_pub.specs.Changes.{Becomes, BecomesAt, CatchesUp, CountsAs, DropsInLiveMode, GivesNoneEmpty, HasBegun, HoldsOf};
+    ghost use Rattle.srt_pub.specs.Changes.{Becomes, BecomesAt, CatchesUp, ConfirmsAt, CountsAs, DropsInLiveMode, GivesNoneEmpty, HasBegun, HoldsOf};
     ghost use Rattle.srt_pub.specs.Changes.{HoldsOfAt, HearsAt, ReceivesAt, lost_by, data_from, range_between};
     ghost use Rattle.srt_recvbuf.specs.Changes.{payload_in};
 
@@ -110,7 +110,7 @@ impl Publisher {
                 self.data(data, packet.stamp, now)
             }
             Kind::AckAck { number } => {
-                self.ack_ack(number, now);
+                self.ack_ack(number, packet.stamp, now);
                 None
             }
             Kind::DropRequest {
@@ -157,7 +157,7 @@ impl Publisher {
             self.log.note_data(Put::Outside, time);
             return;
         };
-        let due = self.agreed.due(stamp, now);
+        let due = self.agreed.due(self.log.correction(), stamp, now);
         let front = self.buffer.front();
         let point = self.buffer.ack_point();
         let put = self.buffer.put(number, due, payload);
@@ -179,12 +179,14 @@ impl Publisher {
     }
 
     /// Processes an ACKACK (section 3.2.8).
-    fn ack_ack(&mut self, number: u32, now: u64)
-        ensures stands { BecomesAt now self.old self.new (λ terms time m. confirmed_at time (confirmed_by number m.notes) m) }
+    fn ack_ack(&mut self, number: u32, stamp: u32, now: u64)
+        requires { now < 2 ^ 62 }
+        ensures stands { ConfirmsAt now stamp number self.old self.new }
         ensures opening { opening_of self.new ≡ opening_of self.old }
     {
-        self.log
-            .confirm(number, now.saturating_sub(self.agreed.opening));
+        let since_conclusion = self.agreed.since_conclusion(stamp);
+        let time = now.saturating_sub(self.agreed.opening);
+        self.log.confirm(number, time, since_conclusion);
     }
 
     /// Processes a drop request (section 3.2.9). In buffer mode it changes nothing (our choice).

@@ -17,6 +17,10 @@ pub struct Statistics {
     pub rtt: u32,
     /// Variance of the round-trip time, in microseconds.
     pub variance: u32,
+    /// By how much the sender's clock is slow since the opening, in microseconds; negative if it is fast. Due times are
+    /// corrected by it (section 4.7). None if the clock isn't followed: in buffer mode, and with callers that follow
+    /// the draft.
+    pub correction: Option<i64>,
 }
 
 impl Publisher {
@@ -35,6 +39,7 @@ impl Publisher {
             available: self.buffer.available(),
             rtt: rtt.rtt(),
             variance: rtt.variance(),
+            correction: self.log.followed_correction(),
         }
     }
 }

@@ -8,7 +8,7 @@ use srt_samples::{
     Acknowledged, Loss, Sample, ack, ack_ack, data_packet, drop_request, first_difference,
     full_ack, keep_alive, light_ack, nak, shutdown,
 };
-use srt_seq::{Callers, Mode, Seq31, Stamp32};
+use srt_types::{Callers, Mode, Seq31, Stamp32};
 use std::alloc::Global;
 use std::process::Abort;
 use std::test::Fail;
@@ -32,6 +32,21 @@ fn session(
     requires least { 32 ≤ width }
     requires most { width ≤ 8192 }
 {
+    session_with(alloc, width, initial, mode, delay, Callers::Draft)
+}
+
+/// Returns a session with callers that follow these rules.
+fn session_with(
+    alloc: Global,
+    width: u32,
+    initial: u32,
+    mode: Mode,
+    delay: u32,
+    callers: Callers,
+) -> Result<Publisher, Fail>
+    requires least { 32 ≤ width }
+    requires most { width ≤ 8192 }
+{
     let Some(initial) = Seq31::new(initial) else {
         return Err(Fail::from("a word with its top bit set"));
     };
@@ -43,7 +58,7 @@ fn session(
         caller: CALLER,
         mode,
         delay,
-        callers: Callers::Draft,
+        callers,
     });
     Ok(publisher)
 }
@@ -340,7 +355,7 @@ fn numbers_go_round(rt: HostRuntime) -> Result<(), Fail> {
     )?;
     // The NAK reports the numbers 1 to 29.
     let counts = publisher.statistics().counts;
-    assert_eq!(rt; (counts.came, counts.received), (5, 3));
+    assert_eq!(rt; (counts.arrived, counts.received), (5, 3));
     assert_eq!(rt; (counts.late, counts.ahead), (1, 1));
     assert_eq!(rt; (counts.naks, counts.reported_lost), (1, 29));
     Ok(())
@@ -516,7 +531,7 @@ fn what_a_session_counts(rt: HostRuntime) -> Result<(), Fail> {
         publisher.statistics(),
         Statistics {
             counts: Counts {
-                came: 3,
+                arrived: 3,
                 late: 1,
                 ahead: 0,
                 received: 1,
@@ -531,6 +546,7 @@ fn what_a_session_counts(rt: HostRuntime) -> Result<(), Fail> {
             available: 32,
             rtt: 100_000,
             variance: 50_000,
+            correction: None,
         }
     );
     assert_event(&rt, &mut publisher, Event::Delivers(101_000, 1, b"cb"))?;
@@ -580,8 +596,8 @@ fn assert_no_end(end: Option<PubEnd>) -> Result<(), Fail> {
 fn rates_of_17_packets(rt: HostRuntime) -> Result<(), Fail> {
     let mut publisher = libsrt_session(rt.alloc(), Mode::Buffer)?;
     come(rt.alloc(), &mut publisher, 17, 100)?;
-    let told = ack(1, &[24, 100_000, 50_000, 15, 10_000, 100_000, 14_560_000]);
-    assert_sent(&rt, &mut publisher, 10_000, [Some(told), None, None])
+    let reported = ack(1, &[24, 100_000, 50_000, 15, 10_000, 100_000, 14_560_000]);
+    assert_sent(&rt, &mut publisher, 10_000, [Some(reported), None, None])
 }
 
 /// Ten packets, and so nine intervals, are enough.
@@ -589,8 +605,8 @@ fn rates_of_17_packets(rt: HostRuntime) -> Result<(), Fail> {
 fn rates_of_10_packets(rt: HostRuntime) -> Result<(), Fail> {
     let mut publisher = libsrt_session(rt.alloc(), Mode::Buffer)?;
     come(rt.alloc(), &mut publisher, 10, 100)?;
-    let told = ack(1, &[17, 100_000, 50_000, 22, 10_000, 100_000, 14_560_000]);
-    assert_sent(&rt, &mut publisher, 10_000, [Some(told), None, None])
+    let reported = ack(1, &[17, 100_000, 50_000, 22, 10_000, 100_000, 14_560_000]);
+    assert_sent(&rt, &mut publisher, 10_000, [Some(reported), None, None])
 }
 
 /// Nine packets are too few, and the minimum rate is reported.
@@ -598,8 +614,8 @@ fn rates_of_10_packets(rt: HostRuntime) -> Result<(), Fail> {
 fn rates_of_9_packets(rt: HostRuntime) -> Result<(), Fail> {
     let mut publisher = libsrt_session(rt.alloc(), Mode::Buffer)?;
     come(rt.alloc(), &mut publisher, 9, 100)?;
-    let told = ack(1, &[16, 100_000, 50_000, 23, 1_000, 100_000, 1_456_000]);
-    assert_sent(&rt, &mut publisher, 10_000, [Some(told), None, None])
+    let reported = ack(1, &[16, 100_000, 50_000, 23, 1_000, 100_000, 1_456_000]);
+    assert_sent(&rt, &mut publisher, 10_000, [Some(reported), None, None])
 }
 
 /// Passes packets from number 7 on: the first at the opening, each further one this number of microseconds after the
@@ -628,8 +644,8 @@ const BURSTS: [u32; 16] = [
 fn rates_of_bursts(rt: HostRuntime) -> Result<(), Fail> {
     let mut publisher = libsrt_session(rt.alloc(), Mode::Buffer)?;
     come_after(rt.alloc(), &mut publisher, &BURSTS)?;
-    let told = ack(1, &[24, 100_000, 50_000, 15, 10_000, 100_000, 14_560_000]);
-    assert_sent(&rt, &mut publisher, 30_000, [Some(told), None, None])
+    let reported = ack(1, &[24, 100_000, 50_000, 15, 10_000, 100_000, 14_560_000]);
+    assert_sent(&rt, &mut publisher, 30_000, [Some(reported), None, None])
 }
 
 /// Eight intervals of 50 microseconds and eight of 400.
@@ -642,8 +658,8 @@ const AS_MANY_SHORT: [u32; 16] = [
 fn rates_of_as_many_short_intervals(rt: HostRuntime) -> Result<(), Fail> {
     let mut publisher = libsrt_session(rt.alloc(), Mode::Buffer)?;
     come_after(rt.alloc(), &mut publisher, &AS_MANY_SHORT)?;
-    let told = ack(1, &[24, 100_000, 50_000, 15, 2_500, 100_000, 3_640_000]);
-    assert_sent(&rt, &mut publisher, 10_000, [Some(told), None, None])
+    let reported = ack(1, &[24, 100_000, 50_000, 15, 2_500, 100_000, 3_640_000]);
+    assert_sent(&rt, &mut publisher, 10_000, [Some(reported), None, None])
 }
 
 /// Two long intervals, which are not among the last 16, and then nine of 50 microseconds among seven of 400.
@@ -656,8 +672,8 @@ const MORE_SHORT: [u32; 18] = [
 fn rates_of_more_short_intervals(rt: HostRuntime) -> Result<(), Fail> {
     let mut publisher = libsrt_session(rt.alloc(), Mode::Buffer)?;
     come_after(rt.alloc(), &mut publisher, &MORE_SHORT)?;
-    let told = ack(1, &[26, 100_000, 50_000, 13, 20_000, 100_000, 29_120_000]);
-    assert_sent(&rt, &mut publisher, 10_000, [Some(told), None, None])
+    let reported = ack(1, &[26, 100_000, 50_000, 13, 20_000, 100_000, 29_120_000]);
+    assert_sent(&rt, &mut publisher, 10_000, [Some(reported), None, None])
 }
 
 /// 17 packets at once: the maximum rate is reported, and the capacity is at least as large.
@@ -665,11 +681,11 @@ fn rates_of_more_short_intervals(rt: HostRuntime) -> Result<(), Fail> {
 fn rates_of_packets_at_once(rt: HostRuntime) -> Result<(), Fail> {
     let mut publisher = libsrt_session(rt.alloc(), Mode::Buffer)?;
     come(rt.alloc(), &mut publisher, 17, 0)?;
-    let told = ack(
+    let reported = ack(
         1,
         &[24, 100_000, 50_000, 15, 1_000_000, 1_000_000, 1_456_000_000],
     );
-    assert_sent(&rt, &mut publisher, 10_000, [Some(told), None, None])
+    assert_sent(&rt, &mut publisher, 10_000, [Some(reported), None, None])
 }
 
 /// In live mode the reported rates are 0. The first round trip, of 4 ms, replaces the initial values.
@@ -677,8 +693,8 @@ fn rates_of_packets_at_once(rt: HostRuntime) -> Result<(), Fail> {
 fn first_round_trip(rt: HostRuntime) -> Result<(), Fail> {
     let mut publisher = libsrt_session(rt.alloc(), Mode::Live)?;
     come(rt.alloc(), &mut publisher, 17, 100)?;
-    let told = ack(1, &[24, 100_000, 50_000, 15, 0, 0, 0]);
-    assert_sent(&rt, &mut publisher, 10_000, [Some(told), None, None])?;
+    let reported = ack(1, &[24, 100_000, 50_000, 15, 0, 0, 0]);
+    assert_sent(&rt, &mut publisher, 10_000, [Some(reported), None, None])?;
     assert_heard(&rt, &mut publisher, 14_000, ack_ack(1).to(SESSION), None)?;
     let seen = publisher.statistics();
     assert_eq!(rt; (seen.rtt, seen.variance), (4_000, 2_000));
@@ -719,4 +735,127 @@ fn what_is_left_to_deliver_in_buffer_mode(rt: HostRuntime) -> Result<(), Fail> {
     assert_event(&rt, &mut publisher, Event::Delivers(10_000, 1, b"a"))?;
     assert!(rt; !publisher.has_undelivered());
     Ok(())
+}
+
+/// An event of a session whose sender's clock is followed. Times are microseconds since the opening.
+#[derive(Clone, Copy)]
+enum ClockEvent {
+    /// The data packet with this number arrives at a time that is its timestamp too, and an ACK is sent.
+    Acknowledges(u8, u32),
+    /// An ACKACK with this number and this timestamp arrives.
+    Confirms(u32, u32, u32),
+}
+
+/// Asserts that an ACK is sent.
+fn assert_acknowledged(rt: &(impl AllocGlobal + Abort), publisher: &mut Publisher, time: u32) {
+    let mut ack = EncodedPacket::new();
+    let mut nak = EncodedPacket::new();
+    let mut keep_alive = EncodedPacket::new();
+    let sent = publisher.transmit(
+        OPENING + u64::from(time),
+        &mut ack,
+        &mut nak,
+        &mut keep_alive,
+    );
+    assert!(rt; sent.ack);
+}
+
+fn assert_clock_event(
+    rt: &(impl AllocGlobal + Abort),
+    publisher: &mut Publisher,
+    event: ClockEvent,
+) -> Result<(), Fail> {
+    match event {
+        ClockEvent::Acknowledges(number, time) => {
+            let sample = media(u32::from(number), 1, time, b"a");
+            assert_heard(rt, publisher, time, sample, None)?;
+            assert_acknowledged(rt, publisher, time);
+            Ok(())
+        }
+        ClockEvent::Confirms(number, time, stamp) => {
+            let sample = ack_ack(number).stamp(stamp).to(SESSION);
+            assert_heard(rt, publisher, time, sample, None)
+        }
+    }
+}
+
+/// Passes two seconds of ACKACKs to a session, and asserts its correction. Their timestamps are first 750, then 1,700
+/// microseconds late; round trips are 8 and 10 ms.
+fn assert_followed(
+    rt: &(impl AllocGlobal + Abort),
+    publisher: &mut Publisher,
+    wanted: [Option<i64>; 2],
+) -> Result<(), Fail> {
+    let events = [
+        ClockEvent::Acknowledges(0, 1_000_000),
+        ClockEvent::Confirms(1, 1_010_000, 0x000f_53d4),
+        ClockEvent::Acknowledges(1, 1_500_000),
+        ClockEvent::Confirms(2, 1_508_000, 0x0016_f012),
+        ClockEvent::Acknowledges(2, 1_980_000),
+        ClockEvent::Acknowledges(3, 2_000_999),
+        ClockEvent::Confirms(4, 2_009_999, 2_004_599),
+        ClockEvent::Confirms(3, 2_010_000, 5),
+        ClockEvent::Acknowledges(4, 2_100_000),
+        ClockEvent::Confirms(5, 2_110_000, 2_103_750),
+        ClockEvent::Acknowledges(5, 3_100_000),
+        // confirms nothing
+        ClockEvent::Confirms(5, 3_110_000, 1),
+    ];
+    for event in events {
+        assert_clock_event(rt, publisher, event)?;
+    }
+    assert_eq!(rt; publisher.statistics().correction, wanted[0]);
+    assert_clock_event(
+        rt,
+        publisher,
+        ClockEvent::Confirms(6, 3_110_000, 0x002f_5a44),
+    )?;
+    assert_eq!(rt; publisher.statistics().correction, wanted[1]);
+    Ok(())
+}
+
+/// Skips the packets that are due.
+fn skip_due(publisher: &mut Publisher, time: u32) {
+    for _ in 0..6u8 {
+        publisher.note_delivered(OPENING + u64::from(time), 1);
+    }
+}
+
+#[test]
+fn a_live_session_follows_its_senders_clock(rt: HostRuntime) -> Result<(), Fail> {
+    let mut publisher = session_with(rt.alloc(), 32, 0, Mode::Live, 120_000, Callers::Libsrt)?;
+    assert_eq!(rt; publisher.statistics().correction, Some(0));
+    assert_followed(&rt, &mut publisher, [Some(0), Some(950)])?;
+    skip_due(&mut publisher, 3_300_000);
+    assert_events(
+        &rt,
+        &mut publisher,
+        &[
+            Event::Comes(3_300_000, media(6, 1, 5_000_000, b"b")),
+            Event::Delivers(5_120_949, 1, b""),
+            Event::Delivers(5_120_950, 1, b"b"),
+        ],
+    )
+}
+
+#[test]
+fn the_clock_of_a_caller_of_the_draft_is_not_followed(rt: HostRuntime) -> Result<(), Fail> {
+    let mut publisher = session(rt.alloc(), 32, 0, Mode::Live, 120_000)?;
+    assert_followed(&rt, &mut publisher, [None, None])?;
+    skip_due(&mut publisher, 3_300_000);
+    assert_events(
+        &rt,
+        &mut publisher,
+        &[
+            Event::Comes(3_300_000, media(6, 1, 5_000_000, b"b")),
+            Event::Delivers(5_119_999, 1, b""),
+            Event::Delivers(5_120_000, 1, b"b"),
+        ],
+    )
+}
+
+#[test]
+fn the_clock_is_not_followed_in_buffer_mode(rt: HostRuntime) -> Result<(), Fail> {
+    let mut publisher = session_with(rt.alloc(), 32, 0, Mode::Buffer, 0, Callers::Libsrt)?;
+    assert_followed(&rt, &mut publisher, [None, None])
 }

@@ -3,7 +3,7 @@
 //! destination is the caller's socket ID (section 3).
 
 ghost use Rattle.std.specs.Prelude.{◌≡◌, ℕ, ◌+◌, ◌^◌, ◌<◌, true, false};
-ghost use Rattle.srt_seq.specs.Given.{given};
+ghost use Rattle.srt_types.specs.Given.{given};
 ghost use Rattle.srt_packet.specs.Encoded.{bytes_of, IsPacketText};
 ghost use Rattle.srt_packet.specs.Text.{IsWritable};
 ghost use Rattle.srt_pub.specs.Publishing.{acks, reports, reported};

@@ -1,12 +1,12 @@
 //! The end of a live publisher's session whose window is lost (our choice).
 
 ghost use Rattle.std.specs.Prelude.{◌≡◌, ℕ, List};
-ghost use Rattle.srt_seq.specs.Window.{counted_from};
+ghost use Rattle.srt_types.specs.Window.{counted_from};
 ghost use Rattle.srt_pub.specs.Publishing.{loses_window, is_past_window};
 
 use crate::session::Publisher;
-use srt_seq::limits::RANGE_END;
-use srt_seq::{Mode, Seq31};
+use srt_types::limits::RANGE_END;
+use srt_types::{Mode, Seq31};
 
 impl Publisher {
     ghost use Rattle.srt_pub.specs.Changes.{HoldsOf, data_from, loses_window_by};

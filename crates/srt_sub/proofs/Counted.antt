@@ -2,10 +2,10 @@
 use Rattle.std.proofs.Common.{◌≡◌, ℕ, zero, suc, ◌+◌, ◌-◌, ◌≤◌, ◌==◌, min, Bool, true, false, if◌then◌else◌, Option, None, Some, List, []}
 use Rattle.std.proofs.Common.{◌∷◌, ◌++◌, length, refl, ap, arith, length-append, length-take}
 use Rattle.std.specs.Prelude.{slice_get, nat_le}
-use Rattle.srt_seq.specs.Runs.{Run, numbers_from}
+use Rattle.srt_types.specs.Runs.{Run, numbers_from}
 use Rattle.srt_sendbuf.specs.Sending.{Queued, front, next, lost}
 use Rattle.srt_sub.specs.Heard.{Heard, Ack, Nak, Data, Other}
-use Rattle.srt_sub.specs.Subscribing.{Terms, Report, Acked, KeepAlive, Note, Subscribing, last_sent, flow_window, untold, drops_of, media}
+use Rattle.srt_sub.specs.Subscribing.{Terms, Report, Acked, KeepAlive, Note, Subscribing, last_sent, flow_window, unreported, drops_of, media}
 use Rattle.srt_sub.specs.Subscribing.{media_of, again_of, new_of, keep_alives, due_of, most, prepared, resends, reports, answers, ack_reports}
 use Rattle.srt_sub.specs.EventPackets.{SendsAtMost66}
 use Rattle.srt_sub.proofs.Credits.{resends_few}
@@ -33,10 +33,10 @@ one_drop (Some run) = omega arith
 few_due : (places again : ℕ) (terms : Terms) (s : Subscribing) → again ≤ places → length (due_of places again terms s) ≤ 1 + places
 few_due places again terms s le =
     let queue = s.sending.queue in
-    let d = drops_of (untold s.notes) in
+    let d = drops_of (unreported s.notes) in
     let old = again_of again s.sending in
     let fresh = new_of places again (flow_window terms.window s.notes) s.sending in
-    let a = one_drop (untold s.notes) in
+    let a = one_drop (unreported s.notes) in
     let b = few_media true old queue in
     let c = few_media false fresh queue in
     let taken : length old ≡ min again (length (lost s.sending)) = length-take again (lost s.sending) in
@@ -58,9 +58,9 @@ few : (places time : ℕ) (due : List Report) (notes : List Note) → length due
 few places time [] notes le = let one = one_alive time notes in omega (arith, one)
 few places time (r ∷ due) notes le = let all = length-append (r ∷ due) [] in omega (arith, le, all)
 
-few_reports : (terms : Terms) (time : ℕ) (s : Subscribing) → length (reports terms time s) ≤ 65
-few_reports terms time s =
-    let t = prepared terms time s in
+few_reports : (terms : Terms) (time : ℕ) (recent : Bool) (s : Subscribing) → length (reports terms time recent s) ≤ 65
+few_reports terms time recent s =
+    let t = prepared terms time recent s in
     let again = resends terms.resend_percent most t.notes in
     few most time (due_of most again terms t) t.notes (few_due most again terms t (resends_few terms.resend_percent most t.notes))
 
@@ -73,7 +73,7 @@ one_acked mark = by (mark == 0)
 
 few_answers : (h : Heard) → length (answers h) ≤ 1
 few_answers (Ack mark number more) = one_acked mark
-few_answers (Nak asked) = omega arith
+few_answers (Nak requested) = omega arith
 few_answers Data = omega arith
 few_answers Other = omega arith
 

@@ -4,12 +4,13 @@ use Rattle.std.proofs.Common.{length-append, refl, sym, ap, subst, ◌∙◌, ar
 use Rattle.std.specs.Prelude.{nat_lt, slice_get}
 use Rattle.std.proofs.lemmas.Bool.{lt-ltb}
 use Rattle.srt_sendbuf.specs.Sending.{Queued, Sending, Due, due, due_at, due_number, due_of, in_flight, lost, next, queued}
-use Rattle.srt_seq.specs.Runs.{Range}
-use Rattle.srt_sendbuf.specs.Sending.{asked}
+use Rattle.srt_types.specs.Runs.{Range}
+use Rattle.srt_sendbuf.specs.Sending.{Mark, front, requested}
 use Rattle.srt_sub.specs.Counting.{AreSendings, Counted, capped, bytes_in, fresh_in, again_in, is_again, naks_in, one_if, with_payload}
 use Rattle.srt_sub.specs.Counting.{with_list, with_expired, with_misdirected, with_sent, misdirected_in}
 use Rattle.srt_sub.specs.Subscribing.{Renewed, renewal_due, renewed_notes}
-use Rattle.srt_sub.specs.Subscribing.{Subscribing, Note, Report, Sent, Misdirected, is_media, told, grown, with_ack}
+use Rattle.srt_sub.specs.Subscribing.{with_expired as expired_to}
+use Rattle.srt_sub.specs.Subscribing.{Subscribing, Note, Report, Sent, Misdirected, is_media, sampled, grown, with_ack}
 use Rattle.srt_sub.specs.declared.counts.Counts.{Counts}
 use Rattle.srt_sub.specs.declared.counts.Sendings.{Sendings}
 
@@ -32,20 +33,33 @@ counts_fed time payload c m h =
       queued_is = more c.queued (length s.queue) 1 h.queued_is ∙ ap capped (sym count);
       bytes_is = more c.bytes (bytes_in s.queue) (length payload) h.bytes_is ∙ ap capped (sym bytes);
       naks_is = h.naks_is;
+      given_up_is = h.given_up_is;
       misdirected_is = h.misdirected_is;
     }
 
-pub counts_asked : (ranges : List Range) (c : Counts) (m : Subscribing) → Counted c m → Counted (with_list c) (record m { sending = asked ranges m.sending })
-counts_asked ranges c m h =
+pub counts_requested : (ranges : List Range) (c : Counts) (m : Subscribing) → Counted c m
+    → Counted (with_list c) (record m { sending = requested ranges m.sending })
+counts_requested ranges c m h =
     record {
       queued_is = h.queued_is;
       bytes_is = h.bytes_is;
       naks_is = more c.naks (naks_in m.sending.marks) 1 h.naks_is;
+      given_up_is = h.given_up_is;
       misdirected_is = h.misdirected_is;
     }
 
-pub counts_expired : (count : ℕ) (c : Counts) (m : Subscribing) → Counted c m → Counted (with_expired count c) m
-counts_expired count c m h = record { queued_is = h.queued_is; bytes_is = h.bytes_is; naks_is = h.naks_is; misdirected_is = h.misdirected_is }
+-- the packets up to the new front are given up
+pub counts_expired : (count : ℕ) (c : Counts) (later : Sending) (m : Subscribing)
+    → later.queue ≡ m.sending.queue → later.marks ≡ m.sending.marks → front m.sending + count ≡ front later → Counted c m
+    → Counted (with_expired count c) (expired_to later m)
+counts_expired count c later m queue marks moves h =
+    record {
+      queued_is = h.queued_is ∙ ap (λ (q : List Queued). capped (length q)) (sym queue);
+      bytes_is = h.bytes_is ∙ ap (λ (q : List Queued). capped (bytes_in q)) (sym queue);
+      naks_is = h.naks_is ∙ ap (λ (marks : List Mark). capped (naks_in marks)) (sym marks);
+      given_up_is = more c.given_up m.given_up count h.given_up_is ∙ ap (λ (n : ℕ). capped (m.given_up + n)) (omega (arith, moves));
+      misdirected_is = h.misdirected_is;
+    }
 
 pub counts_misdirected : (c : Counts) (m : Subscribing) → Counted c m → Counted (with_misdirected c) (record m { notes = Misdirected ∷ m.notes })
 counts_misdirected c m h =
@@ -53,15 +67,16 @@ counts_misdirected c m h =
       queued_is = h.queued_is;
       bytes_is = h.bytes_is;
       naks_is = h.naks_is;
+      given_up_is = h.given_up_is;
       misdirected_is = more c.misdirected (misdirected_in m.notes) 1 h.misdirected_is;
     }
 
 -- an ACK changes no counter
-told_none : (rest : List ℕ) (notes : List Note) → misdirected_in (told rest ++ notes) ≡ misdirected_in notes
-told_none [] notes = refl
-told_none (rtt ∷ []) notes = refl
-told_none (rtt ∷ variance ∷ []) notes = refl
-told_none (rtt ∷ variance ∷ window ∷ rest) notes = refl
+no_outgoing : (rest : List ℕ) (notes : List Note) → misdirected_in (sampled rest ++ notes) ≡ misdirected_in notes
+no_outgoing [] notes = refl
+no_outgoing (rtt ∷ []) notes = refl
+no_outgoing (rtt ∷ variance ∷ []) notes = refl
+no_outgoing (rtt ∷ variance ∷ window ∷ rest) notes = refl
 
 grown_none : (time : ℕ) (grows : Bool) (notes : List Note) → misdirected_in (grown time grows ++ notes) ≡ misdirected_in notes
 grown_none time true notes = refl
@@ -74,7 +89,8 @@ counts_acked time rest n c m h =
       queued_is = h.queued_is;
       bytes_is = h.bytes_is;
       naks_is = h.naks_is;
-      misdirected_is = h.misdirected_is ∙ ap capped (sym (told_none rest (grown time grows ++ m.notes) ∙ grown_none time grows m.notes));
+      given_up_is = h.given_up_is;
+      misdirected_is = h.misdirected_is ∙ ap capped (sym (no_outgoing rest (grown time grows ++ m.notes) ∙ grown_none time grows m.notes));
     }
 
 -- a data packet is sent
@@ -118,5 +134,12 @@ pub counts_renewed : (percent : Option ℕ) (time : ℕ) (c : Counts) (m : Subsc
 counts_renewed percent time c m h = by (renewal_due percent time m.notes)
   where
     by : (b : Bool) → Counted c (record m { notes = if b then Renewed time ∷ m.notes else m.notes })
-    by true = record { queued_is = h.queued_is; bytes_is = h.bytes_is; naks_is = h.naks_is; misdirected_is = h.misdirected_is }
+    by true =
+        record {
+          queued_is = h.queued_is;
+          bytes_is = h.bytes_is;
+          naks_is = h.naks_is;
+          given_up_is = h.given_up_is;
+          misdirected_is = h.misdirected_is;
+        }
     by false = h

@@ -5,7 +5,7 @@ use Rattle.std.specs.Prelude.{nat_lt, nat_le}
 use Rattle.std.proofs.Math.Nat.{mul-add}
 use Rattle.std.proofs.lemmas.Bool.{true≢false}
 use Rattle.std.proofs.lemmas.Bool.Decides.{nat_tests}
-use Rattle.srt_sub.specs.Subscribing.{Report, Acked, Dropped, Media, KeepAlive, Note, Sent, Renewed, is_media, told, grown, credit, credit_after}
+use Rattle.srt_sub.specs.Subscribing.{Report, Acked, Dropped, Media, KeepAlive, Note, Sent, Renewed, Presumed, is_media, sampled, grown, credit, credit_after}
 use Rattle.srt_sub.specs.Subscribing.{last_media, may_resend, resends, renewal_due, renewed_notes}
 use Rattle.srt_sub.specs.Counting.{again_in, fresh_in, renewals_in}
 use Rattle.srt_sub.specs.Stands.{AreCredited, IsCredit}
@@ -26,12 +26,12 @@ credited_later percent time later notes le h =
     record { before = omega (arith, h.before, le); rare = omega (arith, h.rare, le); bounded = h.bounded; spent = h.spent }
 
 -- the bound after an ACK
-pub credited_told : (percent : Option ℕ) (time : ℕ) (rest : List ℕ) (notes : List Note)
-    → AreCredited percent time notes → AreCredited percent time (told rest ++ notes)
-credited_told percent time [] notes h = h
-credited_told percent time (rtt ∷ []) notes h = h
-credited_told percent time (rtt ∷ variance ∷ []) notes h = h
-credited_told percent time (rtt ∷ variance ∷ window ∷ rest) notes h = h
+pub credited_reported : (percent : Option ℕ) (time : ℕ) (rest : List ℕ) (notes : List Note)
+    → AreCredited percent time notes → AreCredited percent time (sampled rest ++ notes)
+credited_reported percent time [] notes h = h
+credited_reported percent time (rtt ∷ []) notes h = h
+credited_reported percent time (rtt ∷ variance ∷ []) notes h = h
+credited_reported percent time (rtt ∷ variance ∷ window ∷ rest) notes h = h
 
 pub credited_grown : (percent : Option ℕ) (time : ℕ) (grows : Bool) (notes : List Note)
     → AreCredited percent time notes → AreCredited percent time (grown time grows ++ notes)
@@ -153,6 +153,11 @@ renewal_said (Some p) time (Acked mark) notes m e = e
 renewal_said (Some p) time (Dropped run) notes m e = e
 renewal_said (Some p) time (Media n again origin payload) notes m e = absurd (true≢false m)
 renewal_said (Some p) time KeepAlive notes m e = e
+
+pub renewal_presumed : (percent : Option ℕ) (time : ℕ) (notes : List Note)
+    → renewal_due percent time notes ≡ false → renewal_due percent time (Presumed ∷ notes) ≡ false
+renewal_presumed None time notes e = refl
+renewal_presumed (Some p) time notes e = e
 
 none_since : (time : ℕ) → nat_le 20_000 (time - time) ≡ false
 none_since time = grind (arith, nat_tests)

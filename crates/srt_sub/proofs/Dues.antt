@@ -6,7 +6,7 @@ use Rattle.std.proofs.lemmas.Bool.{ltb-true}
 use Rattle.std.proofs.lemmas.List.Elements.{All-head, All-tail}
 use Rattle.srt_sendbuf.specs.Sending.{Queued, Sending, next, in_flight, lost, sent, Due, due, due_at, due_new, due_number, sent_number, after_due}
 use Rattle.srt_sendbuf.specs.Sending.{due_of as due_for}
-use Rattle.srt_sendbuf.specs.Told.{Told, told}
+use Rattle.srt_sendbuf.specs.Outgoing.{Outgoing, outgoing}
 use Rattle.srt_sendbuf.specs.Stands as places
 use Rattle.srt_sendbuf.specs.declared.buffer.SendBuf.{SendBuf}
 use Rattle.srt_sendbuf.proofs.OneByOne.{lost_one_by_one}
@@ -20,13 +20,14 @@ use Rattle.srt_sub.proofs.Turns.{there_is, some_there, new_is_new}
 pub sent_in_queue : (width initial : ℕ) (b : SendBuf) (r : Sending) → places.StandsFor width initial b r → next r ≤ length r.queue
 sent_in_queue width initial b r h = let i = b.sent_in in let q = h.fields.queued_is in let n = h.fields.flying_is in omega (arith, i, q, n)
 
-pub told_due : (initial : ℕ) (o : Option Due) (t : Told) → Some t ≡ option_map (told initial) o → (d : Due) × (o ≡ Some d) × (t ≡ told initial d)
-told_due initial None t e = absurd cc
-told_due initial (Some d) t e = (d, refl, cc)
+pub next_outgoing : (initial : ℕ) (o : Option Due) (t : Outgoing) → Some t ≡ option_map (outgoing initial) o
+    → (d : Due) × (o ≡ Some d) × (t ≡ outgoing initial d)
+next_outgoing initial None t e = absurd cc
+next_outgoing initial (Some d) t e = (d, refl, cc)
 
-pub no_told_due : (initial : ℕ) (o : Option Due) → None ≡ option_map (told initial) o → o ≡ None
-no_told_due initial None e = refl
-no_told_due initial (Some d) e = absurd cc
+pub none_outgoing_due : (initial : ℕ) (o : Option Due) → None ≡ option_map (outgoing initial) o → o ≡ None
+none_outgoing_due initial None e = refl
+none_outgoing_due initial (Some d) e = absurd cc
 
 abbrev number : Sending → Bool → Option (ℕ × Bool)
 number s b = if b then Some (next s, false) else None

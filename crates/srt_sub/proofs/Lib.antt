@@ -8,3 +8,5 @@ pub mod Counted
 pub mod Counting
 pub mod Rows
 pub mod Credits
+pub mod Doubling
+pub mod Tries

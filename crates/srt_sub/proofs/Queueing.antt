@@ -1,7 +1,7 @@
 -- A payload is queued, or isn't.
 use Rattle.std.proofs.Common.{◌≡◌, ℕ, ◌<◌, true, false, List, refl, arith}
-use Rattle.srt_seq.specs.declared.shared.Mode.{Mode}
-use Rattle.srt_seq.specs.declared.shared.Mode.TheVariants.{Live, Buffer}
+use Rattle.srt_types.specs.declared.shared.Mode.{Mode}
+use Rattle.srt_types.specs.declared.shared.Mode.TheVariants.{Live, Buffer}
 use Rattle.srt_sendbuf.specs.Sending.{Sending, room, queued}
 use Rattle.srt_sub.specs.Subscribing.{Terms, Subscribing, expired_in, fits, fed}
 use Rattle.srt_sub.proofs.Sound.{has_no_room}

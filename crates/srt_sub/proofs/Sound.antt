@@ -5,10 +5,10 @@ use Rattle.std.proofs.lemmas.Bool.{lt-ltb}
 use Rattle.std.proofs.lemmas.Bool.Decides.{nat_tests}
 use Rattle.std.proofs.lemmas.Int.{ints}
 use Rattle.std.proofs.lemmas.List.Elements.{All-nil, All-push}
-use Rattle.srt_seq.specs.declared.shared.Mode.{Mode}
-use Rattle.srt_seq.specs.declared.shared.Mode.TheVariants.{Live, Buffer}
-use Rattle.srt_seq.specs.Window.{counted_from, in_window}
-use Rattle.srt_tsbpd.specs.Deadline.{too_late_at}
+use Rattle.srt_types.specs.declared.shared.Mode.{Mode}
+use Rattle.srt_types.specs.declared.shared.Mode.TheVariants.{Live, Buffer}
+use Rattle.srt_types.specs.Window.{counted_from, in_window}
+use Rattle.srt_timing.specs.Deadline.{too_late_at}
 use Rattle.srt_sendbuf.specs.Sending.{Queued, Sending, nothing_yet, queued}
 use Rattle.srt_sendbuf.proofs.OneByOne.{times_go_on, expiry_goes_on}
 use Rattle.srt_sub.specs.Subscribing.{Terms, Note, Misdirected, Subscribing, opened, expired, expired_in, fits, reports}
@@ -24,8 +24,8 @@ use Rattle.srt_sub.specs.declared.history.History.{History}
 use Rattle.srt_sub.specs.declared.session.Subscriber.{Subscriber}
 use Rattle.srt_sub.specs.Emission.{EmissionBegins, IsLeft, StandsLater}
 use Rattle.srt_sub.specs.Endings.{is_short}
-use Rattle.srt_sendbuf.specs.Told.{Gone}
-use Rattle.srt_seq.specs.Runs.{Run}
+use Rattle.srt_sendbuf.specs.Outgoing.{Gone}
+use Rattle.srt_types.specs.Runs.{Run}
 use Rattle.std.specs.Prelude.{is_some, option_map, if◌then◌else◌, ◌&&◌}
 use Rattle.srt_sendbuf.specs.Sending.{room}
 
@@ -56,15 +56,17 @@ sound_at_first terms time =
 -- a session whose fields are those of an opening
 pub stands_at_first : (terms : Terms) (initial opening caller time : ℕ) (s : Subscriber)
     → places.StandsFor terms.width initial s.buffer nothing_yet → IsHistory initial terms s.history [] → s.mode ≡ terms.mode
-    → s.delay ≡ terms.delay → s.mtu ≡ terms.mtu → s.opening ≡ opening → s.caller ≡ caller → s.given ≡ 0 → s.phase ≡ Lost → Counted s.counts opened
+    → s.delay ≡ terms.delay → s.mtu ≡ terms.mtu → s.resending ≡ terms.resending → s.opening ≡ opening → s.caller ≡ caller → s.given ≡ 0 → s.phase ≡ Lost
+    → Counted s.counts opened
     → StandsIn terms initial opening caller time 0 s opened
-stands_at_first terms initial opening caller time s buffer history mode delay mtu moment socket given phase counts =
+stands_at_first terms initial opening caller time s buffer history mode delay mtu resending moment socket given phase counts =
     record {
       buffer_is = buffer;
       history_is = history;
       mode_is = mode;
       delay_is = delay;
       mtu_is = mtu;
+      resending_is = resending;
       opening_is = moment;
       caller_is = socket;
       given_is = given;
@@ -118,9 +120,9 @@ pub isnt_gone : (b : Bool) (x : Gone) → None ≡ (if b then Some x else None) 
 isnt_gone true x e = absurd cc
 isnt_gone false x e = refl
 
-pub told_run : (initial : ℕ) (g : Gone) (o : Option Run) → Some g ≡ option_map (run_gone initial) o → (r : Run) × (o ≡ Some r) × (g ≡ run_gone initial r)
-told_run initial g None e = absurd cc
-told_run initial g (Some r) e = (r, refl, cc)
+pub outgoing_run : (initial : ℕ) (g : Gone) (o : Option Run) → Some g ≡ option_map (run_gone initial) o → (r : Run) × (o ≡ Some r) × (g ≡ run_gone initial r)
+outgoing_run initial g None e = absurd cc
+outgoing_run initial g (Some r) e = (r, refl, cc)
 
 -- the parts of a session that may change
 pub rephased : (terms : Terms) (initial opening caller time given : ℕ) (s : Subscriber) (m : Subscribing)
@@ -135,6 +137,7 @@ rephased terms initial opening caller time given s m h later count g b x n given
       mode_is = h.mode_is;
       delay_is = h.delay_is;
       mtu_is = h.mtu_is;
+      resending_is = h.resending_is;
       opening_is = h.opening_is;
       caller_is = h.caller_is;
       given_is = given_is;
@@ -166,6 +169,8 @@ history_misdirected initial agreed x notes h =
       missed_is = h.missed_is;
       sendings_are = h.sendings_are;
       credit_is = record { percent_is = h.credit_is.percent_is; hundredths_are = h.credit_is.hundredths_are };
+      tries_are = h.tries_are;
+      once = h.once;
     }
 
 pub stands_later : StandsLater
@@ -187,13 +192,13 @@ at_time terms initial opening caller now time s m is h =
     record { time_is = same; stands = subst (λ (t : ℕ). StandsIn terms initial opening caller t 0 s m) (sym same) h }
 
 pub begins : EmissionBegins
-begins terms initial opening caller last now s m h le =
+begins terms initial opening caller last now recent s m h le =
     record {
       given = 0;
       middle = m;
       stands = stands_later terms initial opening caller last now s m h le;
-      left_is = subst (λ (f : Phase). IsLeft terms (now - opening) 0 f (expired terms (now - opening) m) m
-          (reports terms (now - opening) (expired terms (now - opening) m)))
+      left_is = subst (λ (f : Phase). IsLeft terms (now - opening) recent 0 f (expired terms (now - opening) m) m
+          (reports terms (now - opening) recent (expired terms (now - opening) m)))
           (sym (h.phase_is refl)) (record { few = omega arith; left_is = refl; end_is = refl });
     }
 

@@ -1,30 +1,33 @@
 -- The packets of an event's end, one by one.
-use Rattle.std.proofs.Common.{◌≡◌, ℕ, zero, suc, ◌+◌, ◌-◌, ◌<◌, ◌≤◌, ◌==◌, min, max, Bool, true, false, ◌&&◌, if◌then◌else◌, Option, None}
+use Rattle.std.proofs.Common.{◌≡◌, ℕ, zero, suc, ◌+◌, ◌-◌, ◌*◌, ◌/◌, ◌^◌, ◌<◌, ◌≤◌, ◌==◌, min, max, Bool, true, false, ◌&&◌, if◌then◌else◌, Option, None}
 use Rattle.std.proofs.Common.{Some, List, [], ◌∷◌, ◌++◌, length, take, inl, inr, ◌⊎◌, refl, sym, ap, subst, ◌∙◌, arith}
 use Rattle.std.specs.Prelude.{slice_get, nat_lt, nat_le, filter, map}
 use Rattle.std.specs.Option.{option_to_list}
 use Rattle.std.proofs.lemmas.Bool.{ne_eqb, ltb-true}
 use Rattle.std.proofs.lemmas.Bool.Decides.{nat_tests}
-use Rattle.srt_seq.specs.Given.{given}
-use Rattle.srt_seq.specs.Runs.{Run, numbers_from}
-use Rattle.srt_seq.specs.declared.shared.Mode.{Mode}
-use Rattle.srt_seq.specs.declared.shared.Mode.TheVariants.{Live, Buffer}
-use Rattle.srt_rtt.specs.RoundTrip.{resend_after}
+use Rattle.srt_types.specs.Given.{given}
+use Rattle.srt_types.specs.Runs.{Run, numbers_from}
+use Rattle.srt_types.specs.declared.shared.Mode.{Mode}
+use Rattle.srt_types.specs.declared.shared.Mode.TheVariants.{Live, Buffer}
 use Rattle.srt_packet.specs.Encoded.{bytes_of}
 use Rattle.srt_packet.specs.declared.encoded.EncodedPacket.{EncodedPacket}
 use Rattle.srt_sendbuf.specs.Sending.{Queued, Sending, All_of, front, next, in_flight, is_in_span, is_marked, lost, all_lost, sent, Due}
 use Rattle.srt_sendbuf.specs.Sending.{due, due_at, due_new, due_number, due_of as due_for}
 use Rattle.srt_sendbuf.proofs.OneByOne.{lost_one_by_one, new_one_by_one}
-use Rattle.srt_sub.specs.Subscribing.{Terms, Report, Dropped, Media, KeepAlive, Note, Sent, Subscribing, is_media, last_sent, last_growth}
-use Rattle.srt_sub.specs.Subscribing.{round_trip, flow_window, untold, drops, drops_of, expired, expired_in, resend_due, presumed, most, may_resend, resends}
+use Rattle.srt_sub.specs.Subscribing.{Terms, Report, Dropped, Media, KeepAlive, Note, Sent, Presumed, Subscribing, is_media, last_sent, last_media}
+use Rattle.srt_sub.specs.Subscribing.{tries, resend_timeout, quiet_time, has_waited}
+use Rattle.srt_sub.specs.declared.resend_all.Resending.{Resending}
+use Rattle.srt_sub.specs.declared.resend_all.Resending.TheVariants.{AtEachTimeout, Once, BackingOff}
+use Rattle.srt_sub.proofs.Doubling.{at_least}
+use Rattle.srt_sub.specs.Subscribing.{flow_window, unreported, drops, drops_of, expired, expired_in, resend_due, presumed, most, may_resend, resends}
 use Rattle.srt_sub.specs.Subscribing.{again_of, new_of, media, media_of, keep_alives, noted, due_of, reports_of, sent_each, sent_of}
 use Rattle.srt_sub.specs.Subscribing.{prepared, renewed, renewal_due}
 use Rattle.srt_sub.specs.Says.{says}
 use Rattle.srt_sub.specs.inside.Turns.{due_in, next_in, phase_after, phase_now, with_due, given_with, texts, PreparesAt, WritesMedia, SendsMedia}
 use Rattle.srt_sub.specs.declared.session.Phase.{Phase}
 use Rattle.srt_sub.specs.declared.session.Phase.TheVariants.{Lost, New}
-use Rattle.srt_sub.proofs.Freshness.{fresh_twice}
-use Rattle.srt_sub.proofs.Credits.{not_renewed, renewal_gave, renewal_once, renewal_said, resends_few, resends_none, resends_one}
+use Rattle.srt_sub.proofs.Freshness.{fresh_twice, none_given_up}
+use Rattle.srt_sub.proofs.Credits.{not_renewed, renewal_gave, renewal_once, renewal_presumed, renewal_said, resends_few, resends_none, resends_one}
 use Rattle.srt_sub.specs.Stands.{StandsIn, BecomesAt, WritesAt}
 use Rattle.srt_sub.specs.Emission.{IsLeft, IsNextAt, resends_in}
 use Rattle.srt_sub.specs.declared.session.Subscriber.{Subscriber}
@@ -34,8 +37,8 @@ pub quiet : (time : ℕ) (due : List Report) (r : Report) (notes : List Note) �
 quiet time (d ∷ due) r notes = refl
 quiet time [] r notes = let e : nat_le 1_000_000 (time - time) ≡ false = grind (arith, nat_tests) in rw e refl
 
-made : Sending → List Note → Subscribing
-made sending notes = record { sending = sending; notes = notes }
+made : ℕ → Sending → List Note → Subscribing
+made given_up sending notes = record { sending = sending; notes = notes; given_up = given_up }
 
 -- the first packet, and those after it: before it `p` data packets may be sent, at most `x` of them again, and after
 -- it `q` and `y`
@@ -48,27 +51,27 @@ abbrev row : List Queued → Option Run → List ℕ → List ℕ → List Repor
 row queue run again new = drops_of run ++ media true again queue ++ media false new queue
 
 pub one_more : (p x q y : ℕ) (terms : Terms) (time : ℕ) (s : Subscribing) (t : Sending) (r : Report)
-    → due_of p x terms s ≡ r ∷ due_of q y terms (record { sending = t; notes = Sent time r ∷ s.notes })
+    → due_of p x terms s ≡ r ∷ due_of q y terms (record s { sending = t; notes = Sent time r ∷ s.notes })
     → sent_each (again_of x s.sending ++ new_of p x (flow_window terms.window s.notes) s.sending) s.sending
     ≡ sent_each (again_of y t ++ new_of q y (flow_window terms.window s.notes) t) t
-    → Parts p x q y terms time s (record { sending = t; notes = Sent time r ∷ s.notes }) r
+    → Parts p x q y terms time s (record s { sending = t; notes = Sent time r ∷ s.notes }) r
 unfolding made
 one_more p x q y terms time s t r d e =
-    let after : Subscribing = record { sending = t; notes = Sent time r ∷ s.notes } in
+    let after : Subscribing = record s { sending = t; notes = Sent time r ∷ s.notes } in
     let left = due_of q y terms after in
     let rs : reports_of p x terms time s ≡ r ∷ reports_of q y terms time after =
     ap (λ d. d ++ keep_alives time d s.notes) d ∙ ap (λ k. r ∷ (left ++ k)) (sym (quiet time left r s.notes)) in
-    let whole : made (sent_each (again_of x s.sending ++ new_of p x (flow_window terms.window s.notes) s.sending) s.sending)
+    let whole : made s.given_up (sent_each (again_of x s.sending ++ new_of p x (flow_window terms.window s.notes) s.sending) s.sending)
     (noted time (reports_of p x terms time s) s.notes)
-    ≡ made (sent_each (again_of y t ++ new_of q y (flow_window terms.window s.notes) t) t)
+    ≡ made s.given_up (sent_each (again_of y t ++ new_of q y (flow_window terms.window s.notes) t) t)
     (noted time (reports_of q y terms time after) (Sent time r ∷ s.notes)) =
-    ap (λ z. made z (noted time (reports_of p x terms time s) s.notes)) e
-    ∙ ap (λ rs. made (sent_each (again_of y t ++ new_of q y (flow_window terms.window s.notes) t) t) (noted time rs s.notes)) rs in
+    ap (λ z. made s.given_up z (noted time (reports_of p x terms time s) s.notes)) e
+    ∙ ap (λ rs. made s.given_up (sent_each (again_of y t ++ new_of q y (flow_window terms.window s.notes) t) t) (noted time rs s.notes)) rs in
     record { reports_are = rs; end_is = whole }
 
 -- a drop request
 pub a_drop : (p x : ℕ) (terms : Terms) (time : ℕ) (s : Subscribing) (run : Run)
-    → untold s.notes ≡ Some run → Parts p x p x terms time s (record s { notes = Sent time (Dropped run) ∷ s.notes }) (Dropped run)
+    → unreported s.notes ≡ Some run → Parts p x p x terms time s (record s { notes = Sent time (Dropped run) ∷ s.notes }) (Dropped run)
 a_drop p x terms time s run u =
     one_more p x p x terms time s s.sending (Dropped run)
     (ap (λ o. row s.sending.queue o (again_of x s.sending) (new_of p x (flow_window terms.window s.notes) s.sending)) u) refl
@@ -86,8 +89,8 @@ none_taken (suc q) = refl
 
 -- a resend
 pub an_old_one : (p x q y : ℕ) (terms : Terms) (time : ℕ) (s : Subscribing) (n : ℕ) (more : List ℕ) (k : Queued) → p ≡ suc q → x ≡ suc y
-    → untold s.notes ≡ None → lost s.sending ≡ n ∷ more → slice_get s.sending.queue n ≡ Some k
-    → Parts p x q y terms time s (record { sending = sent n s.sending; notes = Sent time (Media n true k.origin k.payload) ∷ s.notes })
+    → unreported s.notes ≡ None → lost s.sending ≡ n ∷ more → slice_get s.sending.queue n ≡ Some k
+    → Parts p x q y terms time s (record s { sending = sent n s.sending; notes = Sent time (Media n true k.origin k.payload) ∷ s.notes })
     (Media n true k.origin k.payload)
 an_old_one p x q y terms time s n more k pq xy u l g =
     one_more p x q y terms time s t (Media n true k.origin k.payload)
@@ -123,12 +126,12 @@ an_old_one p x q y terms time s n more k pq xy u l g =
         ∙ ap (λ k. numbers_from k (min (q - length (again_of y t)) (min (w - (next t - front b)) (length queue - next t)))) (sym same)
 
 -- a new packet
-pub a_new_one : (p x q y : ℕ) (terms : Terms) (time : ℕ) (s : Subscribing) (k : Queued) → p ≡ suc q → untold s.notes ≡ None
+pub a_new_one : (p x q y : ℕ) (terms : Terms) (time : ℕ) (s : Subscribing) (k : Queued) → p ≡ suc q → unreported s.notes ≡ None
     → again_of x s.sending ≡ [] → again_of y (sent (next s.sending) s.sending) ≡ []
     → in_flight s.sending < flow_window terms.window s.notes → next s.sending < length s.sending.queue
     → slice_get s.sending.queue (next s.sending) ≡ Some k
     → Parts p x q y terms time s
-    (record { sending = sent (next s.sending) s.sending; notes = Sent time (Media (next s.sending) false k.origin k.payload) ∷ s.notes })
+    (record s { sending = sent (next s.sending) s.sending; notes = Sent time (Media (next s.sending) false k.origin k.payload) ∷ s.notes })
     (Media (next s.sending) false k.origin k.payload)
 a_new_one p x q y terms time s k pq u old older held more g =
     one_more p x q y terms time s t (Media (next b) false k.origin k.payload)
@@ -171,7 +174,7 @@ there_is (x ∷ xs) (suc n) lt = there_is xs n (omega (arith, lt))
 -- a data packet that is due
 media_is : (p x q y : ℕ) (terms : Terms) (time : ℕ) (s : Subscribing) (d : Due) (again : Bool) (n : ℕ) (k : Queued)
     → due_for n again (Some k) ≡ Some d
-    → Parts p x q y terms time s (record { sending = sent n s.sending; notes = Sent time (Media n again k.origin k.payload) ∷ s.notes })
+    → Parts p x q y terms time s (record s { sending = sent n s.sending; notes = Sent time (Media n again k.origin k.payload) ∷ s.notes })
     (Media n again k.origin k.payload)
     → Parts p x q y terms time s (with_due time (Some d) s) (Media d.number d.again d.origin d.payload)
 media_is p x q y terms time s d again n k f h =
@@ -180,7 +183,7 @@ media_is p x q y terms time s d again n k f h =
     subst (λ (z : Due). Parts p x q y terms time s (with_due time (Some z) s) (Media z.number z.again z.origin z.payload)) same h
 
 -- a new packet, if none is sent again before it or after it
-a_new_media : (p x q : ℕ) (terms : Terms) (time : ℕ) (s : Subscribing) (d : Due) → p ≡ suc q → untold s.notes ≡ None
+a_new_media : (p x q : ℕ) (terms : Terms) (time : ℕ) (s : Subscribing) (d : Due) → p ≡ suc q → unreported s.notes ≡ None
     → again_of x s.sending ≡ [] → due_new (flow_window terms.window s.notes) s.sending ≡ Some d
     → Parts p x q 0 terms time s (with_due time (Some d) s) (Media d.number d.again d.origin d.payload)
 a_new_media p x q terms time s d pq u old e =
@@ -225,7 +228,7 @@ none_left : (phase : Phase) (percent : Option ℕ) (time q : ℕ) (d : Due) (not
 none_left phase percent time q d notes e =
     ap (λ (b : Bool). resends_in (if b then phase else New) percent q (Sent time (Media d.number d.again d.origin d.payload) ∷ notes)) e
 
-pub a_media : (p q : ℕ) (phase : Phase) (terms : Terms) (time : ℕ) (s : Subscribing) (d : Due) → p ≡ suc q → untold s.notes ≡ None
+pub a_media : (p q : ℕ) (phase : Phase) (terms : Terms) (time : ℕ) (s : Subscribing) (d : Due) → p ≡ suc q → unreported s.notes ≡ None
     → next s.sending ≤ length s.sending.queue
     → next_in (phase_now phase terms.resend_percent s.notes) (flow_window terms.window s.notes) s.sending ≡ Some d
     → Parts p (resends_in phase terms.resend_percent p s.notes) q (left_after phase terms.resend_percent time q d s.notes) terms time s
@@ -351,7 +354,7 @@ no_media zero phase terms s le e =
 no_media (suc q) phase terms s le e =
     no_media_in (suc q) phase terms s le (let b : (suc q == 0) ≡ false = ne_eqb _ _ (λ x. omega (arith, x)) in rw b at e)
 
-nothing_due : (p x : ℕ) (terms : Terms) (s : Subscribing) → untold s.notes ≡ None → IsNone p x terms s → due_of p x terms s ≡ []
+nothing_due : (p x : ℕ) (terms : Terms) (s : Subscribing) → unreported s.notes ≡ None → IsNone p x terms s → due_of p x terms s ≡ []
 nothing_due p x terms s u h =
     ap (λ o. row s.sending.queue o (again_of x s.sending) (new_of p x (flow_window terms.window s.notes) s.sending)) u
     ∙ ap (λ a. row s.sending.queue None a (new_of p x (flow_window terms.window s.notes) s.sending)) h.old
@@ -363,7 +366,7 @@ nothing_sent p x terms s h =
     ap (λ a. sent_each (a ++ new_of p x (flow_window terms.window s.notes) s.sending) s.sending) h.old ∙ ap (λ a. sent_each a s.sending) h.new
 
 -- a KEEPALIVE
-pub a_keep_alive : (p x : ℕ) (terms : Terms) (time : ℕ) (s : Subscribing) → untold s.notes ≡ None → IsNone p x terms s
+pub a_keep_alive : (p x : ℕ) (terms : Terms) (time : ℕ) (s : Subscribing) → unreported s.notes ≡ None → IsNone p x terms s
     → keep_alives time [] s.notes ≡ KeepAlive ∷ []
     → Parts p x p x terms time s (record s { notes = Sent time KeepAlive ∷ s.notes }) KeepAlive
 unfolding made
@@ -374,9 +377,10 @@ a_keep_alive p x terms time s u h k =
     let none : reports_of p x terms time after ≡ [] =
     ap (λ d. d ++ keep_alives time d (Sent time KeepAlive ∷ s.notes)) due_none ∙ quiet time [] KeepAlive s.notes in
     let sending = sent_each (again_of x s.sending ++ new_of p x (flow_window terms.window s.notes) s.sending) s.sending in
-    let whole : made sending (noted time (reports_of p x terms time s) s.notes)
-    ≡ made sending (noted time (reports_of p x terms time after) (Sent time KeepAlive ∷ s.notes)) =
-    ap (λ rs. made sending (noted time rs s.notes)) one ∙ sym (ap (λ rs. made sending (noted time rs (Sent time KeepAlive ∷ s.notes))) none) in
+    let whole : made s.given_up sending (noted time (reports_of p x terms time s) s.notes)
+    ≡ made s.given_up sending (noted time (reports_of p x terms time after) (Sent time KeepAlive ∷ s.notes)) =
+    ap (λ rs. made s.given_up sending (noted time rs s.notes)) one
+    ∙ sym (ap (λ rs. made s.given_up sending (noted time rs (Sent time KeepAlive ∷ s.notes))) none) in
     record { reports_are = one ∙ ap (λ rs. KeepAlive ∷ rs) (sym none); end_is = whole }
 
 -- no packet remains
@@ -385,28 +389,29 @@ pub record IsOver (p x : ℕ) (terms : Terms) (time : ℕ) (s : Subscribing) : T
   pub end_is : sent_of p x terms time s ≡ s
 
 pub over : (p x : ℕ) (terms : Terms) (time : ℕ) (s : Subscribing)
-    → untold s.notes ≡ None → IsNone p x terms s → keep_alives time [] s.notes ≡ [] → IsOver p x terms time s
+    → unreported s.notes ≡ None → IsNone p x terms s → keep_alives time [] s.notes ≡ [] → IsOver p x terms time s
 unfolding made
 over p x terms time s u h k =
     let due_none = nothing_due p x terms s u h in
     let none : reports_of p x terms time s ≡ [] = ap (λ d. d ++ keep_alives time d s.notes) due_none ∙ k in
     let sending = sent_each (again_of x s.sending ++ new_of p x (flow_window terms.window s.notes) s.sending) s.sending in
-    let whole : made sending (noted time (reports_of p x terms time s) s.notes) ≡ made s.sending s.notes =
-    ap (λ rs. made sending (noted time rs s.notes)) none ∙ ap (λ z. made z s.notes) (nothing_sent p x terms s h) in
+    let whole : made s.given_up sending (noted time (reports_of p x terms time s) s.notes) ≡ made s.given_up s.sending s.notes =
+    ap (λ rs. made s.given_up sending (noted time rs s.notes)) none ∙ ap (λ z. made s.given_up z s.notes) (nothing_sent p x terms s h) in
     record { reports_are = none; end_is = whole }
 
 -- after too-late packets were dropped, the credit was raised, and packets in flight were marked as lost if due
-pub record IsSettled (terms : Terms) (time : ℕ) (s : Subscribing) : Type 0 where
+pub record IsSettled (terms : Terms) (time : ℕ) (recent : Bool) (s : Subscribing) : Type 0 where
   pub fresh : expired_in terms.mode terms time s.sending ≡ s.sending
   pub paid : renewal_due terms.resend_percent time s.notes ≡ false
-  pub calm : resend_due time s ≡ false
+  pub calm : resend_due terms time recent s ≡ false
 
-pub settled_stays : (terms : Terms) (time : ℕ) (s : Subscribing) → IsSettled terms time s → prepared terms time (expired terms time s) ≡ s
+pub settled_stays : (terms : Terms) (time : ℕ) (recent : Bool) (s : Subscribing)
+    → IsSettled terms time recent s → prepared terms time recent (expired terms time s) ≡ s
 unfolding made
-settled_stays terms time s h =
-    ap (λ x. prepared terms time (made x s.notes)) h.fresh
-    ∙ ap (λ ns. presumed time (made s.sending ns)) (not_renewed terms.resend_percent time s.notes h.paid)
-    ∙ ap (λ b. if b then made (all_lost s.sending) s.notes else made s.sending s.notes) h.calm
+settled_stays terms time recent s h =
+    ap (prepared terms time recent) (none_given_up s (expired_in terms.mode terms time s.sending) h.fresh)
+    ∙ ap (λ ns. presumed terms time recent (made s.given_up s.sending ns)) (not_renewed terms.resend_percent time s.notes h.paid)
+    ∙ ap (λ b. if b then made s.given_up (all_lost s.sending) (Presumed ∷ s.notes) else made s.given_up s.sending s.notes) h.calm
 
 abbrev with_expired : Sending → ℕ → Sending
 with_expired s n = record s { expired = n }
@@ -439,8 +444,9 @@ all_are_lost s lt =
     let all = ap length (ap (λ k. filter test (numbers_from (front s) k)) places ∙ some) in
     ne_eqb _ _ (λ e. omega (arith, all, e))
 
-pub settled : (terms : Terms) (time : ℕ) (s : Subscribing) → IsSettled terms time (prepared terms time (expired terms time s))
-settled terms time s = by (resend_due time t) refl
+pub settled : (terms : Terms) (time : ℕ) (recent : Bool) (s : Subscribing)
+    → IsSettled terms time recent (prepared terms time recent (expired terms time s))
+settled terms time recent s = by (resend_due terms time recent t) refl
   where
     t : Subscribing
     t = renewed terms time (expired terms time s)
@@ -448,47 +454,70 @@ settled terms time s = by (resend_due time t) refl
     fresh : expired_in terms.mode terms time t.sending ≡ t.sending
     fresh = fresh_twice terms.mode terms time s.sending
 
-    stale : resend_due time t ≡ true → front t.sending < next t.sending
+    stale : resend_due terms time recent t ≡ true → front t.sending < next t.sending
     stale e = grind (arith, nat_tests, e)
 
-    by : (b : Bool) → resend_due time t ≡ b → IsSettled terms time (if b then record t { sending = all_lost t.sending } else t)
+    by : (b : Bool) → resend_due terms time recent t ≡ b
+        → IsSettled terms time recent (if b then record t { sending = all_lost t.sending; notes = Presumed ∷ t.notes } else t)
     by true e =
         record {
           fresh = fresh_lost terms.mode terms time t.sending fresh;
-          paid = renewal_once terms.resend_percent time s.notes;
+          paid = renewal_presumed terms.resend_percent time t.notes (renewal_once terms.resend_percent time s.notes);
           calm = false_first _ _ _ (all_are_lost t.sending (stale e));
         }
     by false e = record { fresh = fresh; paid = renewal_once terms.resend_percent time s.notes; calm = e }
 
-pub settled_said : (terms : Terms) (time : ℕ) (s : Subscribing) (r : Report)
-    → is_media r ≡ false → IsSettled terms time s → IsSettled terms time (record s { notes = Sent time r ∷ s.notes })
-settled_said terms time s r m h =
+-- a packet without data changes nothing of that
+waited_alike : (rule : Resending) (delay time : ℕ) (recent : Bool) (later : ℕ) (r : Report) (notes : List Note)
+    → is_media r ≡ false → has_waited rule delay time recent (Sent later r ∷ notes) ≡ has_waited rule delay time recent notes
+waited_alike AtEachTimeout delay time recent later r notes m = rw m refl
+waited_alike Once delay time recent later r notes m = rw m refl
+waited_alike BackingOff delay time recent later r notes m = rw m refl
+
+pub settled_said : (terms : Terms) (time : ℕ) (recent : Bool) (s : Subscribing) (r : Report)
+    → is_media r ≡ false → IsSettled terms time recent s → IsSettled terms time recent (record s { notes = Sent time r ∷ s.notes })
+settled_said terms time recent s r m h =
     record {
       fresh = h.fresh;
       paid = renewal_said terms.resend_percent time r s.notes m h.paid;
-      calm = rw m h.calm;
+      calm = ap (λ b. (nat_lt (front s.sending) (next s.sending) && (length (lost s.sending) == 0)) && b)
+          (waited_alike terms.resending terms.delay time recent time r s.notes m)
+          ∙ h.calm;
     }
 
-pub settled_gave : (terms : Terms) (time n : ℕ) (s : Subscribing) (r : Report) → is_media r ≡ true → IsSettled terms time s
-    → IsSettled terms time (record { sending = sent n s.sending; notes = Sent time r ∷ s.notes })
-settled_gave terms time n s r m h =
-    let none : nat_le (resend_after (round_trip s.notes)) (time - max time (last_growth s.notes)) ≡ false = grind (arith, nat_tests) in
+-- nothing is presumed lost at the time of a data packet
+none_waited : (rule : Resending) (delay time : ℕ) (recent : Bool) (notes : List Note)
+    → last_media notes ≡ time → has_waited rule delay time recent notes ≡ false
+none_waited AtEachTimeout delay time recent notes e = grind (arith, nat_tests, e)
+none_waited Once delay time recent notes e =
+    let none : nat_le (max (resend_timeout notes) (delay / 2)) (quiet_time time notes) ≡ false = grind (arith, nat_tests, e) in
+    ap (λ b. recent && (tries notes == 0) && b) none ∙ false_last _
+none_waited BackingOff delay time recent notes e =
+    let some = at_least (resend_timeout notes) (tries notes) in
+    let none : nat_le (resend_timeout notes * 2 ^ min (tries notes) 6) (quiet_time time notes) ≡ false = grind (arith, nat_tests, e, some) in
+    ap (λ b. recent && b) none ∙ false_last _
+
+pub settled_gave : (terms : Terms) (time : ℕ) (recent : Bool) (n : ℕ) (s : Subscribing) (r : Report) → is_media r ≡ true
+    → IsSettled terms time recent s → IsSettled terms time recent (record s { sending = sent n s.sending; notes = Sent time r ∷ s.notes })
+settled_gave terms time recent n s r m h =
+    let now : last_media (Sent time r ∷ s.notes) ≡ time = ap (λ b. if b then time else last_media s.notes) m in
+    let none = none_waited terms.resending terms.delay time recent (Sent time r ∷ s.notes) now in
     record {
       fresh = fresh_sent terms.mode terms time n s.sending h.fresh;
       paid = renewal_gave terms.resend_percent time r s.notes m;
-      calm = rw (m, none) (false_last _);
+      calm = rw none (false_last _);
     }
 
 -- the packet is the next one, and the others remain
-pub goes_on : (terms : Terms) (initial opening caller time given later : ℕ) (phase : Phase) (p : EncodedPacket) (t : Subscriber)
+pub goes_on : (terms : Terms) (initial opening caller time : ℕ) (recent : Bool) (given later : ℕ) (phase : Phase) (p : EncodedPacket) (t : Subscriber)
     (middle m after : Subscribing) (left : List Report) (r : Report)
-    → later ≤ most → StandsIn terms initial opening caller time later t after → IsSettled terms time after
-    → bytes_of p ≡ says caller initial time r → IsLeft terms time given phase middle m left
-    → Parts (most - given) (resends_in phase terms.resend_percent (most - given) (prepared terms time middle).notes) (most - later)
-    (resends_in t.phase terms.resend_percent (most - later) after.notes) terms time (prepared terms time middle) after r
-    → IsNextAt terms initial opening caller time p t m left
-goes_on terms initial opening caller time given later phase p t middle m after left r few stands settled said l parts =
-    let stays = settled_stays terms time after settled in
+    → later ≤ most → StandsIn terms initial opening caller time later t after → IsSettled terms time recent after
+    → bytes_of p ≡ says caller initial time r → IsLeft terms time recent given phase middle m left
+    → Parts (most - given) (resends_in phase terms.resend_percent (most - given) (prepared terms time recent middle).notes) (most - later)
+    (resends_in t.phase terms.resend_percent (most - later) after.notes) terms time (prepared terms time recent middle) after r
+    → IsNextAt terms initial opening caller time recent p t m left
+goes_on terms initial opening caller time recent given later phase p t middle m after left r few stands settled said l parts =
+    let stays = settled_stays terms time recent after settled in
     let again = λ (z : Subscribing). resends_in t.phase terms.resend_percent (most - later) z.notes in
     record {
       report = r;
@@ -558,21 +587,22 @@ due_there zero phase terms s d e = absurd cc
 due_there (suc p) phase terms s d e = let b : (suc p == 0) ≡ false = ne_eqb _ _ (λ x. omega (arith, x)) in (omega arith, rw b at e)
 
 -- the facts that hold if no drop request was written
-pub record NoDrop (terms : Terms) (initial opening caller time count : ℕ) (s : Subscriber) (middle m : Subscribing) (left : List Report) : Type 0 where
-  pub silent : untold (prepared terms time middle).notes ≡ None
-  pub stands : StandsIn terms initial opening caller time count s (prepared terms time middle)
-  pub left_is : IsLeft terms time count s.phase middle m left
+pub record NoDrop (terms : Terms) (initial opening caller time : ℕ) (recent : Bool) (count : ℕ) (s : Subscriber) (middle m : Subscribing)
+    (left : List Report) : Type 0 where
+  pub silent : unreported (prepared terms time recent middle).notes ≡ None
+  pub stands : StandsIn terms initial opening caller time count s (prepared terms time recent middle)
+  pub left_is : IsLeft terms time recent count s.phase middle m left
 
-pub no_drop : (terms : Terms) (initial opening caller time count : ℕ) (before begun after : Subscriber) (middle m : Subscribing)
+pub no_drop : (terms : Terms) (initial opening caller time : ℕ) (recent : Bool) (count : ℕ) (before begun after : Subscriber) (middle m : Subscribing)
     (left : List Report) (b : Bool) (p : EncodedPacket)
-    → b ≡ false → PreparesAt time before begun → WritesAt time begun (texts (given b p)) (λ s. drops s.notes)
+    → b ≡ false → PreparesAt time recent before begun → WritesAt time begun (texts (given b p)) (λ s. drops s.notes)
     → BecomesAt time begun after (λ initial s. record s { notes = noted time (drops s.notes) s.notes }) → after.phase ≡ begun.phase
-    → StandsIn terms initial opening caller time count before middle → IsLeft terms time count before.phase middle m left
-    → NoDrop terms initial opening caller time count after middle m left
-no_drop terms initial opening caller time count before begun after middle m left b p is prepares answer becomes phase h l =
-    let x = prepared terms time middle in
+    → StandsIn terms initial opening caller time count before middle → IsLeft terms time recent count before.phase middle m left
+    → NoDrop terms initial opening caller time recent count after middle m left
+no_drop terms initial opening caller time recent count before begun after middle m left b p is prepares answer becomes phase h l =
+    let x = prepared terms time recent middle in
     let begins = prepares terms initial opening caller count middle h in
-    let silent = no_drop_said (untold x.notes) (says caller initial time)
+    let silent = no_drop_said (unreported x.notes) (says caller initial time)
     (wrote_none b p _ is (answer terms initial opening caller count x begins.0)) in
     record {
       silent = silent;
@@ -580,23 +610,24 @@ no_drop terms initial opening caller time count before begun after middle m left
           (λ (o : Option Run).
           StandsIn terms initial opening caller time count after (record x { notes = noted time (drops_of o) x.notes }))
           silent (becomes terms initial opening caller count x begins.0);
-      left_is = subst (λ (f : Phase). IsLeft terms time count f middle m left) (sym (phase ∙ begins.1)) l;
+      left_is = subst (λ (f : Phase). IsLeft terms time recent count f middle m left) (sym (phase ∙ begins.1)) l;
     }
 
 -- the facts that hold if no data packet was written either
 pub record NoMedia (terms : Terms) (initial opening caller time count : ℕ) (phase : Phase) (s : Subscriber) (x : Subscribing) : Type 0 where
-  pub silent : untold x.notes ≡ None
+  pub silent : unreported x.notes ≡ None
   pub none : due_in (64 - count) phase terms x ≡ None
   pub same : s.phase ≡ phase
   pub stands : StandsIn terms initial opening caller time count s x
 
-pub no_data : (terms : Terms) (initial opening caller time count : ℕ) (before after : Subscriber) (middle m : Subscribing) (left : List Report)
+pub no_data : (terms : Terms) (initial opening caller time : ℕ) (recent : Bool) (count : ℕ) (before after : Subscriber) (middle m : Subscribing)
+    (left : List Report)
     (b : Bool) (p : EncodedPacket)
     → b ≡ false → WritesMedia time before (texts (given b p)) → SendsMedia time before after
-    → NoDrop terms initial opening caller time count before middle m left
-    → NoMedia terms initial opening caller time count before.phase after (prepared terms time middle)
-no_data terms initial opening caller time count before after middle m left b p is answer sends h =
-    let x = prepared terms time middle in
+    → NoDrop terms initial opening caller time recent count before middle m left
+    → NoMedia terms initial opening caller time count before.phase after (prepared terms time recent middle)
+no_data terms initial opening caller time recent count before after middle m left b p is answer sends h =
+    let x = prepared terms time recent middle in
     let sent = sends terms initial opening caller count x h.stands h.left_is.few in
     let none = no_media_said (due_in (64 - count) before.phase terms x) (λ d. says caller initial time (Media d.number d.again d.origin d.payload))
     (wrote_none b p _ is (answer terms initial opening caller count x h.stands h.left_is.few)) in

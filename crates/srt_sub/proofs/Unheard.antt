@@ -6,11 +6,11 @@ use Rattle.std.proofs.lemmas.Bool.Decides.{nat_tests}
 use Rattle.srt_packet.specs.declared.reading.Kind.{Kind}
 use Rattle.srt_packet.specs.declared.reading.Kind.TheVariants as kinds
 use Rattle.srt_packet.specs.View.{body_of}
-use Rattle.srt_seq.specs.declared.shared.PayloadRef.{PayloadRef}
+use Rattle.srt_types.specs.declared.shared.PayloadRef.{PayloadRef}
 use Rattle.srt_sub.specs.Heard.{Ack, Other, heard_from, more_of}
 use Rattle.srt_sub.specs.Endings.{is_shutdown}
-use Rattle.srt_seq.specs.Window.{counted_from}
-use Rattle.srt_seq.specs.Words.{word_at}
+use Rattle.srt_types.specs.Window.{counted_from}
+use Rattle.srt_types.specs.Words.{word_at}
 
 pub record IsUnheard (initial : ℕ) (k : Kind) : Type 0 where
   pub heard : heard_from initial (body_of k) ≡ Other

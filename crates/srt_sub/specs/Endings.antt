@@ -1,7 +1,7 @@
 -- The end of a session by a packet, and the maximum length of payloads.
 use Rattle.std.specs.Prelude.{ℕ, ◌-◌, Bool, true, false, List, length, nat_le}
-use Rattle.srt_seq.specs.declared.shared.Mode.{Mode}
-use Rattle.srt_seq.specs.declared.shared.Mode.TheVariants.{Live, Buffer}
+use Rattle.srt_types.specs.declared.shared.Mode.{Mode}
+use Rattle.srt_types.specs.declared.shared.Mode.TheVariants.{Live, Buffer}
 use Rattle.srt_packet.specs.Grammar as grammar
 use Rattle.srt_sub.specs.declared.hearing.Took.{Took}
 use Rattle.srt_sub.specs.declared.hearing.Took.TheVariants.{Nothing, Answer, Ended}

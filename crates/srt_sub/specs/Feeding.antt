@@ -1,6 +1,6 @@
 -- The effect of `feed` with a payload at the clock's time `now`, and of the too-late drop.
 use Rattle.std.specs.Prelude.{◌≡◌, ℕ, ◌-◌, ◌<◌, ◌≤◌, Bool, false, List, length}
-use Rattle.srt_seq.specs.declared.shared.Mode.TheVariants.{Buffer}
+use Rattle.srt_types.specs.declared.shared.Mode.TheVariants.{Buffer}
 use Rattle.srt_sendbuf.specs.Sending.{room}
 use Rattle.srt_sub.specs.Subscribing.{Terms, Subscribing, expired, fed, fits}
 use Rattle.srt_sub.specs.Stands.{StandsIn, StandsFor}

@@ -1,8 +1,8 @@
 -- A packet as a subscriber's session processes it. Its sequence numbers count from the session's initial one.
 use Rattle.std.specs.Prelude.{ℕ, Option, None, Some, Result, Ok, Err, List, [], ◌∷◌, length, nat_le, if◌then◌else◌}
-use Rattle.srt_seq.specs.Words.{word_at}
-use Rattle.srt_seq.specs.Window.{counted_from}
-use Rattle.srt_seq.specs.Runs.{Range, ranges_from}
+use Rattle.srt_types.specs.Words.{word_at}
+use Rattle.srt_types.specs.Window.{counted_from}
+use Rattle.srt_types.specs.Runs.{Range, ranges_from}
 use Rattle.srt_packet.specs.Grammar as grammar
 use Rattle.srt_packet.specs.View.{body_of}
 use Rattle.srt_packet.specs.declared.reading.Kind.{Kind}
@@ -15,7 +15,7 @@ pub data Heard : Type 0 where
   -- that
   Ack : (mark number : ℕ) (more : List ℕ) → Heard
   -- a NAK: the ranges of its loss list; None if the list is invalid
-  Nak : (asked : Option (List Range)) → Heard
+  Nak : (requested : Option (List Range)) → Heard
   -- a data packet, which is ignored: the session sends data, and its caller receives
   Data : Heard
   -- all other kinds, which change nothing
@@ -30,16 +30,16 @@ more_of info =
     else []
 
 -- the ranges of a loss list, counted from the initial number
-abbrev pub asked_from : (initial : ℕ) → Result (List Range) LossFault → Option (List Range)
-asked_from initial (Ok ranges) = Some (ranges_from initial ranges)
-asked_from initial (Err fault) = None
+abbrev pub requested_from : (initial : ℕ) → Result (List Range) LossFault → Option (List Range)
+requested_from initial (Ok ranges) = Some (ranges_from initial ranges)
+requested_from initial (Err fault) = None
 
 -- the contents of a decoded packet body. An ACK without a complete first word changes nothing, but no such packet is
 -- decoded
 abbrev pub heard_from : (initial : ℕ) → grammar.Body → Heard
 heard_from initial (grammar.Ack mark info) =
     if nat_le 4 (length info) then Ack mark (counted_from initial (word_at info 0)) (more_of info) else Other
-heard_from initial (grammar.Nak info) = Nak (asked_from initial (losses_in info))
+heard_from initial (grammar.Nak info) = Nak (requested_from initial (losses_in info))
 heard_from initial (grammar.Data number encryption payload) = Data
 heard_from initial _ = Other
 

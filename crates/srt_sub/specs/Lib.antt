@@ -10,4 +10,5 @@ pub mod Emission
 pub mod Fresh
 pub mod EventPackets
 pub mod ResendLimit
+pub mod Tries
 pub mod inside

@@ -1,8 +1,8 @@
 -- The bytes of the packets that a subscriber's session sends (section 3).
 use Rattle.std.specs.Prelude.{ℕ, ◌+◌, ◌%◌, ◌^◌, List, [], ◌∷◌, ◌++◌, if◌then◌else◌}
-use Rattle.srt_seq.specs.Words.{word, words}
-use Rattle.srt_seq.specs.Counts.{message_number}
-use Rattle.srt_seq.specs.Window.{number_word}
+use Rattle.srt_types.specs.Words.{word, words}
+use Rattle.srt_types.specs.Counts.{message_number}
+use Rattle.srt_types.specs.Window.{number_word}
 use Rattle.srt_sub.specs.Subscribing.{Report, Acked, Dropped, Media, KeepAlive}
 
 -- a packet of its four header words and the bytes after them

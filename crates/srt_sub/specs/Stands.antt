@@ -1,22 +1,23 @@
 -- Which session the fields of a subscriber represent.
-use Rattle.std.specs.Prelude.{◌≡◌, ℕ, ◌+◌, ◌-◌, ◌*◌, ◌<◌, ◌≤◌, Option, None, Some, Bool, true, false, option_map, List, [], ◌∷◌, All, map, length}
-use Rattle.srt_seq.specs.Counts.{message_number}
-use Rattle.srt_seq.specs.Runs.{Run}
-use Rattle.srt_seq.specs.declared.shared.Mode.TheVariants.{Live}
-use Rattle.srt_rtt.specs.RoundTrip.{round_trip_of}
-use Rattle.srt_tsbpd.specs.Deadline.{too_late_at}
+use Rattle.std.specs.Prelude.{◌≡◌, ℕ, ◌+◌, ◌-◌, ◌*◌, ◌^◌, ◌<◌, ◌≤◌, Option, None, Some, Bool, true, false, option_map, List, [], ◌∷◌, All, map, length, min}
+use Rattle.srt_types.specs.Counts.{message_number}
+use Rattle.srt_types.specs.Runs.{Run}
+use Rattle.srt_types.specs.declared.shared.Mode.TheVariants.{Live}
+use Rattle.srt_timing.specs.RoundTrip.{round_trip_of}
+use Rattle.srt_timing.specs.Deadline.{too_late_at}
 use Rattle.srt_packet.specs.Encoded.{bytes_of}
 use Rattle.srt_packet.specs.declared.encoded.EncodedPacket.{EncodedPacket}
 use Rattle.srt_sendbuf.specs.Sending.{Sending, IsTimely, IsLater}
-use Rattle.srt_seq.specs.Window.{word_of, number_word}
-use Rattle.srt_sendbuf.specs.Told.{Gone, gone_by}
+use Rattle.srt_types.specs.Window.{word_of, number_word}
+use Rattle.srt_sendbuf.specs.Outgoing.{Gone, gone_by}
 use Rattle.srt_sendbuf.specs.Stands as places
 use Rattle.srt_sub.specs.Subscribing.{Terms, Note, Report, Sent, Missed, Subscribing, opened, is_media, is_drop, last_sent, last_media}
-use Rattle.srt_sub.specs.Subscribing.{last_growth, round_trip, flow_window, untold, credit, renewed_notes}
+use Rattle.srt_sub.specs.Subscribing.{last_growth, round_trip, tries, flow_window, unreported, credit, renewed_notes, Presumed}
 use Rattle.srt_sub.specs.Says.{says}
 use Rattle.srt_sub.specs.Counting.{AreSendings, Counted, fresh_in, again_in, is_again, renewals_in}
 use Rattle.srt_sub.specs.declared.credit.Credit.{Credit}
 use Rattle.srt_sub.specs.declared.history.History.{History}
+use Rattle.srt_sub.specs.declared.resend_all.Resending.TheVariants.{AtEachTimeout, Once}
 use Rattle.srt_sub.specs.declared.session.Opening.{Opening}
 use Rattle.srt_sub.specs.declared.session.Subscriber.{Subscriber}
 use Rattle.srt_sub.specs.declared.session.Phase.TheVariants.{Lost}
@@ -39,9 +40,12 @@ pub record IsHistory (initial : ℕ) (terms : Terms) (h : History) (notes : List
   pub sent_is : h.sent ≡ last_sent notes
   pub media_is : h.media ≡ last_media notes
   pub growth_is : h.growth ≡ last_growth notes
-  pub missed_is : option_map gone_by h.missed ≡ option_map (run_gone initial) (untold notes)
+  pub missed_is : option_map gone_by h.missed ≡ option_map (run_gone initial) (unreported notes)
   pub sendings_are : AreSendings h.sendings (fresh_in notes) (again_in notes)
   pub credit_is : IsCredit terms.resend_percent h.credit notes
+  pub tries_are : h.tries ≡ min (tries notes) (2 ^ 32 - 1)
+  -- a session that resends all once does it at most once between two ACKs that acknowledge more
+  pub once : terms.resending ≡ Once → tries notes ≤ 1
 
 -- no queued payload is empty
 abbrev pub HasBytes : Sending → Type 0
@@ -76,6 +80,7 @@ pub record StandsIn (terms : Terms) (initial opening caller time given : ℕ) (s
   pub mode_is : s.mode ≡ terms.mode
   pub delay_is : s.delay ≡ terms.delay
   pub mtu_is : s.mtu ≡ terms.mtu
+  pub resending_is : s.resending ≡ terms.resending
   pub opening_is : s.opening ≡ opening
   pub caller_is : s.caller ≡ caller
   pub given_is : s.given ≡ given
@@ -100,11 +105,21 @@ texts_of Ended packet = []
 
 -- the terms of a session with these parameters, in a subscriber with `width` places
 abbrev pub terms_of : (width : ℕ) → Opening → Terms
-terms_of width o = record { mode = o.mode; width = width; delay = o.delay; mtu = o.mtu; window = o.window; resend_percent = o.resend_percent }
+terms_of width o =
+    record {
+      mode = o.mode;
+      width = width;
+      delay = o.delay;
+      mtu = o.mtu;
+      window = o.window;
+      resend_percent = o.resend_percent;
+      resending = o.resending;
+    }
 
 -- the terms of a subscriber with `width` places before its first start
 abbrev pub unstarted : (width : ℕ) → Terms
-unstarted width = record { mode = Live; width = width; delay = 0; mtu = 0; window = 0; resend_percent = None }
+unstarted width =
+    record { mode = Live; width = width; delay = 0; mtu = 0; window = 0; resend_percent = None; resending = AtEachTimeout }
 
 -- a session begins with these parameters
 abbrev pub HasBegun : (width : ℕ) → Opening → Subscriber → Type 0
@@ -130,6 +145,13 @@ BecomesAt time before after f =
     (terms : Terms) (initial opening caller given : ℕ) (m : Subscribing)
     → StandsIn terms initial opening caller time given before m
     → StandsIn terms initial opening caller time given after (f initial m)
+
+-- the same, where `f` depends on the session's terms
+abbrev pub BecomesIn : (time : ℕ) → (before after : Subscriber) → (f : Terms → Subscribing → Subscribing) → Type 0
+BecomesIn time before after f =
+    (terms : Terms) (initial opening caller given : ℕ) (m : Subscribing)
+    → StandsIn terms initial opening caller time given before m
+    → StandsIn terms initial opening caller time given after (f terms m)
 
 -- the same for a call between two events, at a clock's time not before the last call's; `f` also depends on the
 -- session's terms and the time since its opening
@@ -194,3 +216,10 @@ abbrev pub NotesRenewal : (time : ℕ) → (before after : History) → Type 0
 NotesRenewal time before after =
     (initial : ℕ) (agreed : Terms) (notes : List Note)
     → IsHistory initial agreed before notes → IsHistory initial agreed after (renewed_notes agreed.resend_percent time notes)
+
+-- a call recorded that all packets in flight were marked as lost; a session that resends all once hadn't done it since
+-- the last growth
+abbrev pub NotesPresumed : (before after : History) → Type 0
+NotesPresumed before after =
+    (initial : ℕ) (agreed : Terms) (notes : List Note) → (agreed.resending ≡ Once → tries notes ≡ 0)
+    → IsHistory initial agreed before notes → IsHistory initial agreed after (Presumed ∷ notes)

@@ -1,20 +1,22 @@
 -- A subscriber's session, defined by everything that it was fed, received and sent. Times are microseconds since its
 -- opening, and numbers count from its initial number.
-use Rattle.std.specs.Prelude.{ℕ, ◌+◌, ◌-◌, ◌/◌, Bool, true, false, Option, None, Some, List, [], ◌∷◌, ◌++◌, take, min, max, length, slice_get, nat_lt}
+use Rattle.std.specs.Prelude.{ℕ, ◌+◌, ◌-◌, ◌*◌, ◌/◌, ◌^◌, Bool, true, false, Option, None, Some, List, [], ◌∷◌, ◌++◌, take, min, max, length, slice_get, nat_lt}
 use Rattle.std.specs.Prelude.{nat_le, ◌==◌, ◌&&◌, if◌then◌else◌}
-use Rattle.srt_seq.specs.Limits.{keep_alive_after_us}
-use Rattle.srt_seq.specs.declared.shared.Mode.{Mode}
-use Rattle.srt_seq.specs.declared.shared.Mode.TheVariants.{Live, Buffer}
-use Rattle.srt_seq.specs.Runs.{Range, Run, numbers_from}
-use Rattle.srt_rtt.specs.RoundTrip.{RoundTrip, start, resend_after}
-use Rattle.srt_tsbpd.specs.Deadline.{too_late_at}
-use Rattle.srt_sendbuf.specs.Sending.{Queued, Sending, nothing_yet, front, base, next, room, lost, acknowledged_by, acknowledged, asked}
+use Rattle.srt_types.specs.Limits.{keep_alive_after_us}
+use Rattle.srt_types.specs.declared.shared.Mode.{Mode}
+use Rattle.srt_types.specs.declared.shared.Mode.TheVariants.{Live, Buffer}
+use Rattle.srt_types.specs.Runs.{Range, Run, numbers_from}
+use Rattle.srt_timing.specs.RoundTrip.{RoundTrip, start, resend_after}
+use Rattle.srt_timing.specs.Deadline.{too_late_at}
+use Rattle.srt_sendbuf.specs.Sending.{Queued, Sending, nothing_yet, front, base, next, room, lost, acknowledged_by, acknowledged, requested}
 use Rattle.srt_sendbuf.specs.Sending.{asks_for_gone, all_lost, queued, expired_before, sent}
 use Rattle.srt_sub.specs.Heard.{Heard, Ack, Nak, Data, Other}
+use Rattle.srt_sub.specs.declared.resend_all.Resending.{Resending}
+use Rattle.srt_sub.specs.declared.resend_all.Resending.TheVariants.{AtEachTimeout, Once, BackingOff}
 
 -- the agreed terms: the mode, the window's width in packets, the delay in microseconds, the maximum size of a packet
--- with all headers (the MTU), the flow window in packets, and the number of packets that may be sent again for each
--- 100 new ones (None: any number)
+-- with all headers (the MTU), the flow window in packets, the number of packets that may be sent again for each 100 new
+-- ones (None: any number), and when all packets in flight are sent again
 pub record Terms : Type 0 where
   pub mode : Mode
   pub width : ℕ
@@ -22,6 +24,7 @@ pub record Terms : Type 0 where
   pub mtu : ℕ
   pub window : ℕ
   pub resend_percent : Option ℕ
+  pub resending : Resending
 
 -- a packet that a session sends
 pub data Report : Type 0 where
@@ -40,7 +43,7 @@ pub data Note : Type 0 where
   -- an ACK acknowledged more than all earlier ones
   Grew : (time : ℕ) → Note
   -- an ACK reported a round-trip time and its variance
-  Told : (round_trip : RoundTrip) → Note
+  Sampled : (round_trip : RoundTrip) → Note
   -- an ACK reported a flow window
   Opened : (window : ℕ) → Note
   -- a NAK requested expired numbers
@@ -49,15 +52,19 @@ pub data Note : Type 0 where
   Misdirected : Note
   -- the credit for resends was less than one packet, and was raised to it
   Renewed : (time : ℕ) → Note
+  -- all packets in flight were marked as lost
+  Presumed : Note
 
--- everything that was queued, and all notes, newest first
+-- everything that was queued, all notes, newest first, and how many packets were given up: too late, and not
+-- acknowledged before
 pub record Subscribing : Type 0 where
   pub sending : Sending
   pub notes : List Note
+  pub given_up : ℕ
 
 -- a session that was just opened
 abbrev pub opened : Subscribing
-opened = record { sending = nothing_yet; notes = [] }
+opened = record { sending = nothing_yet; notes = []; given_up = 0 }
 
 -- the time of the last packet sent, and below it the times of the last data packet sent and of the last ACK that
 -- acknowledged more; 0, the opening, without one
@@ -65,11 +72,12 @@ abbrev pub last_sent : List Note → ℕ
 last_sent [] = 0
 last_sent (Sent time report ∷ notes) = time
 last_sent (Grew time ∷ notes) = last_sent notes
-last_sent (Told r ∷ notes) = last_sent notes
+last_sent (Sampled r ∷ notes) = last_sent notes
 last_sent (Opened w ∷ notes) = last_sent notes
 last_sent (Missed run ∷ notes) = last_sent notes
 last_sent (Misdirected ∷ notes) = last_sent notes
 last_sent (Renewed time ∷ notes) = last_sent notes
+last_sent (Presumed ∷ notes) = last_sent notes
 
 abbrev pub is_media : Report → Bool
 is_media (Media number again origin payload) = true
@@ -79,58 +87,78 @@ abbrev pub last_media : List Note → ℕ
 last_media [] = 0
 last_media (Sent time report ∷ notes) = if is_media report then time else last_media notes
 last_media (Grew time ∷ notes) = last_media notes
-last_media (Told r ∷ notes) = last_media notes
+last_media (Sampled r ∷ notes) = last_media notes
 last_media (Opened w ∷ notes) = last_media notes
 last_media (Missed run ∷ notes) = last_media notes
 last_media (Misdirected ∷ notes) = last_media notes
 last_media (Renewed time ∷ notes) = last_media notes
+last_media (Presumed ∷ notes) = last_media notes
 
 abbrev pub last_growth : List Note → ℕ
 last_growth [] = 0
 last_growth (Sent time report ∷ notes) = last_growth notes
 last_growth (Grew time ∷ notes) = time
-last_growth (Told r ∷ notes) = last_growth notes
+last_growth (Sampled r ∷ notes) = last_growth notes
 last_growth (Opened w ∷ notes) = last_growth notes
 last_growth (Missed run ∷ notes) = last_growth notes
 last_growth (Misdirected ∷ notes) = last_growth notes
 last_growth (Renewed time ∷ notes) = last_growth notes
+last_growth (Presumed ∷ notes) = last_growth notes
+
+-- the number of times that all packets in flight were marked as lost since the last ACK that acknowledged more, or
+-- since the opening
+abbrev pub tries : List Note → ℕ
+tries [] = 0
+tries (Sent time report ∷ notes) = tries notes
+tries (Grew time ∷ notes) = 0
+tries (Sampled r ∷ notes) = tries notes
+tries (Opened w ∷ notes) = tries notes
+tries (Missed run ∷ notes) = tries notes
+tries (Misdirected ∷ notes) = tries notes
+tries (Renewed time ∷ notes) = tries notes
+tries (Presumed ∷ notes) = tries notes + 1
 
 -- the last round-trip time and variance that an ACK reported (section 4.10)
 abbrev pub round_trip : List Note → RoundTrip
 round_trip [] = start
 round_trip (Sent time report ∷ notes) = round_trip notes
 round_trip (Grew time ∷ notes) = round_trip notes
-round_trip (Told r ∷ notes) = r
+round_trip (Sampled r ∷ notes) = r
 round_trip (Opened w ∷ notes) = round_trip notes
 round_trip (Missed run ∷ notes) = round_trip notes
 round_trip (Misdirected ∷ notes) = round_trip notes
 round_trip (Renewed time ∷ notes) = round_trip notes
+round_trip (Presumed ∷ notes) = round_trip notes
 
 -- the flow window: the available buffer size that the last ACK reported, or the agreed one (section 3.2.4)
 abbrev pub flow_window : (agreed : ℕ) → List Note → ℕ
 flow_window agreed [] = agreed
 flow_window agreed (Sent time report ∷ notes) = flow_window agreed notes
 flow_window agreed (Grew time ∷ notes) = flow_window agreed notes
-flow_window agreed (Told r ∷ notes) = flow_window agreed notes
+flow_window agreed (Sampled r ∷ notes) = flow_window agreed notes
 flow_window agreed (Opened w ∷ notes) = w
 flow_window agreed (Missed run ∷ notes) = flow_window agreed notes
 flow_window agreed (Misdirected ∷ notes) = flow_window agreed notes
 flow_window agreed (Renewed time ∷ notes) = flow_window agreed notes
+flow_window agreed (Presumed ∷ notes) = flow_window agreed notes
 
 -- the buffer after packets older than the threshold are dropped; in buffer mode none are (section 4.6)
 abbrev pub expired_in : Mode → Terms → (time : ℕ) → Sending → Sending
 expired_in Live terms time s = expired_before (too_late_at time terms.delay) s
 expired_in Buffer terms time s = s
 
--- the session after that drop, as at the beginning of an event
+-- the session after that drop, as at the beginning of an event: the packets up to the new front are given up
+abbrev pub with_expired : (later : Sending) → Subscribing → Subscribing
+with_expired later s = record s { sending = later; given_up = s.given_up + (front later - front s.sending) }
+
 abbrev pub expired : Terms → (time : ℕ) → Subscribing → Subscribing
-expired terms time s = record s { sending = expired_in terms.mode terms time s.sending }
+expired terms time s = with_expired (expired_in terms.mode terms time s.sending) s
 
 -- the notes of the values that an ACK reports in addition to its number
-abbrev pub told : List ℕ → List Note
-told (rtt ∷ variance ∷ window ∷ more) = Opened window ∷ Told (record { time = rtt; variance = variance }) ∷ []
-told (rtt ∷ variance ∷ []) = Told (record { time = rtt; variance = variance }) ∷ []
-told _ = []
+abbrev pub sampled : List ℕ → List Note
+sampled (rtt ∷ variance ∷ window ∷ more) = Opened window ∷ Sampled (record { time = rtt; variance = variance }) ∷ []
+sampled (rtt ∷ variance ∷ []) = Sampled (record { time = rtt; variance = variance }) ∷ []
+sampled _ = []
 
 -- the note of an ACK that acknowledged more
 abbrev pub grown : (time : ℕ) → Bool → List Note
@@ -142,7 +170,7 @@ growth time n s = grown time (nat_lt s.acked n)
 -- the session after an ACK; unchanged if its number is outside the range that an ACK may have (None)
 abbrev pub with_ack : (time : ℕ) → List ℕ → Option ℕ → Subscribing → Subscribing
 with_ack time more None s = s
-with_ack time more (Some n) s = record { sending = acknowledged n s.sending; notes = told more ++ (growth time n s.sending ++ s.notes) }
+with_ack time more (Some n) s = record s { sending = acknowledged n s.sending; notes = sampled more ++ (growth time n s.sending ++ s.notes) }
 
 -- the ACKACK for an ACK whose own number isn't 0, that is, a Full ACK (section 3.2.8)
 abbrev pub ack_reports : (mark : ℕ) → List Report
@@ -161,7 +189,7 @@ gone s = record { low = base s; high = front s - 1 }
 abbrev pub with_nak : Option (List Range) → Subscribing → Subscribing
 with_nak None s = s
 with_nak (Some ranges) s =
-    record { sending = asked ranges s.sending; notes = if asks_for_gone ranges s.sending then Missed (gone s.sending) ∷ s.notes else s.notes }
+    record s { sending = requested ranges s.sending; notes = if asks_for_gone ranges s.sending then Missed (gone s.sending) ∷ s.notes else s.notes }
 
 -- the session after a packet
 abbrev pub took : (time : ℕ) → Heard → Subscribing → Subscribing
@@ -197,15 +225,16 @@ is_drop (Dropped run) = true
 is_drop _ = false
 
 -- the pending drop request: a NAK requested expired numbers, and no drop request was sent since
-abbrev pub untold : List Note → Option Run
-untold [] = None
-untold (Sent time report ∷ notes) = if is_drop report then None else untold notes
-untold (Grew time ∷ notes) = untold notes
-untold (Told r ∷ notes) = untold notes
-untold (Opened w ∷ notes) = untold notes
-untold (Missed run ∷ notes) = Some run
-untold (Misdirected ∷ notes) = untold notes
-untold (Renewed time ∷ notes) = untold notes
+abbrev pub unreported : List Note → Option Run
+unreported [] = None
+unreported (Sent time report ∷ notes) = if is_drop report then None else unreported notes
+unreported (Grew time ∷ notes) = unreported notes
+unreported (Sampled r ∷ notes) = unreported notes
+unreported (Opened w ∷ notes) = unreported notes
+unreported (Missed run ∷ notes) = Some run
+unreported (Misdirected ∷ notes) = unreported notes
+unreported (Renewed time ∷ notes) = unreported notes
+unreported (Presumed ∷ notes) = unreported notes
 
 -- the drop request for a NAK of expired numbers (section 3.2.9)
 abbrev pub drops_of : Option Run → List Report
@@ -213,7 +242,7 @@ drops_of None = []
 drops_of (Some run) = Dropped run ∷ []
 
 abbrev pub drops : List Note → List Report
-drops notes = drops_of (untold notes)
+drops notes = drops_of (unreported notes)
 
 -- the maximum credit, in hundredths of a packet, and below it the initial credit (our choice)
 abbrev pub most_credit : ℕ
@@ -235,11 +264,12 @@ abbrev pub credit : (percent : ℕ) → List Note → ℕ
 credit percent [] = first_credit
 credit percent (Sent time report ∷ notes) = credit_after percent report (credit percent notes)
 credit percent (Grew time ∷ notes) = credit percent notes
-credit percent (Told r ∷ notes) = credit percent notes
+credit percent (Sampled r ∷ notes) = credit percent notes
 credit percent (Opened w ∷ notes) = credit percent notes
 credit percent (Missed run ∷ notes) = credit percent notes
 credit percent (Misdirected ∷ notes) = credit percent notes
 credit percent (Renewed time ∷ notes) = 100
+credit percent (Presumed ∷ notes) = credit percent notes
 
 -- whether a lost packet may be sent again
 abbrev pub may_resend : Option ℕ → List Note → Bool
@@ -262,24 +292,36 @@ renewed_notes percent time notes = if renewal_due percent time notes then Renewe
 abbrev pub renewed : Terms → (time : ℕ) → Subscribing → Subscribing
 renewed terms time s = record s { notes = renewed_notes terms.resend_percent time s.notes }
 
--- whether the last data packet and the last growth are both at least the timeout for resending all ago (our choice)
-abbrev pub has_waited : (time : ℕ) → List Note → Bool
-has_waited time notes = nat_le (resend_after (round_trip notes)) (time - max (last_media notes) (last_growth notes))
+-- the timeout for resending all, by the round-trip time that an ACK reported last
+abbrev pub resend_timeout : List Note → ℕ
+resend_timeout notes = resend_after (round_trip notes)
+
+-- the time since the last data packet or the last growth, whichever was later
+abbrev pub quiet_time : (time : ℕ) → List Note → ℕ
+quiet_time time notes = time - max (last_media notes) (last_growth notes)
+
+-- whether the last data packet and the last growth are long enough ago to resend all, in a session with this delay.
+-- `recent`: a packet from the caller was received less than a second ago (our choice)
+abbrev pub has_waited : Resending → (delay time : ℕ) → (recent : Bool) → List Note → Bool
+has_waited AtEachTimeout delay time recent notes = nat_le (resend_timeout notes) (quiet_time time notes)
+has_waited Once delay time recent notes = recent && (tries notes == 0) && nat_le (max (resend_timeout notes) (delay / 2)) (quiet_time time notes)
+has_waited BackingOff delay time recent notes = recent && nat_le (resend_timeout notes * 2 ^ min (tries notes) 6) (quiet_time time notes)
 
 -- whether it is time to resend all: packets are in flight, none of them is lost, and both the last data packet and the
 -- last growth are long enough ago (our choice)
-abbrev pub resend_due : (time : ℕ) → Subscribing → Bool
-resend_due time s =
+abbrev pub resend_due : Terms → (time : ℕ) → (recent : Bool) → Subscribing → Bool
+resend_due terms time recent s =
     nat_lt (front s.sending) (next s.sending) && (length (lost s.sending) == 0)
-    && has_waited time s.notes
+    && has_waited terms.resending terms.delay time recent s.notes
 
 -- the session after all packets in flight are marked as lost, if it is time to resend all
-abbrev pub presumed : (time : ℕ) → Subscribing → Subscribing
-presumed time s = if resend_due time s then record s { sending = all_lost s.sending } else s
+abbrev pub presumed : Terms → (time : ℕ) → (recent : Bool) → Subscribing → Subscribing
+presumed terms time recent s =
+    if resend_due terms time recent s then record s { sending = all_lost s.sending; notes = Presumed ∷ s.notes } else s
 
 -- the session at the beginning of an event's end
-abbrev pub prepared : Terms → (time : ℕ) → Subscribing → Subscribing
-prepared terms time s = presumed time (renewed terms time s)
+abbrev pub prepared : Terms → (time : ℕ) → (recent : Bool) → Subscribing → Subscribing
+prepared terms time recent s = presumed terms time recent (renewed terms time s)
 
 -- the maximum number of data packets that an event sends (our choice)
 abbrev pub most : ℕ
@@ -318,9 +360,10 @@ abbrev pub reports_of : (places again : ℕ) → Terms → (time : ℕ) → Subs
 reports_of places again terms time s = due_of places again terms s ++ keep_alives time (due_of places again terms s) s.notes
 
 -- the packets that an event sends at its end, in order; before that, if it is time to resend all, all packets in
--- flight are marked as lost
-abbrev pub reports : Terms → (time : ℕ) → Subscribing → List Report
-reports terms time s = reports_of most (resends terms.resend_percent most (prepared terms time s).notes) terms time (prepared terms time s)
+-- flight are marked as lost. `recent`: a packet from the caller was received less than a second ago, or in this event
+abbrev pub reports : Terms → (time : ℕ) → (recent : Bool) → Subscribing → List Report
+reports terms time recent s =
+    reports_of most (resends terms.resend_percent most (prepared terms time recent s).notes) terms time (prepared terms time recent s)
 
 -- the buffer after these numbers are sent, the first of them first
 abbrev pub sent_each : List ℕ → Sending → Sending
@@ -330,11 +373,12 @@ sent_each (n ∷ ns) s = sent_each ns (sent n s)
 -- the session after these packets are sent
 abbrev pub sent_of : (places again : ℕ) → Terms → (time : ℕ) → Subscribing → Subscribing
 sent_of places again terms time s =
-    record {
+    record s {
       sending = sent_each (again_of again s.sending ++ new_of places again (flow_window terms.window s.notes) s.sending) s.sending;
       notes = noted time (reports_of places again terms time s) s.notes;
     }
 
 -- the session after the end of an event
-abbrev pub reported : Terms → (time : ℕ) → Subscribing → Subscribing
-reported terms time s = sent_of most (resends terms.resend_percent most (prepared terms time s).notes) terms time (prepared terms time s)
+abbrev pub reported : Terms → (time : ℕ) → (recent : Bool) → Subscribing → Subscribing
+reported terms time recent s =
+    sent_of most (resends terms.resend_percent most (prepared terms time recent s).notes) terms time (prepared terms time recent s)

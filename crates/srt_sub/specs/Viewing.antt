@@ -1,6 +1,6 @@
 -- The snapshot of a subscriber's session.
 use Rattle.std.specs.Prelude.{◌≡◌}
-use Rattle.srt_rtt.specs.RoundTrip.{RoundTrip}
+use Rattle.srt_timing.specs.RoundTrip.{RoundTrip}
 use Rattle.srt_sendbuf.specs.Sending.{room, in_flight}
 use Rattle.srt_sub.specs.Subscribing.{Terms, Subscribing, round_trip, flow_window}
 use Rattle.srt_sub.specs.Counting.{Counted, AreSendings, fresh_in, again_in}

@@ -14,7 +14,7 @@ pub struct Counts {
     /// NAKs whose loss list was processed.
     pub naks: u64,
     /// Packets that were dropped because they were too late, sent or not (section 4.6), and weren't acknowledged
-    /// before. No clause defines this counter; tests check it.
+    /// before.
     pub given_up: u64,
     /// Data packets received from the caller, encrypted or not. They are ignored: the caller requested to receive, as
     /// an encoder does that omits `m=publish` from its Stream ID.
@@ -26,7 +26,7 @@ impl Counts {
 
     /// Returns the counters of a session that has just begun.
     pub(crate) fn none() -> Counts
-        ensures { AreCounts result 0 0 0 0 }
+        ensures { AreCounts result 0 0 0 0 0 }
     {
         Counts {
             queued: 0,

@@ -2,10 +2,10 @@
 //! (draft-sharabayko-srt-01, section 3.2.9).
 
 ghost use Rattle.std.specs.Prelude.{◌≡◌, true, false, option_map, IfSome, IfNone};
-ghost use Rattle.srt_seq.specs.Given.{given as written};
+ghost use Rattle.srt_types.specs.Given.{given as written};
 ghost use Rattle.srt_packet.specs.Encoded.{bytes_of, IsPacketText};
-ghost use Rattle.srt_sub.specs.Subscribing.{drops, noted, untold};
-ghost use Rattle.srt_sendbuf.specs.Told.{gone_by};
+ghost use Rattle.srt_sub.specs.Subscribing.{drops, noted, unreported};
+ghost use Rattle.srt_sendbuf.specs.Outgoing.{gone_by};
 
 use crate::history::History;
 use crate::packets::dropped;
@@ -46,7 +46,7 @@ impl History {
     /// Removes and returns the pending drop request, and records that it is sent. None if there is none; then nothing
     /// changes.
     pub fn take_missed(&mut self, time: u64) -> Option<DropRun>
-        ensures answer { ForWhateverNotes self.old (λ initial agreed notes. option_map gone_by result ≡ option_map (run_gone initial) (untold notes)) }
+        ensures answer { ForWhateverNotes self.old (λ initial agreed notes. option_map gone_by result ≡ option_map (run_gone initial) (unreported notes)) }
         ensures some { IfSome result (λ run. NotesDrop time self.old self.new) }
         ensures none { IfNone result (self.new ≡ self.old) }
     {

@@ -1,13 +1,13 @@
 //! The packets that a session sends at the end of an event, one by one: their order, and the data packets.
 
 ghost use Rattle.std.specs.Prelude.{◌≡◌, ℕ, ◌^◌, ◌<◌, List, true, false, if◌then◌else◌};
-ghost use Rattle.srt_seq.specs.Given.{given as written};
+ghost use Rattle.srt_types.specs.Given.{given as written};
 ghost use Rattle.srt_packet.specs.Encoded.{bytes_of, IsPacketText};
 
 use crate::packets::media;
 use crate::session::{Phase, Subscriber};
 use srt_packet::EncodedPacket;
-use srt_seq::limits::MAX_EVENT_PACKETS;
+use srt_types::limits::MAX_EVENT_PACKETS;
 
 impl Subscriber {
     ghost use Rattle.srt_sub.specs.Emission.{WritesNextAt, EndsAt, WritesNext, Ends};
@@ -74,22 +74,22 @@ impl Subscriber {
 
     /// Begins or continues the end of an event: raises the credit for resends if that is due, and marks all packets in
     /// flight as lost if it is time to resend all.
-    fn prepare(&mut self, time: u64)
-        ensures { PreparesAt time self.old self.new }
+    fn prepare(&mut self, time: u64, recent: bool)
+        ensures { PreparesAt time recent self.old self.new }
     {
         self.history.renew(time);
-        self.presume(time);
+        self.presume(time, recent);
     }
 
     /// Writes the next packet of the event's end, after too-late packets were dropped. `time` is in microseconds since
     /// the opening.
-    fn next_packet(&mut self, time: u64, packet: &mut EncodedPacket) -> bool
-        ensures some { result ≡ true → WritesNextAt time self.old self.new packet.new }
-        ensures none { result ≡ false → EndsAt time self.old self.new }
+    fn next_packet(&mut self, time: u64, recent: bool, packet: &mut EncodedPacket) -> bool
+        ensures some { result ≡ true → WritesNextAt time recent self.old self.new packet.new }
+        ensures none { result ≡ false → EndsAt time recent self.old self.new }
         ensures packet { result ≡ true → IsPacketText (bytes_of packet.new) }
         ensures same { result ≡ false → packet.new ≡ packet.old }
     {
-        self.prepare(time);
+        self.prepare(time, recent);
         if self.next_drop(time, packet) {
             return true;
         }
@@ -105,26 +105,27 @@ impl Subscriber {
     }
 
     /// Writes the next packet that the session sends at the end of an event, and returns true. Returns false once all
-    /// are written: the event is complete, and `packet` is unchanged. Drops too-late packets first. All calls for one
-    /// event have the same `now`.
+    /// are written: the event is complete, and `packet` is unchanged. Drops too-late packets first. `recent`: a packet
+    /// from the caller was received less than a second ago, or in this event. All calls for one event have the same
+    /// `now` and `recent`.
     ///
     /// The order is: a drop request (section 3.2.9); lost packets, lowest number first (section 4.8.2), while the
     /// credit for resends lasts if there is a limit (our choice); new packets as the flow window allows (section
     /// 3.2.4). If there is none of these and nothing was sent for a second, a KEEPALIVE (section 3.2.3). There are at
     /// most 64 data packets, and 65 packets in all (our choice). Before that, all packets in flight are marked as lost
-    /// if none of them is lost, and both the last data packet and the last ACK that acknowledged more are RTT + 4 x
-    /// variance + 20 ms ago (our choice). Doesn't allocate; a payload is copied once. Since the packets are written
-    /// one by one, 65 packets of up to 1472 bytes need no list.
-    pub fn emit(&mut self, now: u64, packet: &mut EncodedPacket) -> bool
+    /// if none of them is lost, and both the last data packet and the last ACK that acknowledged more are long enough
+    /// ago ([`Resending`](crate::Resending); our choice). Doesn't allocate; a payload is copied once. Since the packets
+    /// are written one by one, 65 packets of up to 1472 bytes need no list.
+    pub fn emit(&mut self, now: u64, recent: bool, packet: &mut EncodedPacket) -> bool
         requires { now < 2 ^ 62 }
-        ensures some { result ≡ true → WritesNext now self.old self.new packet.new }
-        ensures none { result ≡ false → Ends now self.old self.new }
+        ensures some { result ≡ true → WritesNext now recent self.old self.new packet.new }
+        ensures none { result ≡ false → Ends now recent self.old self.new }
         ensures packet { result ≡ true → IsPacketText (bytes_of packet.new) }
         ensures same { result ≡ false → packet.new ≡ packet.old }
     {
         self.drop_old(now);
         let time = self.time(now);
-        self.next_packet(time, packet)
+        self.next_packet(time, recent, packet)
     }
 }
 

@@ -5,9 +5,9 @@ ghost use Rattle.std.specs.Prelude.{◌≡◌, ◌^◌, ◌<◌, ◌≤◌, leng
 ghost use Rattle.srt_sub.specs.Subscribing.{expired};
 
 use crate::session::Subscriber;
-use srt_seq::Mode;
-use srt_seq::limits::HEADERS;
-use srt_tsbpd::too_late_before;
+use srt_timing::too_late_before;
+use srt_types::Mode;
+use srt_types::limits::HEADERS;
 
 impl Subscriber {
     ghost use Rattle.srt_sub.specs.Stands.{BecomesBy};

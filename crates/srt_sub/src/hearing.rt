@@ -1,18 +1,18 @@
 //! The packets that a session processes: ACK, NAK and SHUTDOWN. Data packets are ignored but counted.
 
 ghost use Rattle.std.specs.Prelude.{◌≡◌, ◌^◌, ◌<◌, ◌≤◌, length, false};
-ghost use Rattle.srt_seq.specs.Words.{word_at};
+ghost use Rattle.srt_types.specs.Words.{word_at};
 ghost use Rattle.srt_loss.specs.Reading.{losses_in};
 ghost use Rattle.srt_sendbuf.specs.Sending.{acknowledged_at};
 ghost use Rattle.srt_packet.specs.Encoded.{bytes_of, IsPacketText};
 ghost use Rattle.srt_packet.specs.View.{body_of};
-ghost use Rattle.srt_sub.specs.Heard.{heard_of, more_of, asked_from};
+ghost use Rattle.srt_sub.specs.Heard.{heard_of, more_of, requested_from};
 ghost use Rattle.srt_sub.specs.Subscribing.{expired, took, answers, with_ack, with_nak, ack_reports, noted};
 
 use crate::packets::acked;
 use crate::session::Subscriber;
 use srt_packet::{EncodedPacket, Kind, PacketRef};
-use srt_seq::{Seq31, read_word};
+use srt_types::{Seq31, read_word};
 
 /// The immediate result of a packet from the caller.
 #[derive(Clone, Copy, Debug, PartialEq, Eq)]
@@ -65,7 +65,7 @@ impl Subscriber {
 
     /// Processes the body of a NAK, a loss list (section 3.2.5). An invalid one changes nothing.
     fn take_losses(&mut self, info: &[u8])
-        ensures { Becomes self.old self.new (λ initial m. with_nak (asked_from initial (losses_in info.now)) m) }
+        ensures { Becomes self.old self.new (λ initial m. with_nak (requested_from initial (losses_in info.now)) m) }
     {
         let Ok(losses) = srt_loss::read(info) else {
             return;

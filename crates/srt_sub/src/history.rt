@@ -3,13 +3,13 @@
 
 ghost use Rattle.std.specs.Prelude.{◌≡◌, ℕ, [], ◌++◌};
 ghost use Rattle.srt_sub.specs.Heard.{more_of};
-ghost use Rattle.srt_sub.specs.Subscribing.{Terms, grown, told};
+ghost use Rattle.srt_sub.specs.Subscribing.{Terms, grown, sampled};
 
 use crate::counts::Sendings;
 use crate::credit::Credit;
-use srt_rtt::Rtt;
 use srt_sendbuf::DropRun;
-use srt_seq::read_word;
+use srt_timing::Rtt;
+use srt_types::read_word;
 
 /// Time without a sent data packet after which a packet may be sent again, in microseconds (our choice).
 const RENEWAL_AFTER_US: u64 = 20_000;
@@ -35,6 +35,8 @@ pub struct History {
     pub sendings: Sendings,
     /// The credit for packets that are sent again.
     pub credit: Credit,
+    /// Number of times that all packets in flight were marked as lost since the last growth, up to 2^32 - 1.
+    pub tries: u32,
 }
 
 impl History {
@@ -54,6 +56,7 @@ impl History {
             missed: None,
             sendings: Sendings::none(),
             credit: Credit::start(resend_percent),
+            tries: 0,
         }
     }
 
@@ -90,6 +93,7 @@ impl History {
     {
         if grows {
             self.growth = time;
+            self.tries = 0;
         }
     }
 
@@ -97,7 +101,7 @@ impl History {
     /// round-trip time and its variance, from 16 on an available buffer size, which becomes the flow window (section
     /// 3.2.4). The bytes after these aren't read.
     fn hear(&mut self, info: &[u8])
-        ensures { NotesBecome self.old self.new (λ notes. told (more_of info.now) ++ notes) }
+        ensures { NotesBecome self.old self.new (λ notes. sampled (more_of info.now) ++ notes) }
     {
         if info.len() >= 16 {
             self.round_trip.set(read_word(info, 4), read_word(info, 8));
@@ -110,7 +114,7 @@ impl History {
     /// Records an ACK whose number is in the window; `grows` if it acknowledged more than all earlier ones. `info` is
     /// its body, `time` is in microseconds since the opening.
     pub fn acknowledge(&mut self, grows: bool, info: &[u8], time: u64)
-        ensures { NotesBecome self.old self.new (λ notes. told (more_of info.now) ++ (grown time grows ++ notes)) }
+        ensures { NotesBecome self.old self.new (λ notes. sampled (more_of info.now) ++ (grown time grows ++ notes)) }
     {
         self.grow(grows, time);
         self.hear(info);

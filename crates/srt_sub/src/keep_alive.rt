@@ -1,16 +1,16 @@
 //! A subscriber's KEEPALIVE: sent after a second in which nothing was sent (draft-sharabayko-srt-01, section 3.2.3).
 
 ghost use Rattle.std.specs.Prelude.{◌≡◌, ◌-◌, [], true, false, nat_le};
-ghost use Rattle.srt_seq.specs.Given.{given as written};
+ghost use Rattle.srt_types.specs.Given.{given as written};
 ghost use Rattle.srt_packet.specs.Encoded.{bytes_of, IsPacketText};
 ghost use Rattle.srt_sub.specs.Subscribing.{noted, keep_alives, last_sent};
-ghost use Rattle.srt_seq.specs.Limits.{keep_alive_after_us};
+ghost use Rattle.srt_types.specs.Limits.{keep_alive_after_us};
 
 use crate::history::History;
 use crate::packets::keep_alive;
 use crate::session::Subscriber;
 use srt_packet::EncodedPacket;
-use srt_seq::limits::KEEP_ALIVE_AFTER_US;
+use srt_types::limits::KEEP_ALIVE_AFTER_US;
 
 impl Subscriber {
     ghost use Rattle.srt_sub.specs.Stands.{BecomesAt, WritesAt};

@@ -4,6 +4,7 @@ ghost use Rattle.srt_sub.specs.Emission.{EmissionBegins, StandsLater};
 ghost use Rattle.srt_sub.specs.ResendLimit.{KeepsResendLimit};
 ghost use Rattle.srt_sub.specs.EventPackets.{SendsAtMost66};
 ghost use Rattle.srt_sub.specs.Fresh.{ExpiresOnce};
+ghost use Rattle.srt_sub.specs.Tries.{ResendsAllOnce, CountsTries, WaitsLongEnough, IsStillInSilence, ResendsAtEachTimeout};
 
 use crate::Subscriber;
 
@@ -21,4 +22,21 @@ pub fn sessions()
 /// the sum of 6400, the limit times its new packets, and a hundred for each 20 ms since its opening (our choice).
 pub fn resends(subscriber: &Subscriber)
     ensures { KeepsResendLimit subscriber.now }
+{}
+
+/// When all packets in flight are sent again without a NAK (our choice). By the rule `Once`: only if it wasn't done
+/// since an ACK acknowledged more, after the timeout and half the delay. By `BackingOff`: after the timeout, and twice
+/// as long each time. By both, not if nothing was received from the caller for a second. By `AtEachTimeout`: after each
+/// timeout.
+pub fn resends_of_all()
+    ensures counted { CountsTries }
+    ensures waits { WaitsLongEnough }
+    ensures silence { IsStillInSilence }
+    ensures each { ResendsAtEachTimeout }
+{}
+
+/// By the rule `Once`, a session sends all packets in flight again without a NAK at most once until an ACK acknowledges
+/// more (our choice).
+pub fn resends_all_once(subscriber: &Subscriber)
+    ensures { ResendsAllOnce subscriber.now }
 {}

@@ -5,8 +5,8 @@
 //! buffer that the caller passes. The handshake is in `srt_hs`; the timeout of five seconds for a silent peer is in
 //! `srt_route`; the queue of packets is `srt_sendbuf`.
 //!
-//! Types: [`Subscriber`], the session; [`Opening`], its parameters; [`Took`], the result of a packet from the caller;
-//! [`Statistics`], a snapshot of it, with its [`Counts`] and [`Sendings`].
+//! Types: [`Subscriber`], the session; [`Opening`], its parameters, with the rule [`Resending`]; [`Took`], the result of
+//! a packet from the caller; [`Statistics`], a snapshot of it, with its [`Counts`] and [`Sendings`].
 //!
 //! Calls: `Subscriber::open` once; `start` for each session. Then for each event: `expire`; `datagram` if a packet
 //! arrived; `feed` for each payload of the route; and `emit`, which writes one packet each time, until it returns
@@ -17,7 +17,8 @@
 //! `resend_all.rt` for resending everything; `credit.rt` for the limit on resends; `keep_alive.rt` for KEEPALIVEs.
 //! `history.rt` stores the flow window and other state; `counts.rt` has the counters, and `statistics.rt` the
 //! snapshot; `session.rt` begins a session; `packets.rt` writes packets. `specs/Subscribing.antt` defines what a
-//! session sends, `specs/Says.antt` its bytes, `specs/Counting.antt` its counters; `laws.rt` states facts about these.
+//! session sends, `specs/Says.antt` its bytes, `specs/Counting.antt` its counters, `specs/Tries.antt` how often
+//! everything is sent again; `laws.rt` states facts about these.
 #![tactic(auto)]
 
 mod counts;
@@ -36,6 +37,7 @@ mod statistics;
 
 pub use counts::{Counts, Sendings};
 pub use hearing::Took;
+pub use resend_all::Resending;
 pub use session::{Opening, Subscriber};
 pub use statistics::Statistics;
 

@@ -1,11 +1,11 @@
 //! The packets that a session sends, as bytes. Times are microseconds since the opening.
 
 ghost use Rattle.std.specs.Prelude.{◌≡◌, ℕ, ◌%◌, ◌^◌, ◌≤◌, length, option_map, true, false, IfSome};
-ghost use Rattle.srt_seq.specs.Given.{given};
-ghost use Rattle.srt_seq.specs.Runs.{Run};
+ghost use Rattle.srt_types.specs.Given.{given};
+ghost use Rattle.srt_types.specs.Runs.{Run};
 ghost use Rattle.srt_sendbuf.specs.Sending.{Due};
 ghost use Rattle.srt_sendbuf.specs.Stands.{Becomes, ForWhatever};
-ghost use Rattle.srt_sendbuf.specs.Told.{gone_by, told, told_by};
+ghost use Rattle.srt_sendbuf.specs.Outgoing.{gone_by, outgoing, outgoing_of};
 ghost use Rattle.srt_packet.specs.Encoded.{bytes_of, IsPacketText};
 ghost use Rattle.srt_sub.specs.Subscribing.{Acked, Dropped, KeepAlive, Media};
 ghost use Rattle.srt_sub.specs.Says.{says};
@@ -15,7 +15,7 @@ ghost use Rattle.srt_sub.specs.inside.Turns.{after_next, next_in, texts, WritesD
 use crate::session::Phase;
 use srt_packet::{Body, EncodedPacket, Packet};
 use srt_sendbuf::{DropRun, Out, SendBuf};
-use srt_seq::PayloadRef;
+use srt_types::PayloadRef;
 
 /// Returns the packet timestamp of a time: the time modulo 2^32.
 fn stamp(time: u64) -> u32
@@ -75,7 +75,7 @@ pub fn dropped(run: DropRun, time: u64, caller: u32, packet: &mut EncodedPacket)
 #[inline(always)]
 fn write(out: Out<'_>, caller: u32, packet: &mut EncodedPacket) -> bool
     requires { length out.payload.now ≤ 1456 }
-    ensures text { result ≡ true → (initial time : ℕ) (d : Due) → told_by out.entry ≡ told initial d
+    ensures text { result ≡ true → (initial time : ℕ) (d : Due) → outgoing_of out.entry ≡ outgoing initial d
         → bytes_of packet.new ≡ says caller initial time (Media d.number d.again d.origin d.payload) }
     ensures packet { result ≡ true → IsPacketText (bytes_of packet.new) }
     ensures same { result ≡ false → packet.new ≡ packet.old }
@@ -101,7 +101,7 @@ fn write(out: Out<'_>, caller: u32, packet: &mut EncodedPacket) -> bool
 /// Returns the data packet that is due in this phase, for this flow window in packets.
 #[inline(always)]
 fn next_in(buffer: &SendBuf, phase: Phase, window: u32) -> Option<Out<'_>>
-    ensures answer { ForWhatever buffer.now (λ width initial r. option_map told_by result ≡ option_map (told initial) (next_in phase window r)) }
+    ensures answer { ForWhatever buffer.now (λ width initial r. option_map outgoing_of result ≡ option_map (outgoing initial) (next_in phase window r)) }
     ensures fits { IfSome result (λ o. length o.payload.now ≤ 1456) }
 {
     match phase {

@@ -6,8 +6,9 @@ ghost use Rattle.srt_sub.specs.Subscribing.{opened};
 
 use crate::counts::Counts;
 use crate::history::History;
+use crate::resend_all::Resending;
 use srt_sendbuf::SendBuf;
-use srt_seq::{Mode, Seq31};
+use srt_types::{Mode, Seq31};
 use std::alloc::{AllocError, Global};
 
 /// The parameters of a session: the time of its opening, and those of the caller and the handshake.
@@ -30,6 +31,8 @@ pub struct Opening {
     /// Number of packets that may be sent again for each 100 new ones, in addition to 64 at the start; None if there
     /// is no limit (our choice).
     pub resend_percent: Option<u32>,
+    /// When all packets in flight are sent again without a NAK (our choice).
+    pub resending: Resending,
 }
 
 /// The data packets that an event sends next: lost packets are sent first.
@@ -56,6 +59,8 @@ pub struct Subscriber {
     pub(crate) delay: u32,
     /// The agreed MTU: the maximum size of a packet with its IP, UDP and SRT headers, in bytes.
     pub(crate) mtu: u32,
+    /// When all packets in flight are sent again without a NAK.
+    pub(crate) resending: Resending,
     /// Time of the opening, in microseconds of the route's clock.
     pub(crate) opening: u64,
     /// The caller's socket ID: the destination of all packets that are sent.
@@ -86,6 +91,7 @@ impl Subscriber {
             mode: Mode::Live,
             delay: 0,
             mtu: 0,
+            resending: Resending::AtEachTimeout,
             opening: 0,
             caller: 0,
             given: 0,
@@ -103,6 +109,7 @@ impl Subscriber {
         self.mode = opening.mode;
         self.delay = opening.delay;
         self.mtu = opening.mtu;
+        self.resending = opening.resending;
         self.opening = opening.now;
         self.caller = opening.caller;
         self.given = 0;

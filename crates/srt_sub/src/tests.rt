@@ -2,14 +2,14 @@
 
 ghost use Rattle.std.specs.Prelude.{◌^◌, ◌<◌};
 
-use crate::{Counts, Opening, Sendings, Statistics, Subscriber, Took};
+use crate::{Counts, Opening, Resending, Sendings, Statistics, Subscriber, Took};
 use arrayvec::ArrayVec;
 use srt_packet::{EncodedPacket, decode};
 use srt_samples::{
     Difference, Loss, Sample, ack, ack_ack, data_packet, drop_request, first_difference,
     keep_alive, light_ack, nak, shutdown,
 };
-use srt_seq::{MOMENT_END, Mode, Seq31};
+use srt_types::{MOMENT_END, Mode, Seq31};
 use std::alloc::Global;
 use std::test::Fail;
 
@@ -42,6 +42,8 @@ enum Step<'a> {
     Start(u64, u32, u32, u32),
     /// The same in buffer mode.
     StartBuffer(u64, u32),
+    /// Opened at 1,000,000 with this rule for resending all, the initial number 100 and a delay of 120 ms.
+    StartRule(Mode, Resending),
     /// A payload of this many bytes `61`.
     Feed(usize),
     /// A datagram arrives.
@@ -78,11 +80,13 @@ fn payload(bytes: usize) -> ArrayVec<u8, 1456> {
     payload
 }
 
-/// A session, the packet that its calls write, and how the last written packet differs from the expected one.
+/// A session, the time at which a packet from the caller was last received, the packet that its calls write, and how the
+/// last written packet differs from the expected one.
 #[derive(Drop)]
 struct Trial {
     alloc: Global,
     session: Subscriber,
+    heard: u64,
     place: EncodedPacket,
     difference: Option<Difference>,
 }
@@ -104,6 +108,7 @@ fn unstarted(alloc: Global) -> Result<Trial, Fail> {
     Ok(Trial {
         alloc,
         session: Subscriber::open(alloc, 128)?,
+        heard: 0,
         place: EncodedPacket::new(),
         difference: None,
     })
@@ -116,6 +121,7 @@ fn hears(trial: &mut Trial, sample: Sample<'_>, now: u64, answer: Answer<'_>) ->
     let Ok(packet) = decode(&bytes) else {
         return Err(Fail::from("a packet"));
     };
+    trial.heard = now;
     match trial.session.datagram(&packet, now, &mut trial.place) {
         Took::Nothing => Ok(matches!(answer, Answer::Nothing)),
         Took::Answer => sends(trial, answer),
@@ -123,11 +129,19 @@ fn hears(trial: &mut Trial, sample: Sample<'_>, now: u64, answer: Answer<'_>) ->
     }
 }
 
+/// Writes the next packet of an event's end.
+fn emits(trial: &mut Trial, now: u64) -> bool
+    requires { now < 2 ^ 62 }
+{
+    let recent = now.saturating_sub(trial.heard) < 1_000_000;
+    trial.session.emit(now, recent, &mut trial.place)
+}
+
 fn drained(trial: &mut Trial, now: u64) -> u32
     requires { now < 2 ^ 62 }
 {
     for count in 0..100 {
-        if !trial.session.emit(now, &mut trial.place) {
+        if !emits(trial, now) {
             return count;
         }
     }
@@ -148,6 +162,7 @@ fn agrees(trial: &mut Trial, now: u64, step: Step<'_>, answer: Answer<'_>) -> Re
                 mtu,
                 window: 8192,
                 resend_percent: None,
+                resending: Resending::AtEachTimeout,
             });
             Ok(true)
         }
@@ -161,6 +176,22 @@ fn agrees(trial: &mut Trial, now: u64, step: Step<'_>, answer: Answer<'_>) -> Re
                 mtu: 1500,
                 window: 8192,
                 resend_percent: None,
+                resending: Resending::AtEachTimeout,
+            });
+            Ok(true)
+        }
+        Step::StartRule(mode, resending) => {
+            trial.heard = 1_000_000;
+            trial.session.start(Opening {
+                now: 1_000_000,
+                initial: number(100)?,
+                caller: CALLER,
+                delay: 120_000,
+                mode,
+                mtu: 1500,
+                window: 8192,
+                resend_percent: None,
+                resending,
             });
             Ok(true)
         }
@@ -173,7 +204,7 @@ fn agrees(trial: &mut Trial, now: u64, step: Step<'_>, answer: Answer<'_>) -> Re
         }
         Step::Hear(sample) => hears(trial, sample, now, answer),
         Step::Emit => {
-            if trial.session.emit(now, &mut trial.place) {
+            if emits(trial, now) {
                 sends(trial, answer)
             } else {
                 Ok(matches!(answer, Answer::Nothing))
@@ -458,6 +489,7 @@ fn many_packets(rt: HostRuntime) -> Result<(), Fail> {
         mtu: 76,
         window: 100,
         resend_percent: None,
+        resending: Resending::AtEachTimeout,
     });
     // The MTU of 76 bytes includes all headers.
     assert!(rt; !trial.session.feed(payload(33).as_slice(), 1_000_000));
@@ -580,6 +612,7 @@ fn limited(alloc: Global) -> Result<Trial, Fail> {
         mtu: 1500,
         window: 8192,
         resend_percent: Some(50),
+        resending: Resending::AtEachTimeout,
     });
     Ok(trial)
 }
@@ -641,5 +674,395 @@ fn spent_credit(rt: HostRuntime) -> Result<(), Fail> {
         )?
     );
     assert!(rt; trial.session.is_all_acknowledged());
+    Ok(())
+}
+
+/// Returns an ACK without a number of its own, which isn't answered. With a round-trip time of 1 ms and a variance of
+/// 0.5 ms the timeout is 23 ms.
+fn small_ack<'a>(words: &'a [u32; 4]) -> Sample<'a> {
+    ack(0, words).to(SESSION)
+}
+
+/// Number 100 is acknowledged, and then 101 to 103 are sent at 1,100,000.
+#[test]
+fn all_again_once(rt: HostRuntime) -> Result<(), Fail> {
+    let rows = [
+        (
+            0,
+            Step::StartRule(Mode::Live, Resending::Once),
+            Answer::Nothing,
+        ),
+        (1_050_000, Step::Feed(1), Answer::Is(true)),
+        (1_050_000, Step::Drain, Answer::Count(1)),
+        (
+            1_060_000,
+            Step::Hear(small_ack(&[101, 1_000, 500, 8192])),
+            Answer::Nothing,
+        ),
+        (1_060_000, Step::Drain, Answer::Count(0)),
+        (1_100_000, Step::Feed(1), Answer::Is(true)),
+        (1_100_000, Step::Feed(1), Answer::Is(true)),
+        (1_100_000, Step::Feed(1), Answer::Is(true)),
+        (1_100_000, Step::Drain, Answer::Count(3)),
+        (1_159_999, Step::Emit, Answer::Nothing),
+        // Half the delay after the packets.
+        (
+            1_160_000,
+            Step::Emit,
+            Answer::Sends(media_again(101, 2, 100_000)),
+        ),
+        (
+            1_160_000,
+            Step::Emit,
+            Answer::Sends(media_again(102, 3, 100_000)),
+        ),
+        (
+            1_160_000,
+            Step::Emit,
+            Answer::Sends(media_again(103, 4, 100_000)),
+        ),
+        (1_160_000, Step::Emit, Answer::Nothing),
+        // Only once: neither later nor after KEEPALIVEs and an ACK that acknowledges nothing more.
+        (1_220_000, Step::Emit, Answer::Nothing),
+        (
+            1_300_000,
+            Step::Hear(keep_alive().to(SESSION)),
+            Answer::Nothing,
+        ),
+        (1_300_000, Step::Emit, Answer::Nothing),
+        (
+            1_400_000,
+            Step::Hear(light_ack(101).to(SESSION)),
+            Answer::Nothing,
+        ),
+        (1_400_000, Step::Emit, Answer::Nothing),
+        (
+            1_500_000,
+            Step::Hear(keep_alive().to(SESSION)),
+            Answer::Nothing,
+        ),
+        (1_599_999, Step::Emit, Answer::Nothing),
+        (
+            1_600_000,
+            Step::Hear(light_ack(102).to(SESSION)),
+            Answer::Nothing,
+        ),
+        (1_600_000, Step::Emit, Answer::Nothing),
+        (1_659_999, Step::Emit, Answer::Nothing),
+        (
+            1_660_000,
+            Step::Emit,
+            Answer::Sends(media_again(102, 3, 100_000)),
+        ),
+        (
+            1_660_000,
+            Step::Emit,
+            Answer::Sends(media_again(103, 4, 100_000)),
+        ),
+        (1_660_000, Step::Emit, Answer::Nothing),
+        (
+            1_670_000,
+            Step::Hear(nak(&[Loss::Range(102, 103)]).to(SESSION)),
+            Answer::Nothing,
+        ),
+        (1_670_000, Step::Drain, Answer::Count(2)),
+        (1_700_000, Step::Feed(1), Answer::Is(true)),
+        (1_700_000, Step::Emit, Answer::Sends(media(104, 5, 700_000))),
+        (1_700_000, Step::Emit, Answer::Nothing),
+        (1_899_999, Step::Emit, Answer::Nothing),
+        // A round-trip time of 100 ms and a variance of 10 ms: the timeout is 160 ms, and longer than half the delay.
+        (
+            1_900_000,
+            Step::Hear(small_ack(&[104, 100_000, 10_000, 8192])),
+            Answer::Nothing,
+        ),
+        (1_900_000, Step::Emit, Answer::Nothing),
+        (2_059_999, Step::Emit, Answer::Nothing),
+        (
+            2_060_000,
+            Step::Emit,
+            Answer::Sends(media_again(104, 5, 700_000)),
+        ),
+        (2_060_000, Step::Emit, Answer::Nothing),
+    ];
+    assert_eq!(rt; other(rt.alloc(), &rows)?, None);
+    Ok(())
+}
+
+#[test]
+fn not_again_to_a_silent_caller(rt: HostRuntime) -> Result<(), Fail> {
+    let rows = [
+        (
+            0,
+            Step::StartRule(Mode::Live, Resending::Once),
+            Answer::Nothing,
+        ),
+        (4_900_000, Step::Feed(1), Answer::Is(true)),
+        (4_900_000, Step::Feed(1), Answer::Is(true)),
+        (4_900_000, Step::Feed(1), Answer::Is(true)),
+        (4_900_000, Step::Feed(1), Answer::Is(true)),
+        (4_900_000, Step::Feed(1), Answer::Is(true)),
+        (4_900_000, Step::Feed(1), Answer::Is(true)),
+        (4_900_000, Step::Feed(1), Answer::Is(true)),
+        (4_900_000, Step::Drain, Answer::Count(7)),
+        (
+            4_950_000,
+            Step::Hear(small_ack(&[106, 1_000, 500, 8192])),
+            Answer::Nothing,
+        ),
+        (4_950_000, Step::Emit, Answer::Nothing),
+        (
+            5_000_000,
+            Step::Hear(light_ack(107).to(SESSION)),
+            Answer::Nothing,
+        ),
+        (5_000_000, Step::Emit, Answer::Nothing),
+        (5_939_999, Step::Feed(1), Answer::Is(true)),
+        (5_939_999, Step::Drain, Answer::Count(1)),
+        (5_940_000, Step::Feed(1), Answer::Is(true)),
+        (5_940_000, Step::Drain, Answer::Count(1)),
+        (5_999_999, Step::Emit, Answer::Nothing),
+        (6_000_000, Step::Emit, Answer::Nothing),
+        (
+            6_000_001,
+            Step::Hear(keep_alive().to(SESSION)),
+            Answer::Nothing,
+        ),
+        (
+            6_000_001,
+            Step::Emit,
+            Answer::Sends(media_again(107, 8, 4_939_999)),
+        ),
+        (
+            6_000_001,
+            Step::Emit,
+            Answer::Sends(media_again(108, 9, 4_940_000)),
+        ),
+        (6_000_001, Step::Emit, Answer::Nothing),
+    ];
+    assert_eq!(rt; other(rt.alloc(), &rows)?, None);
+    Ok(())
+}
+
+#[test]
+fn all_again_backing_off(rt: HostRuntime) -> Result<(), Fail> {
+    let rows = [
+        (
+            0,
+            Step::StartRule(Mode::Live, Resending::BackingOff),
+            Answer::Nothing,
+        ),
+        (1_050_000, Step::Feed(1), Answer::Is(true)),
+        (1_050_000, Step::Drain, Answer::Count(1)),
+        (
+            1_060_000,
+            Step::Hear(small_ack(&[101, 1_000, 500, 8192])),
+            Answer::Nothing,
+        ),
+        (1_060_000, Step::Drain, Answer::Count(0)),
+        (1_100_000, Step::Feed(1), Answer::Is(true)),
+        (1_100_000, Step::Feed(1), Answer::Is(true)),
+        (1_100_000, Step::Drain, Answer::Count(2)),
+        (1_122_999, Step::Emit, Answer::Nothing),
+        (
+            1_123_000,
+            Step::Emit,
+            Answer::Sends(media_again(101, 2, 100_000)),
+        ),
+        (
+            1_123_000,
+            Step::Emit,
+            Answer::Sends(media_again(102, 3, 100_000)),
+        ),
+        (1_123_000, Step::Emit, Answer::Nothing),
+        (1_168_999, Step::Emit, Answer::Nothing),
+        (1_169_000, Step::Drain, Answer::Count(2)),
+        (1_170_000, Step::Feed(1), Answer::Is(true)),
+        (1_170_000, Step::Emit, Answer::Sends(media(103, 4, 170_000))),
+        (1_170_000, Step::Emit, Answer::Nothing),
+        (1_261_999, Step::Emit, Answer::Nothing),
+        (
+            1_262_000,
+            Step::Emit,
+            Answer::Sends(media_again(101, 2, 100_000)),
+        ),
+        (1_262_000, Step::Drain, Answer::Count(2)),
+        (
+            1_262_001,
+            Step::Hear(light_ack(102).to(SESSION)),
+            Answer::Nothing,
+        ),
+        (1_262_001, Step::Emit, Answer::Nothing),
+        (1_285_000, Step::Emit, Answer::Nothing),
+        (
+            1_285_001,
+            Step::Emit,
+            Answer::Sends(media_again(102, 3, 100_000)),
+        ),
+        (
+            1_285_001,
+            Step::Emit,
+            Answer::Sends(media_again(103, 4, 170_000)),
+        ),
+        (1_285_001, Step::Emit, Answer::Nothing),
+    ];
+    assert_eq!(rt; other(rt.alloc(), &rows)?, None);
+    Ok(())
+}
+
+/// One packet in buffer mode, sent again after 23 ms, then each time after twice as long, but at most 64 times as long.
+/// The caller is heard each time.
+#[test]
+fn backing_off_six_times(rt: HostRuntime) -> Result<(), Fail> {
+    let rows = [
+        (
+            0,
+            Step::StartRule(Mode::Buffer, Resending::BackingOff),
+            Answer::Nothing,
+        ),
+        (1_050_000, Step::Feed(1), Answer::Is(true)),
+        (1_050_000, Step::Drain, Answer::Count(1)),
+        (
+            1_060_000,
+            Step::Hear(small_ack(&[101, 1_000, 500, 8192])),
+            Answer::Nothing,
+        ),
+        (1_100_000, Step::Feed(1), Answer::Is(true)),
+        (1_100_000, Step::Drain, Answer::Count(1)),
+        (
+            1_122_999,
+            Step::Hear(keep_alive().to(SESSION)),
+            Answer::Nothing,
+        ),
+        (1_122_999, Step::Emit, Answer::Nothing),
+        (
+            1_123_000,
+            Step::Emit,
+            Answer::Sends(media_again(101, 2, 100_000)),
+        ),
+        (1_123_000, Step::Emit, Answer::Nothing),
+        (
+            1_168_999,
+            Step::Hear(keep_alive().to(SESSION)),
+            Answer::Nothing,
+        ),
+        (1_168_999, Step::Emit, Answer::Nothing),
+        (
+            1_169_000,
+            Step::Emit,
+            Answer::Sends(media_again(101, 2, 100_000)),
+        ),
+        (1_169_000, Step::Emit, Answer::Nothing),
+        (
+            1_260_999,
+            Step::Hear(keep_alive().to(SESSION)),
+            Answer::Nothing,
+        ),
+        (1_260_999, Step::Emit, Answer::Nothing),
+        (
+            1_261_000,
+            Step::Emit,
+            Answer::Sends(media_again(101, 2, 100_000)),
+        ),
+        (1_261_000, Step::Emit, Answer::Nothing),
+        (
+            1_444_999,
+            Step::Hear(keep_alive().to(SESSION)),
+            Answer::Nothing,
+        ),
+        (1_444_999, Step::Emit, Answer::Nothing),
+        (
+            1_445_000,
+            Step::Emit,
+            Answer::Sends(media_again(101, 2, 100_000)),
+        ),
+        (1_445_000, Step::Emit, Answer::Nothing),
+        (
+            1_812_999,
+            Step::Hear(keep_alive().to(SESSION)),
+            Answer::Nothing,
+        ),
+        (1_812_999, Step::Emit, Answer::Nothing),
+        (
+            1_813_000,
+            Step::Emit,
+            Answer::Sends(media_again(101, 2, 100_000)),
+        ),
+        (1_813_000, Step::Emit, Answer::Nothing),
+        (
+            2_548_999,
+            Step::Hear(keep_alive().to(SESSION)),
+            Answer::Nothing,
+        ),
+        (2_548_999, Step::Emit, Answer::Nothing),
+        (
+            2_549_000,
+            Step::Emit,
+            Answer::Sends(media_again(101, 2, 100_000)),
+        ),
+        (2_549_000, Step::Emit, Answer::Nothing),
+        (
+            4_020_999,
+            Step::Hear(keep_alive().to(SESSION)),
+            Answer::Nothing,
+        ),
+        (
+            4_020_999,
+            Step::Emit,
+            Answer::Sends(keep_alive().stamp(3_020_999).to(CALLER)),
+        ),
+        (4_020_999, Step::Emit, Answer::Nothing),
+        (
+            4_021_000,
+            Step::Emit,
+            Answer::Sends(media_again(101, 2, 100_000)),
+        ),
+        (4_021_000, Step::Emit, Answer::Nothing),
+        (
+            5_492_999,
+            Step::Hear(keep_alive().to(SESSION)),
+            Answer::Nothing,
+        ),
+        (
+            5_492_999,
+            Step::Emit,
+            Answer::Sends(keep_alive().stamp(4_492_999).to(CALLER)),
+        ),
+        (5_492_999, Step::Emit, Answer::Nothing),
+        (
+            5_493_000,
+            Step::Emit,
+            Answer::Sends(media_again(101, 2, 100_000)),
+        ),
+        (5_493_000, Step::Emit, Answer::Nothing),
+    ];
+    assert_eq!(rt; other(rt.alloc(), &rows)?, None);
+    Ok(())
+}
+
+/// In buffer mode, with the round-trip time of the start: 320 ms, and then 640 ms, but not in silence.
+#[test]
+fn backing_off_in_silence(rt: HostRuntime) -> Result<(), Fail> {
+    let rows = [
+        (
+            0,
+            Step::StartRule(Mode::Buffer, Resending::BackingOff),
+            Answer::Nothing,
+        ),
+        (1_000_000, Step::Feed(1), Answer::Is(true)),
+        (1_000_000, Step::Drain, Answer::Count(1)),
+        (1_319_999, Step::Emit, Answer::Nothing),
+        (1_320_000, Step::Emit, Answer::Sends(media_again(100, 1, 0))),
+        (1_320_000, Step::Emit, Answer::Nothing),
+        (2_000_000, Step::Emit, Answer::Nothing),
+        (
+            2_000_001,
+            Step::Hear(ack_ack(1).to(SESSION)),
+            Answer::Nothing,
+        ),
+        (2_000_001, Step::Emit, Answer::Sends(media_again(100, 1, 0))),
+        (2_000_001, Step::Emit, Answer::Nothing),
+    ];
+    assert_eq!(rt; other(rt.alloc(), &rows)?, None);
     Ok(())
 }

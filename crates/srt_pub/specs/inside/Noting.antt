@@ -1,9 +1,9 @@
 -- The forms of clauses about the log and the ACKs: how they change, which facts hold of the notes that they represent,
 -- and which ACK is due.
 use Rattle.std.specs.Prelude.{◌≡◌, ℕ, ◌+◌, ◌-◌, ◌≤◌, Bool, List, [], ◌∷◌, map, length}
-use Rattle.srt_seq.specs.Window.{word_of, number_word}
-use Rattle.srt_seq.specs.declared.numbers.Seq31.{Seq31}
-use Rattle.srt_rtt.specs.declared.round_trip.Rtt.{Rtt}
+use Rattle.srt_types.specs.Window.{word_of, number_word}
+use Rattle.srt_types.specs.declared.numbers.Seq31.{Seq31}
+use Rattle.srt_timing.specs.declared.round_trip.Rtt.{Rtt}
 use Rattle.srt_packet.specs.declared.writing.Body.{Body}
 use Rattle.srt_pub.specs.Publishing.{Terms, Note, LightAck, acks_at, full_ack, noted, rates_of}
 use Rattle.srt_pub.specs.Says.{says, body_bytes}

@@ -47,7 +47,7 @@ phase_after (Some d) phase = if d.again then phase else New
 -- the session after that packet is sent
 abbrev pub with_due : (time : ℕ) → Option Due → Subscribing → Subscribing
 with_due time None s = s
-with_due time (Some d) s = record { sending = sent d.number s.sending; notes = Sent time (Media d.number d.again d.origin d.payload) ∷ s.notes }
+with_due time (Some d) s = record s { sending = sent d.number s.sending; notes = Sent time (Media d.number d.again d.origin d.payload) ∷ s.notes }
 
 -- the number of data packets that were sent, including that packet
 abbrev pub given_with : Option Due → ℕ → ℕ
@@ -86,8 +86,8 @@ SendsMedia time before after =
     × (after.phase ≡ phase_after (due_in (64 - given) before.phase terms m) before.phase)
 
 -- after a call, the credit for resends is raised if that was due, and all packets in flight are lost if that was due
-abbrev pub PreparesAt : (time : ℕ) → (before after : Subscriber) → Type 0
-PreparesAt time before after =
+abbrev pub PreparesAt : (time : ℕ) → (recent : Bool) → (before after : Subscriber) → Type 0
+PreparesAt time recent before after =
     (terms : Terms) (initial opening caller given : ℕ) (m : Subscribing)
     → StandsIn terms initial opening caller time given before m
-    → StandsIn terms initial opening caller time given after (prepared terms time m) × (after.phase ≡ before.phase)
+    → StandsIn terms initial opening caller time given after (prepared terms time recent m) × (after.phase ≡ before.phase)

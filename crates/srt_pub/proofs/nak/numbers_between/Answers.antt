@@ -1,5 +1,5 @@
 use Rattle.std.proofs.Common.{◌+◌, arith}
-use Rattle.srt_seq.specs.Window.{word_of, offset_of}
+use Rattle.srt_types.specs.Window.{word_of, offset_of}
 use Rattle.srt_pub.proofs.nak.numbers_between.Goals as goal
 
 pub returns : goal.returns

@@ -1,7 +1,7 @@
 use Rattle.std.proofs.Common.{ap, sym, subst, ◌∙◌, length, arith}
-use Rattle.srt_rtt.specs.Book as book
-use Rattle.srt_seq.specs.Counts.{ack_number}
-use Rattle.srt_rtt.specs.RoundTrip.{RoundTrip}
+use Rattle.srt_timing.specs.Book as book
+use Rattle.srt_types.specs.Counts.{ack_number}
+use Rattle.srt_timing.specs.RoundTrip.{RoundTrip}
 use Rattle.srt_pub.specs.Publishing.{fulls, round_trip, rates_of}
 use Rattle.srt_pub.proofs.Books.{book_full, length_book}
 use Rattle.srt_pub.proofs.Fulls.{acks_full}

@@ -1,5 +1,5 @@
 use Rattle.std.proofs.Common.{sym, subst}
-use Rattle.srt_rtt.specs.Book as book
+use Rattle.srt_timing.specs.Book as book
 use Rattle.srt_pub.proofs.Books.{book_light}
 use Rattle.srt_pub.proofs.Fulls.{acks_light}
 use Rattle.srt_pub.proofs.Bytes.{light_bytes}

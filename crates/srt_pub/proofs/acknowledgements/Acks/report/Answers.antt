@@ -7,18 +7,18 @@ use Rattle.srt_pub.proofs.acknowledgements.Acks.report.Goals as goal
 
 pub returns-then-is_full_due-clause-stands : goal.returns-then-is_full_due-clause-stands
 returns-then-is_full_due-clause-stands c terms front a notes t rates is h =
-    let told = c.rates.ensures (rating terms.mode terms.callers) (received_at notes) rates in
+    let reported = c.rates.ensures (rating terms.mode terms.callers) (received_at notes) rates in
     let f : is_full_due terms.width a c.args.state.available c.args.time notes ≡ true =
     ap (λ x. is_full_due terms.width a x c.args.time notes) is ∙ sym (c.is_full_due.ensures terms.width front a notes h) ∙ c.if-is_full_due.true in
     let P : List Report → Type 0 = λ rs. AcksStandFor terms.width front a c.full.new.self (noted c.args.time rs notes) in
-    subst P (sym (acks_by terms a c.args.state.available c.args.time notes true _ f refl)) (c.full.ensures.stands terms front a notes t told is h)
+    subst P (sym (acks_by terms a c.args.state.available c.args.time notes true _ f refl)) (c.full.ensures.stands terms front a notes t reported is h)
 
 pub returns-then-is_full_due-clause-bytes : goal.returns-then-is_full_due-clause-bytes
 returns-then-is_full_due-clause-bytes c terms front a initial caller notes t rates is p h =
-    let told = c.rates.ensures (rating terms.mode terms.callers) (received_at notes) rates in
+    let reported = c.rates.ensures (rating terms.mode terms.callers) (received_at notes) rates in
     let f : is_full_due terms.width a c.args.state.available c.args.time notes ≡ true =
     ap (λ x. is_full_due terms.width a x c.args.time notes) is ∙ sym (c.is_full_due.ensures terms.width front a notes h) ∙ c.if-is_full_due.true in
-    ap (λ x. x ∷ []) (c.full.ensures.bytes terms front a initial caller notes t told p h)
+    ap (λ x. x ∷ []) (c.full.ensures.bytes terms front a initial caller notes t reported p h)
     ∙ sym (ap (map (says caller initial c.args.time)) (acks_by terms a c.args.state.available c.args.time notes true _ f refl))
 
 pub returns-then-is_light_due-clause-stands : goal.returns-then-is_light_due-clause-stands

@@ -1,7 +1,7 @@
 use Rattle.srt_pub.proofs.session.Publisher.ack.Goals as goal
 use Rattle.std.proofs.Common.{◌≡◌, ℕ, ◌+◌, Bool, List, [], ◌∷◌, map, ap, sym, subst, ◌∙◌}
 use Rattle.srt_recvbuf.specs.Receiving.{ack_point, available}
-use Rattle.srt_seq.specs.Given.{given}
+use Rattle.srt_types.specs.Given.{given}
 use Rattle.srt_pub.specs.Publishing.{Terms, Publishing, acks, acks_at, noted}
 use Rattle.srt_pub.specs.Says.{says, body_bytes}
 use Rattle.srt_pub.specs.Calls.{listed}

@@ -1,7 +1,7 @@
 use Rattle.srt_pub.proofs.session.Publisher.data.Goals as goal
 use Rattle.srt_pub.proofs.session.Publisher.data.Goals.{After-receive}
 use Rattle.std.proofs.Common.{◌≡◌, ℕ, subst, arith}
-use Rattle.srt_seq.specs.Lift.{stamped_from}
+use Rattle.srt_types.specs.Lift.{stamped_from}
 use Rattle.srt_pub.specs.Changes.{HearsAt, data_from}
 use Rattle.srt_pub.specs.Publishing.{took}
 use Rattle.srt_pub.specs.Stands.{StandsFor}

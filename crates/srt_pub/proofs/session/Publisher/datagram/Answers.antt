@@ -1,6 +1,6 @@
 use Rattle.srt_pub.proofs.session.Publisher.datagram.Goals as goal
 use Rattle.std.proofs.Common.{◌∙◌, ap, sym, subst}
-use Rattle.srt_seq.specs.Lift.{stamped_from}
+use Rattle.srt_types.specs.Lift.{stamped_from}
 use Rattle.srt_packet.specs.declared.reading.Kind.{Kind}
 use Rattle.srt_packet.specs.View.{body_of}
 use Rattle.srt_pub.specs.Heard.{heard_from}

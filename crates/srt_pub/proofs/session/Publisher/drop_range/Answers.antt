@@ -1,10 +1,10 @@
 use Rattle.srt_pub.proofs.session.Publisher.drop_range.Goals as goal
 use Rattle.std.proofs.Common.{List, ℕ, ◌^◌, ◌≤◌, cond, Bool, inl, inr, sym, subst, arith}
 use Rattle.std.proofs.lemmas.Bool.{le-ltb}
-use Rattle.srt_seq.specs.Window.{word_of, counted_from, offset_of}
-use Rattle.srt_seq.specs.declared.shared.Mode.{Mode}
+use Rattle.srt_types.specs.Window.{word_of, counted_from, offset_of}
+use Rattle.srt_types.specs.declared.shared.Mode.{Mode}
 use Rattle.srt_recvbuf.specs.Receiving.{Arrival, Receiving, requested}
-use Rattle.srt_seq.specs.Runs.{range_from}
+use Rattle.srt_types.specs.Runs.{range_from}
 use Rattle.srt_pub.specs.Stands.{StandsFor, IsOrderly}
 use Rattle.srt_pub.specs.Counting.{Counted, delivered_in}
 use Rattle.srt_pub.proofs.Counting.{passes_request, same_arrivals}

@@ -1,8 +1,8 @@
 use Rattle.srt_pub.proofs.session.Publisher.drop_request.Goals as goal
 use Rattle.std.proofs.Common.{◌≡◌, sym, subst, ◌∙◌}
-use Rattle.srt_seq.specs.declared.shared.Mode.{Mode}
-use Rattle.srt_seq.specs.declared.shared.Mode.TheVariants.{Live}
-use Rattle.srt_seq.specs.Runs.{range_from}
+use Rattle.srt_types.specs.declared.shared.Mode.{Mode}
+use Rattle.srt_types.specs.declared.shared.Mode.TheVariants.{Live}
+use Rattle.srt_types.specs.Runs.{range_from}
 use Rattle.srt_pub.specs.Publishing.{with_request}
 use Rattle.srt_pub.specs.Stands.{StandsFor}
 

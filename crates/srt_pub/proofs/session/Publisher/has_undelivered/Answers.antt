@@ -1,7 +1,7 @@
 use Rattle.srt_pub.proofs.session.Publisher.has_undelivered.Goals as goal
 use Rattle.std.proofs.Common.{◌+◌, not, inl, inr, sym, ap, subst, ◌∙◌, arith}
 use Rattle.std.proofs.lemmas.Bool.{cases_lt, eq-eqb, ne_eqb}
-use Rattle.srt_seq.specs.declared.shared.Mode.{Mode}
+use Rattle.srt_types.specs.declared.shared.Mode.{Mode}
 use Rattle.srt_recvbuf.specs.Receiving.{ack_point}
 use Rattle.srt_recvbuf.proofs.Points.{ack_points}
 use Rattle.srt_pub.specs.Stands.{IsOrderly}

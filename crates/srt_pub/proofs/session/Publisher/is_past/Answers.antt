@@ -1,7 +1,7 @@
 use Rattle.srt_pub.proofs.session.Publisher.is_past.Goals as goal
 use Rattle.std.proofs.Common.{◌≡◌, ◌+◌, ◌^◌, ◌%◌, ap, sym, ◌∙◌, arith}
 use Rattle.std.specs.Prelude.{is_some}
-use Rattle.srt_seq.specs.Window.{word_of, counted_from, in_window}
+use Rattle.srt_types.specs.Window.{word_of, counted_from, in_window}
 use Rattle.srt_pub.proofs.Windows.{past_waiting, past_none, past_is, same_some, no_top}
 
 pub returns-then-waiting : goal.returns-then-waiting

@@ -1,13 +1,13 @@
 use Rattle.srt_pub.proofs.session.Publisher.nak.Goals as goal
 use Rattle.std.proofs.Common.{◌≡◌, ◌<◌, ℕ, List, [], ◌∷◌, length, map, ap, sym, subst, ◌∙◌}
-use Rattle.srt_pub.specs.Publishing.{Report, Sent, naks, noted, nak_report, nak_with, gaps_told, runs_said}
+use Rattle.srt_pub.specs.Publishing.{Report, Sent, naks, noted, nak_report, nak_with, gaps_reported, runs_said}
 use Rattle.srt_pub.specs.Says.{says}
 use Rattle.srt_pub.specs.Stands.{StandsFor}
 use Rattle.srt_pub.specs.Counting.{Counted, capped, delivered_in}
 use Rattle.srt_pub.specs.declared.counts.Counts.{Counts}
 use Rattle.srt_pub.proofs.Counting.{counts_nak}
 use Rattle.srt_pub.proofs.Goings.{end_within}
-use Rattle.srt_pub.proofs.Reported.{numbers_told}
+use Rattle.srt_pub.proofs.Reported.{numbers_reported}
 use Rattle.srt_pub.proofs.Windows.{beyond}
 use Rattle.srt_pub.proofs.Bytes.{none_none, some_some, nak_some, nak_bytes, same_losses}
 use Rattle.srt_pub.proofs.Sendings.{naks_by, none_missing, no_items, some_items, pairs_have_words}
@@ -25,7 +25,7 @@ returns-then-not-has_gaps-clause-bytes c terms initial opening stamp caller m h 
 pub returns-then-is_empty-clause-stands : goal.returns-then-is_empty-clause-stands
 returns-then-is_empty-clause-stands c terms initial opening stamp caller m h =
     let all = c.is_nak_due-all.result in
-    let rs = runs_said (gaps_told all terms.width m.seen m.receiving) in
+    let rs = runs_said (gaps_reported all terms.width m.seen m.receiving) in
     let none = none_none initial c.runs-runs.result.items rs (c.runs-runs.ensures terms initial opening stamp caller m h)
     (no_items c.runs-runs.result.items (sym c.is_empty.ensures ∙ c.if-is_empty.true)) in
     let e : naks terms c.args.time m ≡ [] = naks_by terms c.args.time m all (c.is_nak_due-all.ensures _ _ _ _ m.notes h.log) ∙ ap (nak_with all) none in
@@ -34,7 +34,7 @@ returns-then-is_empty-clause-stands c terms initial opening stamp caller m h =
 pub returns-then-is_empty-clause-bytes : goal.returns-then-is_empty-clause-bytes
 returns-then-is_empty-clause-bytes c terms initial opening stamp caller m h =
     let all = c.is_nak_due-all.result in
-    let rs = runs_said (gaps_told all terms.width m.seen m.receiving) in
+    let rs = runs_said (gaps_reported all terms.width m.seen m.receiving) in
     let none = none_none initial c.runs-runs.result.items rs (c.runs-runs.ensures terms initial opening stamp caller m h)
     (no_items c.runs-runs.result.items (sym c.is_empty.ensures ∙ c.if-is_empty.true)) in
     let e : naks terms c.args.time m ≡ [] = naks_by terms c.args.time m all (c.is_nak_due-all.ensures _ _ _ _ m.notes h.log) ∙ ap (nak_with all) none in
@@ -43,14 +43,14 @@ returns-then-is_empty-clause-bytes c terms initial opening stamp caller m h =
 pub returns-clause-stands : goal.returns-clause-stands
 returns-clause-stands c terms initial opening stamp caller m h =
     let all = c.is_nak_due-all.result in
-    let rs = runs_said (gaps_told all terms.width m.seen m.receiving) in
+    let rs = runs_said (gaps_reported all terms.width m.seen m.receiving) in
     let some = some_some initial c.runs-runs.result.items rs (c.runs-runs.ensures terms initial opening stamp caller m h)
     (some_items c.runs-runs.result.items (sym c.is_empty.ensures ∙ c.if-is_empty.false)) in
     let e : naks terms c.args.time m ≡ nak_report all rs ∷ [] =
     naks_by terms c.args.time m all (c.is_nak_due-all.ensures _ _ _ _ m.notes h.log) ∙ nak_some all rs some in
     let lost = c.numbers_in.ensures
     ∙ ap capped
-    (numbers_told all terms.width m.seen initial m.receiving c.runs-runs.result.items
+    (numbers_reported all terms.width m.seen initial m.receiving c.runs-runs.result.items
     (end_within terms.width m.receiving (beyond terms.width initial opening c.args.self.now.buffer m.receiving h.buffer)) h.narrow
     (c.runs-runs.ensures terms initial opening stamp caller m h)) in
     subst
@@ -75,7 +75,7 @@ returns-clause-stands c terms initial opening stamp caller m h =
 pub returns-clause-bytes : goal.returns-clause-bytes
 returns-clause-bytes c terms initial opening stamp caller m h =
     let all = c.is_nak_due-all.result in
-    let rs = runs_said (gaps_told all terms.width m.seen m.receiving) in
+    let rs = runs_said (gaps_reported all terms.width m.seen m.receiving) in
     let said = c.runs-runs.ensures terms initial opening stamp caller m h in
     let some = some_some initial c.runs-runs.result.items rs said (some_items c.runs-runs.result.items (sym c.is_empty.ensures ∙ c.if-is_empty.false)) in
     let e : naks terms c.args.time m ≡ nak_report all rs ∷ [] =

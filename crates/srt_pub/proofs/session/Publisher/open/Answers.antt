@@ -1,7 +1,7 @@
 use Rattle.srt_pub.proofs.session.Publisher.open.Goals as goal
 use Rattle.std.proofs.Common.{ℕ, [], refl, sym, subst, arith}
-use Rattle.srt_seq.specs.declared.shared.Mode.TheVariants.{Live}
-use Rattle.srt_seq.specs.declared.shared.Callers.TheVariants.{Draft}
+use Rattle.srt_types.specs.declared.shared.Mode.TheVariants.{Live}
+use Rattle.srt_types.specs.declared.shared.Callers.TheVariants.{Draft}
 use Rattle.srt_pub.specs.Kept.{LogStandsFor}
 use Rattle.srt_pub.specs.Publishing.{Terms}
 use Rattle.srt_pub.proofs.Goings.{first_point, orderly_first}

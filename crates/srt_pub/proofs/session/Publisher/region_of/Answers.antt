@@ -1,7 +1,7 @@
 use Rattle.srt_pub.proofs.session.Publisher.region_of.Goals as goal
 use Rattle.srt_pub.proofs.session.Publisher.region_of.Goals.{After-width-width}
 use Rattle.std.proofs.Common.{◌≡◌, ℕ, ◌+◌, ap, ◌∙◌, arith}
-use Rattle.srt_seq.specs.Window.{word_of, counted_from, offset_of}
+use Rattle.srt_types.specs.Window.{word_of, counted_from, offset_of}
 use Rattle.srt_pub.specs.Publishing.{Terms, Publishing, region_in}
 use Rattle.srt_pub.specs.Stands.{StandsFor}
 use Rattle.srt_pub.proofs.Windows.{no_top, region_none, region_inside, region_ahead, region_late, counts_small, distance_there}

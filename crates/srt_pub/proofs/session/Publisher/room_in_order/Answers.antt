@@ -1,6 +1,6 @@
 use Rattle.srt_pub.proofs.session.Publisher.room_in_order.Goals as goal
 use Rattle.std.proofs.Common.{◌+◌, subst, arith}
-use Rattle.srt_seq.specs.declared.shared.Mode.{Mode}
+use Rattle.srt_types.specs.declared.shared.Mode.{Mode}
 use Rattle.srt_recvbuf.specs.Receiving.{ack_point}
 use Rattle.srt_recvbuf.proofs.Points.{ack_points}
 use Rattle.srt_pub.specs.Stands.{IsOrderly}

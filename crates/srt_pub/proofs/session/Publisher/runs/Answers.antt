@@ -1,10 +1,10 @@
 use Rattle.srt_pub.proofs.session.Publisher.runs.Goals as goal
 use Rattle.std.proofs.Common.{◌≡◌, ℕ, Bool, ◌+◌, max, map, ap, sym, ◌∙◌, arith}
 use Rattle.std.specs.Prelude.{Option}
-use Rattle.srt_seq.specs.Window.{word_of}
+use Rattle.srt_types.specs.Window.{word_of}
 use Rattle.srt_recvbuf.specs.Receiving.{runs_from, gaps_from}
 use Rattle.srt_recvbuf.specs.Stands.{run_words}
-use Rattle.srt_pub.specs.Publishing.{gaps_told, runs_said}
+use Rattle.srt_pub.specs.Publishing.{gaps_reported, runs_said}
 use Rattle.srt_pub.proofs.Goings.{end_within}
 use Rattle.srt_pub.proofs.Windows.{beyond, number_there}
 
@@ -17,7 +17,7 @@ returns-then-all c terms initial opening stamp caller m h =
     let same : r.front + 0 ≡ r.front = omega arith in
     c.runs.ensures width initial opening r h.buffer ∙ ap (λ (o : Option ℕ). map (run_words initial) (runs_from width o r)) n
     ∙ ap (λ (x : ℕ). map (run_words initial) (runs_said (gaps_from width x r))) same
-    ∙ sym (ap (λ (b : Bool). map (run_words initial) (runs_said (gaps_told b width m.seen r))) c.if-all.true)
+    ∙ sym (ap (λ (b : Bool). map (run_words initial) (runs_said (gaps_reported b width m.seen r))) c.if-all.true)
 
 pub returns-else-all : goal.returns-else-all
 returns-else-all c terms initial opening stamp caller m h =
@@ -31,4 +31,4 @@ returns-else-all c terms initial opening stamp caller m h =
     let same : r.front + seen ≡ max m.seen r.front = omega (arith, h.log.seen_is) in
     c.runs-else-all.ensures width initial opening r h.buffer ∙ ap (λ (o : Option ℕ). map (run_words initial) (runs_from width o r)) n
     ∙ ap (λ (x : ℕ). map (run_words initial) (runs_said (gaps_from width x r))) same
-    ∙ sym (ap (λ (b : Bool). map (run_words initial) (runs_said (gaps_told b width m.seen r))) c.if-all.false)
+    ∙ sym (ap (λ (b : Bool). map (run_words initial) (runs_said (gaps_reported b width m.seen r))) c.if-all.false)

@@ -1,6 +1,6 @@
 use Rattle.srt_pub.proofs.session.Publisher.statistics.Goals as goal
 use Rattle.std.proofs.Common.{ℕ, ◌+◌, ap, ◌∙◌, arith}
-use Rattle.srt_rtt.specs.RoundTrip.{RoundTrip, round_trip_of}
+use Rattle.srt_timing.specs.RoundTrip.{RoundTrip, round_trip_of}
 use Rattle.srt_recvbuf.specs.Receiving.{top}
 use Rattle.srt_pub.proofs.Goings.{end_within}
 use Rattle.srt_pub.proofs.Windows.{beyond}
@@ -22,4 +22,5 @@ returns c terms initial opening stamp caller m h =
       available_is = c.available.ensures width initial opening r h.buffer;
       round_trip_is = ap (λ (x : ℕ). trip x c.variance.result) c.rtt.ensures ∙ ap (λ (x : ℕ). trip rtt.time x) c.variance.ensures
           ∙ c.values-rtt.ensures ∙ h.log.times.0;
+      correction_is = c.followed_correction.ensures.value terms _ _ _ _ h.log;
     }

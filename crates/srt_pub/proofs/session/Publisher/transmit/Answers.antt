@@ -1,7 +1,7 @@
 use Rattle.srt_pub.proofs.session.Publisher.transmit.Goals as goal
 use Rattle.srt_pub.proofs.session.Publisher.transmit.Goals.{After-see}
 use Rattle.std.proofs.Common.{◌≡◌, ℕ, ◌+◌, List, ◌++◌, map, refl, ap, sym, subst, ◌∙◌, arith}
-use Rattle.srt_seq.specs.Given.{given}
+use Rattle.srt_types.specs.Given.{given}
 use Rattle.srt_recvbuf.specs.Receiving.{end_of}
 use Rattle.srt_pub.specs.Publishing.{Terms, Publishing, Note, Report, acks, naks, keep_alives, noted, reports, reported}
 use Rattle.srt_pub.specs.Says.{says}

@@ -14,6 +14,8 @@ returns c initial agreed notes r media drop again h =
       media_is = rw media refl;
       growth_is = h.growth_is;
       missed_is = rw drop h.missed_is;
+      tries_are = h.tries_are;
+      once = h.once;
       credit_is = c.note_sent.ensures agreed.resend_percent notes c.args.time r media again h.credit_is;
       sendings_are = subst (λ (k : Sendings). AreSendings k (fresh_in (Sent c.args.time r ∷ notes)) (again_in (Sent c.args.time r ∷ notes)))
           (sym c.send.ensures) (sends c.args.time c.args.again c.args.self.now.sendings r notes media again h.sendings_are);

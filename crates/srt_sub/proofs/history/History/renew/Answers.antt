@@ -28,6 +28,8 @@ returns c initial agreed notes h = by (may_resend agreed.resend_percent notes) r
           growth_is = h.growth_is;
           missed_is = h.missed_is;
           sendings_are = h.sendings_are;
+          tries_are = h.tries_are;
+          once = h.once;
           credit_is = c.renew.ensures.none agreed.resend_percent notes m h.credit_is;
         })
     by false m =
@@ -41,5 +43,7 @@ returns c initial agreed notes h = by (may_resend agreed.resend_percent notes) r
           growth_is = h.growth_is;
           missed_is = h.missed_is;
           sendings_are = h.sendings_are;
+          tries_are = h.tries_are;
+          once = h.once;
           credit_is = c.renew.ensures.some agreed.resend_percent notes c.args.time m h.credit_is;
         })

@@ -1,15 +1,15 @@
 use Rattle.std.proofs.Common.{ℕ, ◌+◌, ◌-◌, ◌^◌, ◌≤◌, Bool, Option, Some, ◌++◌, inl, inr, refl, sym, ap, subst, ◌∙◌, arith}
 use Rattle.std.proofs.lemmas.Bool.{cases_lt, true≢false}
-use Rattle.srt_seq.specs.Window.{word_of, counted_from}
-use Rattle.srt_seq.specs.Words.{word_at}
+use Rattle.srt_types.specs.Window.{word_of, counted_from}
+use Rattle.srt_types.specs.Words.{word_at}
 use Rattle.srt_sendbuf.specs.Sending.{base, next, acknowledged, acknowledged_by, after_ack, is_growth}
 use Rattle.srt_sendbuf.specs.Stands as places
 use Rattle.srt_sub.specs.Heard.{more_of}
-use Rattle.srt_sub.specs.Subscribing.{with_ack, told, grown}
+use Rattle.srt_sub.specs.Subscribing.{with_ack, sampled, grown}
 use Rattle.srt_sub.specs.Stands.{StandsIn, IsHistory}
 use Rattle.std.specs.Prelude.{nat_lt}
 use Rattle.srt_sub.proofs.Counting.{counts_acked}
-use Rattle.srt_sub.proofs.Credits.{credited_grown, credited_told}
+use Rattle.srt_sub.proofs.Credits.{credited_grown, credited_reported}
 use Rattle.srt_sub.proofs.Sound.{no_number, none_is, some_is, sound_marked, changed}
 use Rattle.srt_sub.proofs.session.Subscriber.acknowledge.Goals as goal
 
@@ -58,9 +58,9 @@ returns c terms initial opening caller given m h =
     (c.ack.ensures.stands terms.width initial m.sending h.buffer_is))
     (subst
     (λ (b : Bool).
-    IsHistory initial terms c.acknowledge.new.self (told (more_of c.args.info.now) ++ (grown c.args.time b ++ m.notes)))
+    IsHistory initial terms c.acknowledge.new.self (sampled (more_of c.args.info.now) ++ (grown c.args.time b ++ m.notes)))
     grew (c.acknowledge.ensures initial terms m.notes h.history_is))
     (sound_marked terms c.args.time m.sending (acknowledged some.0 m.sending) refl refl h.sound) c.args.self.now.counts
     (counts_acked c.args.time (more_of c.args.info.now) some.0 c.args.self.now.counts m h.counts_are) h.phase_is
-    (credited_told terms.resend_percent c.args.time (more_of c.args.info.now) _
+    (credited_reported terms.resend_percent c.args.time (more_of c.args.info.now) _
     (credited_grown terms.resend_percent c.args.time (nat_lt m.sending.acked some.0) m.notes h.credited)))

@@ -2,8 +2,8 @@ use Rattle.std.proofs.Common.{ℕ, ◌-◌, ◌∷◌, refl, sym, ap, subst, ◌
 use Rattle.std.specs.Prelude.{map}
 use Rattle.srt_packet.specs.View.{body_of}
 use Rattle.srt_packet.specs.declared.reading.Kind.{Kind}
-use Rattle.srt_seq.specs.Window.{counted_from}
-use Rattle.srt_seq.specs.Words.{word_at}
+use Rattle.srt_types.specs.Window.{counted_from}
+use Rattle.srt_types.specs.Words.{word_at}
 use Rattle.srt_sendbuf.specs.Sending.{acknowledged_by}
 use Rattle.srt_sub.specs.Heard.{Heard, Ack, heard_from, more_of}
 use Rattle.srt_sub.specs.Counting.{Counted}

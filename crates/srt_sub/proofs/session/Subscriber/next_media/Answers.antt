@@ -6,7 +6,7 @@ use Rattle.srt_sendbuf.specs.Sending.{Sending, Due, sent}
 use Rattle.srt_sendbuf.specs.Stands as places
 use Rattle.srt_sub.specs.Subscribing.{Terms, Subscribing, Media, flow_window, may_resend}
 use Rattle.srt_sub.specs.Says.{says}
-use Rattle.srt_seq.specs.Given.{given as written}
+use Rattle.srt_types.specs.Given.{given as written}
 use Rattle.srt_packet.specs.Encoded.{bytes_of}
 use Rattle.srt_packet.specs.declared.encoded.EncodedPacket.{EncodedPacket}
 use Rattle.srt_sub.specs.inside.Turns.{due_in, next_in, phase_after, phase_now, sends_lost, with_due, given_with, texts}
@@ -47,9 +47,14 @@ one : (terms : Terms) (initial opening caller time given : ℕ) (now : Phase) (s
     → (d : Due) × (next_in now s.history.window m.sending ≡ Some d) × (due_in (64 - given) s.phase terms m ≡ Some d) ×
     (bytes_of p ≡ says s.caller initial time (Media d.number d.again d.origin d.payload))
 one terms initial opening caller time given now s m b p h few n is answer =
-    let told = media_said (next_in now s.history.window m.sending) (λ d. says s.caller initial time (Media d.number d.again d.origin d.payload)) _
-    (wrote b p _ is answer) in
-    (told.0, told.1, there given s.history.window now s.phase terms m (Some told.0) (omega (arith, few, h.given_is)) n h.history_is.window_is told.1, told.2)
+    let outgoing = media_said (next_in now s.history.window m.sending) (λ d. says s.caller initial time (Media d.number d.again d.origin d.payload)) _
+    (wrote b p _ is answer) in (
+      outgoing.0,
+      outgoing.1,
+      there given s.history.window now s.phase terms m (Some outgoing.0) (omega (arith, few, h.given_is)) n h.history_is.window_is
+          outgoing.1,
+      outgoing.2,
+    )
 
 pub returns-then-not-media-clause-stands : goal.returns-then-not-media-clause-stands
 returns-then-not-media-clause-stands c terms initial opening caller given m h le =
@@ -83,22 +88,22 @@ returns-clause-stands c terms initial opening caller given m h le =
     let s = c.args.self.now in
     let now = c.phase_now-phase.result in
     let now_is = c.phase_now-phase.ensures terms initial m.notes h.history_is in
-    let told = one terms initial opening caller c.args.time given now s m c.media.result c.media.new.packet h (omega arith) now_is
+    let outgoing = one terms initial opening caller c.args.time given now s m c.media.result c.media.new.packet h (omega arith) now_is
     c.if-not-media.false
     (c.media.ensures.answer terms.width initial c.args.time m.sending h.buffer_is h.sound.some) in
-    let d = told.0 in
-    let lost_is = next_again now s.history.window m.sending d told.1 in
+    let d = outgoing.0 in
+    let lost_is = next_again now s.history.window m.sending d outgoing.1 in
     let again = lost_is ∙ sym (c.is_again-again.ensures terms.width initial m.sending h.buffer_is) in
     let may : d.again ≡ true → may_resend terms.resend_percent m.notes ≡ true =
     λ e. was_allowed s.phase terms.resend_percent m.notes m.sending (ap (λ f. sends_lost f m.sending) (sym now_is) ∙ sym lost_is ∙ e) in
     let kept = subst (λ (r : Sending). places.StandsFor terms.width initial c.media.new.buffer r)
-    (next_sent now s.history.window m.sending d told.1) (c.media.ensures.stands terms.width initial m.sending h.buffer_is) in
+    (next_sent now s.history.window m.sending d outgoing.1) (c.media.ensures.stands terms.width initial m.sending h.buffer_is) in
     let phase = c.phase_after-self.result in
     subst
     (λ (o : Option Due). StandsIn terms initial opening caller c.args.time (given_with o given)
     (record s { buffer = c.media.new.buffer; history = c.give.new.self; phase = phase; given = s.given + 1 }) (with_due c.args.time o m)
     × (phase ≡ phase_after o s.phase))
-    (sym told.2) (
+    (sym outgoing.2) (
       rephased terms initial opening caller c.args.time given s m h c.args.time (given + 1) (s.given + 1) c.media.new.buffer c.give.new.self
           (with_due c.args.time (Some d) m) (ap (λ n. n + 1) h.given_is) kept
           (c.give.ensures initial terms m.notes (Media d.number d.again d.origin d.payload) refl refl again h.history_is)
@@ -111,8 +116,9 @@ returns-clause-stands c terms initial opening caller given m h le =
 pub returns-clause-answer : goal.returns-clause-answer
 returns-clause-answer c terms initial opening caller given m h le =
     let s = c.args.self.now in
-    let told = one terms initial opening caller c.args.time given c.phase_now-phase.result s m c.media.result c.media.new.packet h (omega arith)
+    let outgoing = one terms initial opening caller c.args.time given c.phase_now-phase.result s m c.media.result c.media.new.packet h (omega arith)
     (c.phase_now-phase.ensures terms initial m.notes h.history_is) c.if-not-media.false
     (c.media.ensures.answer terms.width initial c.args.time m.sending h.buffer_is h.sound.some) in
-    ap (λ t. t ∷ []) (told.3 ∙ ap (λ k. says k initial c.args.time (Media told.0.number told.0.again told.0.origin told.0.payload)) h.caller_is)
-    ∙ sym (ap (λ o. map (λ (d : Due). says caller initial c.args.time (Media d.number d.again d.origin d.payload)) (option_to_list o)) told.2)
+    ap (λ t. t ∷ [])
+    (outgoing.3 ∙ ap (λ k. says k initial c.args.time (Media outgoing.0.number outgoing.0.again outgoing.0.origin outgoing.0.payload)) h.caller_is)
+    ∙ sym (ap (λ o. map (λ (d : Due). says caller initial c.args.time (Media d.number d.again d.origin d.payload)) (option_to_list o)) outgoing.2)
