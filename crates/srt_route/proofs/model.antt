@@ -10,7 +10,7 @@ pub mod FileEnds
 pub mod Alone
 pub mod Closed
 pub mod Drafts
-pub mod ToldPoints
+pub mod ReportedPoints
 pub mod Acknowledged
 pub mod Numbered
 pub mod Ending
@@ -21,3 +21,4 @@ pub mod Queues
 pub mod Following
 pub mod Sound
 pub mod Sendables
+pub mod SessionRules

@@ -2,3 +2,4 @@
 pub mod Rows
 pub mod ShiftRows
 pub mod Closings
+pub mod SentAgain

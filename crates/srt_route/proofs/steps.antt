@@ -1,5 +1,6 @@
 -- The steps of an event, and snapshots: the effect of the code's calls on a table is what the definitions state.
 pub mod Aging
+pub mod Expiring
 pub mod Slots
 pub mod Telling
 pub mod Noted
@@ -14,7 +15,7 @@ pub mod Saying
 pub mod Serving
 pub mod Stepping
 pub mod Noting
-pub mod Told
+pub mod Notified
 pub mod Tallied
 pub mod Views
 pub mod Overtaking

@@ -1,17 +1,17 @@
 -- In buffer mode, everything acknowledged to a publisher has been delivered once its session ends by its own SHUTDOWN.
 use Rattle.std.specs.Prelude.{None, ◌==◌, if◌then◌else◌, ◌≡◌, ℕ, ◌+◌, ◌<◌, ◌≤◌, ⊤, Bool, true, false, Option, Some, List, [], ◌∷◌, ◌++◌, length, map}
 use Rattle.std.specs.Prelude.{find}
-use Rattle.srt_seq.specs.declared.shared.Mode.TheVariants.{Buffer}
-use Rattle.srt_seq.specs.declared.shared.Callers.TheVariants.{Libsrt}
-use Rattle.srt_seq.specs.declared.shared.Peer.{Peer}
-use Rattle.srt_seq.specs.Terms.{Terms}
-use Rattle.srt_seq.specs.Items.{Item}
-use Rattle.srt_seq.specs.Runs.{numbers_from}
+use Rattle.srt_types.specs.declared.shared.Mode.TheVariants.{Buffer}
+use Rattle.srt_types.specs.declared.shared.Callers.TheVariants.{Libsrt}
+use Rattle.srt_types.specs.declared.shared.Peer.{Peer}
+use Rattle.srt_types.specs.Terms.{Terms}
+use Rattle.srt_types.specs.Items.{Item}
+use Rattle.srt_types.specs.Runs.{numbers_from}
 use Rattle.srt_recvbuf.specs.Receiving.{Arrival, Receiving, ack_point, is_received}
 use Rattle.srt_packet.specs.Grammar.{Packet}
 use Rattle.srt_pub.specs.Heard.{Heard}
 use Rattle.srt_pub.specs.Publishing as publisher
-use Rattle.srt_pub.specs.Publishing.{Note, Came, Sent, Confirmed, Report, FullAck, LightAck, Publishing}
+use Rattle.srt_pub.specs.Publishing.{Note, Arrived, Sent, Confirmed, Report, FullAck, LightAck, Publishing}
 use Rattle.srt_pub.specs.Stands.{Each}
 use Rattle.srt_route.specs.Past.{Past, Publishes, Subscribes, is_shutdown}
 use Rattle.srt_route.specs.Queues.{payload_in, queue_in}
@@ -25,11 +25,11 @@ points_in (LightAck point) = point ∷ []
 points_in _ = []
 
 -- all acknowledgement points sent to a publisher
-abbrev pub points_told : List Note → List ℕ
-points_told [] = []
-points_told (Came time region put ∷ notes) = points_told notes
-points_told (Sent time report ∷ notes) = points_in report ++ points_told notes
-points_told (Confirmed full sample ∷ notes) = points_told notes
+abbrev pub points_reported : List Note → List ℕ
+points_reported [] = []
+points_reported (Arrived time region put ∷ notes) = points_reported notes
+points_reported (Sent time report ∷ notes) = points_in report ++ points_reported notes
+points_reported (Confirmed time stamp full sample ∷ notes) = points_reported notes
 
 -- each of these numbers is at most n
 abbrev pub AreAtMost : List ℕ → ℕ → Type 0
@@ -37,15 +37,15 @@ AreAtMost [] n = ⊤
 AreAtMost (point ∷ points) n = (point ≤ n) × AreAtMost points n
 
 -- no acknowledgement point sent to a publisher is past its present one, which never decreases
-abbrev pub IsToldIn : (width : ℕ) → Past → Type 0
-IsToldIn width (Publishes p) = AreAtMost (points_told p.notes) (ack_point width p.receiving)
-IsToldIn width (Subscribes m) = ⊤
+abbrev pub IsReportedIn : (width : ℕ) → Past → Type 0
+IsReportedIn width (Publishes p) = AreAtMost (points_reported p.notes) (ack_point width p.receiving)
+IsReportedIn width (Subscribes m) = ⊤
 
-abbrev pub IsTold : Terms → Session → Type 0
-IsTold e s = IsToldIn e.buffer s.past
+abbrev pub IsReported : Terms → Session → Type 0
+IsReported e s = IsReportedIn e.buffer s.past
 
 abbrev pub PointsStay : Type 0
-PointsStay = (e : Terms) (index : ℕ) (items : List Item) → e.mode ≡ Buffer → Each (IsTold e) (after e index items).sessions
+PointsStay = (e : Terms) (index : ℕ) (items : List Item) → e.mode ≡ Buffer → Each (IsReported e) (after e index items).sessions
 
 -- these packets have the numbers from the front on, one after another, and the front moves past the last of them
 abbrev pub number_in : Arrival → ℕ
@@ -134,7 +134,7 @@ FrontsStay =
 
 -- every number below each point sent to the publisher is below the front, and all numbers below the front were received
 pub record IsDelivered (p : Publishing) : Type 0 where
-  pub points : AreAtMost (points_told p.notes) p.receiving.front
+  pub points : AreAtMost (points_reported p.notes) p.receiving.front
   pub below : (n : ℕ) → n < p.receiving.front → is_received p.receiving n ≡ true
 
 abbrev pub HasDeliveredIn : Past → Type 0

@@ -1,7 +1,7 @@
 -- The active one of a route's publishers, whatever its items are.
 use Rattle.std.specs.Prelude.{◌≡◌, ℕ, Bool, true, false, Some, List, ◌∷◌, length, map, filter, find, ◌==◌, ◌&&◌, if◌then◌else◌}
-use Rattle.srt_seq.specs.Terms.{Terms}
-use Rattle.srt_seq.specs.Items.{Item}
+use Rattle.srt_types.specs.Terms.{Terms}
+use Rattle.srt_types.specs.Items.{Item}
 use Rattle.srt_route.specs.Sessions.{Session, active, aged, is_active, is_open_in, is_publisher, marked, open_publishers, standby, takes_over}
 use Rattle.srt_route.specs.Route.{after, clock_after, passed_by}
 

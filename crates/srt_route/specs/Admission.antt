@@ -1,7 +1,7 @@
 -- The agreement with which a conclusion is admitted, or the first cause to refuse it.
 use Rattle.std.specs.Prelude.{ℕ, Result, Ok, Err, List}
-use Rattle.srt_seq.specs.declared.shared.Peer.{Peer}
-use Rattle.srt_seq.specs.Terms.{Terms}
+use Rattle.srt_types.specs.declared.shared.Peer.{Peer}
+use Rattle.srt_types.specs.Terms.{Terms}
 use Rattle.srt_route.specs.declared.refusals.RefusalCause.{RefusalCause}
 use Rattle.srt_route.specs.declared.agreement.Agreement.{Agreement}
 use Rattle.srt_route.specs.declared.admission.Admission.{Admission}

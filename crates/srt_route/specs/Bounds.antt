@@ -1,8 +1,8 @@
 -- Bounds on the open sessions of a route, whatever its terms are and whatever it receives.
 use Rattle.std.specs.Prelude.{◌≡◌, ℕ, ◌≤◌, List, length, filter}
-use Rattle.srt_seq.specs.declared.shared.Peer.{Peer}
-use Rattle.srt_seq.specs.Terms.{Terms}
-use Rattle.srt_seq.specs.Items.{Item}
+use Rattle.srt_types.specs.declared.shared.Peer.{Peer}
+use Rattle.srt_types.specs.Terms.{Terms}
+use Rattle.srt_types.specs.Items.{Item}
 use Rattle.srt_route.specs.Sessions.{Session, open_publishers, is_open_in}
 use Rattle.srt_route.specs.Route.{after, is_of}
 

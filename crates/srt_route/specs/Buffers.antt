@@ -1,8 +1,8 @@
 -- The sessions that a route's buffers represent.
 use Rattle.std.specs.Prelude.{◌≡◌, ℕ, ◌-◌, ◌≤◌, true, false, List, map}
-use Rattle.srt_seq.specs.declared.shared.Peer.{Peer}
-use Rattle.srt_seq.specs.Terms.{Terms}
-use Rattle.srt_seq.specs.Items.{Datagram}
+use Rattle.srt_types.specs.declared.shared.Peer.{Peer}
+use Rattle.srt_types.specs.Terms.{Terms}
+use Rattle.srt_types.specs.Items.{Datagram}
 use Rattle.srt_pub.specs.Stands as publisher
 use Rattle.srt_pub.specs.declared.session.Publisher.{Publisher}
 use Rattle.srt_sub.specs.Stands as subscriber

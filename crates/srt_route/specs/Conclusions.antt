@@ -1,12 +1,12 @@
 -- What a route reads from a conclusion (sections 3.2.1 and 4.3.1.2). The lobby has already checked the cookie, the
 -- route's name, and the blocks for which a caller is refused at once, so they aren't read again.
 use Rattle.std.specs.Prelude.{ℕ, ◌/◌, ◌%◌, ◌^◌, Bool, true, false, Option, None, Some, List, Result, Ok, Err, nat_lt, ◌==◌, ◌&&◌, if◌then◌else◌}
-use Rattle.srt_seq.specs.declared.shared.Role.{Role}
+use Rattle.srt_types.specs.declared.shared.Role.{Role}
 use Rattle.srt_hs.specs.declared.handshake.HsKind.{HsKind}
 use Rattle.srt_hs.specs.declared.handshake.HsKind.TheVariants as kinds
 use Rattle.srt_hs.specs.declared.handshake.HsReq.{HsReq}
 use Rattle.srt_hs.specs.declared.handshake.HsFault.{HsFault}
-use Rattle.srt_hs.specs.Grammar.{Handshake}
+use Rattle.srt_hs.specs.Grammar.{Handshake, has_periodic_nak}
 use Rattle.srt_hs.specs.Reading.{handshake_in}
 use Rattle.srt_hs.specs.View.{text_of}
 use Rattle.srt_streamid.specs.declared.reading.Ask.{Ask}
@@ -26,6 +26,7 @@ with_role hs req role =
       window = hs.window;
       caller = hs.id;
       wants_stream = wants_stream req.flags;
+      periodic_nak = has_periodic_nak req.flags;
       receiver_ms = req.receiver_ms;
       sender_ms = req.sender_ms;
       role = role;
@@ -37,9 +38,9 @@ abbrev pub role_in : Result Ask AskFault → Option Role
 role_in (Ok ask) = Some ask.role
 role_in (Err fault) = None
 
-abbrev pub role_asked : Option (List ℕ) → Option Role
-role_asked None = None
-role_asked (Some bytes) = role_in (ask_in bytes)
+abbrev pub role_requested : Option (List ℕ) → Option Role
+role_requested None = None
+role_requested (Some bytes) = role_in (ask_in bytes)
 
 -- a conclusion needs an HSREQ and a Stream ID that can be read
 abbrev pub with_blocks : Handshake → Option HsReq → Option Role → Option Conclusion
@@ -55,7 +56,7 @@ is_conclusion _ = false
 unfoldable pub conclusion_of : Handshake → Option Conclusion
 conclusion_of hs =
     if is_conclusion hs.kind && hs.version == 5 && nat_lt hs.initial (2 ^ 31)
-    then with_blocks hs hs.blocks.hsreq (role_asked hs.blocks.stream_id) else None
+    then with_blocks hs hs.blocks.hsreq (role_requested hs.blocks.stream_id) else None
 
 abbrev pub conclusion_read : Result Handshake HsFault → Option Conclusion
 conclusion_read (Ok hs) = conclusion_of hs

@@ -1,5 +1,5 @@
 -- The ended sessions that a route keeps, and its counts.
-use Rattle.std.specs.Prelude.{◌≡◌, ◌≢◌, ℕ, ◌+◌, ◌-◌, ◌^◌, ◌<◌, ◌≤◌, min, Bool, true, false, Option, None, Some, length, slice_index_or, if◌then◌else◌}
+use Rattle.std.specs.Prelude.{◌≡◌, ℕ, ◌+◌, ◌-◌, ◌^◌, min, Bool, true, false, Option, None, Some, slice_index_or, if◌then◌else◌}
 use Rattle.srt_hs.specs.declared.refusals.RefusalCode.{RefusalCode}
 use Rattle.srt_hs.specs.declared.refusals.RefusalCode.TheVariants as codes
 use Rattle.srt_route.specs.declared.refusals.RefusalCause.{RefusalCause}
@@ -8,17 +8,14 @@ use Rattle.srt_packet.specs.Grammar.{Body, Shutdown}
 use Rattle.srt_pub.specs.declared.ends.PubEnd.{PubEnd}
 use Rattle.srt_pub.specs.declared.ends.PubEnd.TheVariants as ends
 use Rattle.srt_route.specs.declared.seat.Session.{Session as TheSession}
-use Rattle.srt_route.specs.declared.seat.Seat.{Seat}
 use Rattle.srt_route.specs.declared.route.Route.{Route as TheRoute}
-use Rattle.srt_route.specs.declared.table.Table.{Table}
 use Rattle.srt_route.specs.declared.ledger.EndCause.{EndCause}
 use Rattle.srt_route.specs.declared.ledger.EndCause.TheVariants as causes
 use Rattle.srt_route.specs.declared.ledger.EndedSession.{EndedSession}
 use Rattle.srt_route.specs.declared.ledger.Ledger.{Ledger}
 use Rattle.srt_route.specs.declared.ledger.Refusals.{Refusals}
-use Rattle.srt_route.specs.declared.totals.Totals.{Totals}
 use Rattle.srt_route.specs.Tables.{is_stored_over}
-use Rattle.srt_route.specs.Totals.{SumsGrow, both, with_traffic}
+use Rattle.srt_route.specs.Totals.{both}
 
 -- the session that ended last in a slot
 abbrev pub entry_of : Ledger → (at : ℕ) → Option EndedSession
@@ -63,56 +60,9 @@ heard_at_end causes.FileEnded heard moment = heard
 heard_at_end causes.Drained heard moment = heard
 heard_at_end causes.DrainedTooLong heard moment = heard
 
--- `x` reports the end of a stored session, its counts aside
-pub record IsEndOf (cause : EndCause) (moment : ℕ) (t : TheSession) (x : EndedSession) : Type 0 where
-  pub cause_is : x.cause ≡ cause
-  pub moment_is : x.moment ≡ moment
-  pub peer_is : x.view.peer ≡ t.peer
-  pub caller_is : x.view.caller ≡ t.caller
-  pub id_is : x.view.id ≡ t.id
-  pub role_is : x.view.role ≡ t.role
-  pub opened_is : x.view.opened ≡ t.opened
-  pub heard_is : x.view.heard ≡ heard_at_end cause t.heard moment
-
--- the change of a slot's entry: it becomes the end of its session if there is a cause, and stays if there is none
-abbrev pub TellsEnd : EndCause → (moment : ℕ) → TheSession → Option EndedSession → Type 0
-TellsEnd cause moment t None = ⊥
-TellsEnd cause moment t (Some x) = IsEndOf cause moment t x
-
-abbrev pub Tells : Option EndCause → (moment : ℕ) → Option TheSession → (old new : Option EndedSession) → Type 0
-Tells None moment o old new = new ≡ old
-Tells (Some cause) moment None old new = new ≡ old
-Tells (Some cause) moment (Some t) old new = TellsEnd cause moment t new
-
 -- the counts of openings and refusals stay
 abbrev pub CountsStay : (old new : Ledger) → Type 0
 CountsStay old new = (new.opened ≡ old.opened) × (new.refusals ≡ old.refusals)
-
--- the change of the sums: if the end of a slot's session is recorded, the session's counts are added as recorded
-abbrev pub SumsTold : Option EndCause → Option TheSession → Option EndedSession → (old new : Totals) → Type 0
-SumsTold None o x old new = new ≡ old
-SumsTold (Some cause) None x old new = new ≡ old
-SumsTold (Some cause) (Some t) None old new = ⊥
-SumsTold (Some cause) (Some t) (Some x) old new = new ≡ with_traffic x.view.traffic old
-
--- the end of one slot's session is recorded, if there is a cause
-pub record NotesAt (at : ℕ) (cause : Option EndCause) (moment : ℕ) (o : Option TheSession) (old new : Ledger) : Type 0 where
-  pub told : Tells cause moment o (entry_of old at) (entry_of new at)
-  pub others : (k : ℕ) → k ≢ at → entry_of new k ≡ entry_of old k
-  pub counts : CountsStay old new
-  pub sums : SumsTold cause o (entry_of new at) old.totals new.totals
-
--- the same of the session that a table has in this slot
-abbrev pub Notes : (at : ℕ) → Option EndCause → (moment : ℕ) → Table → (old new : Ledger) → Type 0
-Notes at cause moment table old new = (d : Seat) → NotesAt at cause moment (slice_index_or table.seats.items at d).session old new
-
--- the end of each session of a table for which there is a cause is recorded
-pub record NotesEach (cause : Option TheSession → Option EndCause) (moment : ℕ) (table : Table) (old new : Ledger) : Type 0 where
-  pub told : (at : ℕ) (d : Seat) → at < length table.seats.items
-      → Tells (cause (slice_index_or table.seats.items at d).session) moment (slice_index_or table.seats.items at d).session (entry_of old at) (entry_of new at)
-  pub others : (at : ℕ) → length table.seats.items ≤ at → entry_of new at ≡ entry_of old at
-  pub counts : CountsStay old new
-  pub sums : SumsGrow old.totals new.totals
 
 -- one more session, and one more refusal; each count saturates at 2^64 - 1
 abbrev pub more : ℕ → ℕ

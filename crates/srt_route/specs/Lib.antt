@@ -15,6 +15,7 @@ pub mod Tables
 pub mod Admission
 pub mod Stands
 pub mod Closed
+pub mod Deadlines
 pub mod Drafts
 pub mod Acknowledged
 pub mod Bounds

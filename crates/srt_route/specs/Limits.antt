@@ -1,8 +1,8 @@
 -- Guarantees of the limits in a route's rules, whatever its items are.
 use Rattle.std.specs.Prelude.{◌≡◌, ℕ, ◌+◌, ◌≤◌, true, None, Some, Err, List}
-use Rattle.srt_seq.specs.declared.shared.Peer.{Peer}
-use Rattle.srt_seq.specs.Terms.{Terms}
-use Rattle.srt_seq.specs.Items.{Item}
+use Rattle.srt_types.specs.declared.shared.Peer.{Peer}
+use Rattle.srt_types.specs.Terms.{Terms}
+use Rattle.srt_types.specs.Items.{Item}
 use Rattle.srt_route.specs.declared.conclusion.Conclusion.{Conclusion}
 use Rattle.srt_route.specs.declared.refusals.RefusalCause.TheVariants as causes
 use Rattle.srt_route.specs.Opening.{fault_of}

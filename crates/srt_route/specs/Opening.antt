@@ -1,9 +1,9 @@
 -- Entries with which a route can be opened (our choice).
 use Rattle.std.specs.Prelude.{ℕ, Option, None, Some, nat_lt, ◌&&◌, if◌then◌else◌}
-use Rattle.srt_seq.specs.declared.shared.OpenFault.{OpenFault}
-use Rattle.srt_seq.specs.declared.shared.OpenFault.TheVariants.{Names, Limits}
-use Rattle.srt_seq.specs.Terms.{Terms}
-use Rattle.srt_seq.specs.Entries.{is_name, in_limits}
+use Rattle.srt_types.specs.declared.shared.OpenFault.{OpenFault}
+use Rattle.srt_types.specs.declared.shared.OpenFault.TheVariants.{Names, Limits}
+use Rattle.srt_types.specs.Terms.{Terms}
+use Rattle.srt_types.specs.Entries.{is_name, in_limits}
 
 -- the fault because of which a route with this index can't be opened, memory aside; a fault of the name comes first
 abbrev pub fault_of : Terms → (index : ℕ) → Option OpenFault

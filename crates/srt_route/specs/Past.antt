@@ -1,7 +1,7 @@
 -- The past of a session, and its changes in each step of an event. Times count from the session's opening.
 use Rattle.std.specs.Prelude.{ℕ, ◌-◌, Bool, true, false, Option, None, Some, List, [], map, min, ◌||◌, if◌then◌else◌}
-use Rattle.srt_seq.specs.declared.shared.Role.{Role}
-use Rattle.srt_seq.specs.declared.shared.Role.TheVariants.{Publish, Request}
+use Rattle.srt_types.specs.declared.shared.Role.{Role}
+use Rattle.srt_types.specs.declared.shared.Role.TheVariants.{Publish, Request}
 use Rattle.srt_packet.specs.Grammar.{Body, Shutdown}
 use Rattle.srt_recvbuf.specs.Receiving.{Arrival}
 use Rattle.srt_sendbuf.specs.Sending.{is_all_acknowledged, room}
@@ -44,7 +44,7 @@ expired_past terms time (Subscribes s) = Subscribes (subscriber.expired terms.su
 
 -- the time since a publisher's session last received an unencrypted data packet; if it received none, since its opening
 abbrev pub silence_of : (time : ℕ) → Past → ℕ
-silence_of time (Publishes p) = time - publisher.last_came p.notes
+silence_of time (Publishes p) = time - publisher.last_arrival p.notes
 silence_of time (Subscribes s) = 0
 
 -- the past after a packet; sequence numbers count from the session's initial number, timestamps from the conclusion's
@@ -107,16 +107,17 @@ abbrev pub passed_past : Agreed → (time : ℕ) → (room : Option ℕ) → Lis
 passed_past terms time room payloads (Publishes p) = Publishes (publisher.delivered terms.publisher time room p)
 passed_past terms time room payloads (Subscribes s) = Subscribes (subscriber.fed_all terms.subscriber time payloads s)
 
--- the packets that a session sends at the end of an event, and its past after them
-abbrev pub reports_of : Agreed → (time : ℕ) → Past → List Report
-reports_of terms time (Publishes p) = map ToPublisher (publisher.reports terms.publisher time p)
-reports_of terms time (Subscribes s) = map ToSubscriber (subscriber.reports terms.subscriber time s)
+-- the packets that a session sends at the end of an event, and its past after them; `recent` is whether its peer was
+-- heard less than a second ago
+abbrev pub reports_of : Agreed → (time : ℕ) → (recent : Bool) → Past → List Report
+reports_of terms time recent (Publishes p) = map ToPublisher (publisher.reports terms.publisher time p)
+reports_of terms time recent (Subscribes s) = map ToSubscriber (subscriber.reports terms.subscriber time recent s)
 
 -- a publisher's past after the end of an event: a draining publisher sends nothing
 abbrev pub reported_if : (draining : Bool) → publisher.Terms → (time : ℕ) → publisher.Publishing → publisher.Publishing
 reported_if true terms time p = p
 reported_if false terms time p = publisher.reported terms time p
 
-abbrev pub reported_past : (draining : Bool) → Agreed → (time : ℕ) → Past → Past
-reported_past draining terms time (Publishes p) = Publishes (reported_if draining terms.publisher time p)
-reported_past draining terms time (Subscribes s) = Subscribes (subscriber.reported terms.subscriber time s)
+abbrev pub reported_past : (draining : Bool) → Agreed → (time : ℕ) → (recent : Bool) → Past → Past
+reported_past draining terms time recent (Publishes p) = Publishes (reported_if draining terms.publisher time p)
+reported_past draining terms time recent (Subscribes s) = Subscribes (subscriber.reported terms.subscriber time recent s)

@@ -1,7 +1,7 @@
 -- The payloads that are queued for subscribers.
 use Rattle.std.specs.Prelude.{◌≡◌, ◌⊎◌, ℕ, List, [], ◌∷◌, ◌++◌, map, ⊤}
-use Rattle.srt_seq.specs.Terms.{Terms}
-use Rattle.srt_seq.specs.Items.{Item}
+use Rattle.srt_types.specs.Terms.{Terms}
+use Rattle.srt_types.specs.Items.{Item}
 use Rattle.srt_sendbuf.specs.Sending.{Queued}
 use Rattle.srt_route.specs.Past.{Past, Publishes, Subscribes}
 use Rattle.srt_route.specs.Sessions.{Session}

@@ -1,7 +1,7 @@
 -- Items with other sequence numbers, other timestamps, or later times: the replies differ only in the numbers.
 use Rattle.std.specs.Prelude.{◌≡◌, ℕ, List}
-use Rattle.srt_seq.specs.Terms.{Terms}
-use Rattle.srt_seq.specs.Items.{Item}
+use Rattle.srt_types.specs.Terms.{Terms}
+use Rattle.srt_types.specs.Items.{Item}
 use Rattle.srt_route.specs.Route.{solo}
 use Rattle.srt_route.specs.Shifted.{renumbered_items, restamped_items, moved_items, renumbered_datagrams}
 

@@ -3,14 +3,14 @@
 use Rattle.std.specs.Prelude.{ℕ, ◌+◌, ◌-◌, ◌*◌, ◌%◌, ◌^◌, ◌≤◌, Bool, true, false, Option, None, Some, Result, Ok, Err, List, [], ◌∷◌, ◌++◌}
 use Rattle.std.specs.Prelude.{length, map, fold, max, find, not, nat_lt, nat_le, ◌==◌, ◌&&◌, ◌||◌, if◌then◌else◌}
 use Rattle.std.specs.List.{flat_map}
-use Rattle.srt_seq.specs.declared.shared.Peer.{Peer}
-use Rattle.srt_seq.specs.declared.shared.Mode.{Mode}
-use Rattle.srt_seq.specs.declared.shared.Mode.TheVariants.{Live, Buffer}
-use Rattle.srt_seq.specs.declared.shared.Callers.{Callers}
-use Rattle.srt_seq.specs.declared.shared.Callers.TheVariants.{Draft, Libsrt}
-use Rattle.srt_seq.specs.declared.shared.Role.{Role}
-use Rattle.srt_seq.specs.Terms.{Terms}
-use Rattle.srt_seq.specs.Items.{Datagram, Item, Received, Tick, Close, moment_of}
+use Rattle.srt_types.specs.declared.shared.Peer.{Peer}
+use Rattle.srt_types.specs.declared.shared.Mode.{Mode}
+use Rattle.srt_types.specs.declared.shared.Mode.TheVariants.{Live, Buffer}
+use Rattle.srt_types.specs.declared.shared.Callers.{Callers}
+use Rattle.srt_types.specs.declared.shared.Callers.TheVariants.{Draft, Libsrt}
+use Rattle.srt_types.specs.declared.shared.Role.{Role}
+use Rattle.srt_types.specs.Terms.{Terms}
+use Rattle.srt_types.specs.Items.{Datagram, Item, Received, Tick, Close, moment_of}
 use Rattle.srt_packet.specs.declared.reading.PacketFault.{PacketFault}
 use Rattle.srt_packet.specs.declared.writing.Body.TheVariants as out
 use Rattle.srt_packet.specs.Grammar.{Packet, Body, Handshake}
@@ -73,14 +73,14 @@ abbrev pub shutdown_to : (clock : ℕ) → Session → Reply
 shutdown_to clock s = record { peer = s.peer; packet = Ends s.conclusion.caller (time_in s clock) }
 
 -- on a route for libsrt callers, a session that ends by silence or by a lost window sends a SHUTDOWN (our choice)
-abbrev pub told_if : Callers → (ends : Bool) → (clock : ℕ) → Session → List Reply
-told_if Draft ends clock s = []
-told_if Libsrt true clock s = shutdown_to clock s ∷ []
-told_if Libsrt false clock s = []
+abbrev pub notified_if : Callers → (ends : Bool) → (clock : ℕ) → Session → List Reply
+notified_if Draft ends clock s = []
+notified_if Libsrt true clock s = shutdown_to clock s ∷ []
+notified_if Libsrt false clock s = []
 
 -- the SHUTDOWNs of the sessions that end by silence, in ascending order of slots
-abbrev pub idle_told : Terms → (clock : ℕ) → List Session → List Reply
-idle_told e clock sessions = flat_map (λ s. told_if e.rules.callers (is_idle s clock) clock s) (by_slot e sessions)
+abbrev pub idle_notified : Terms → (clock : ℕ) → List Session → List Reply
+idle_notified e clock sessions = flat_map (λ s. notified_if e.rules.callers (is_idle s clock) clock s) (by_slot e sessions)
 
 -- the clock after an item; it never decreases (our choice)
 abbrev pub clock_after : Item → Route → ℕ
@@ -196,12 +196,12 @@ abbrev pub said_by : (time : ℕ) → Session → Report → Reply
 said_by time s report = record { peer = s.peer; packet = Says s.conclusion.caller s.conclusion.initial time report }
 
 -- the SHUTDOWN of a session whose window is lost with a packet
-abbrev pub lost_told : Terms → (clock : ℕ) → Body → Session → List Reply
-lost_told e clock body s = told_if e.rules.callers (loses_window (terms_of e s) s.conclusion.initial body s.past) clock s
+abbrev pub lost_notified : Terms → (clock : ℕ) → Body → Session → List Reply
+lost_notified e clock body s = notified_if e.rules.callers (loses_window (terms_of e s) s.conclusion.initial body s.past) clock s
 
 abbrev pub answered_by : Terms → (clock : ℕ) → Body → Option Session → List Reply
 answered_by e clock body None = []
-answered_by e clock body (Some s) = lost_told e clock body s ++ map (said_by (time_in s clock) s) (answered_at_once body s)
+answered_by e clock body (Some s) = lost_notified e clock body s ++ map (said_by (time_in s clock) s) (answered_at_once body s)
 
 -- the time until which a publisher's session drains after a packet, if it drains. On a route for libsrt callers, the
 -- active publisher's session drains from its SHUTDOWN on if something is left to deliver (our choice): for its delay
@@ -319,11 +319,11 @@ abbrev pub after_delivery : Terms → (clock : ℕ) → List Session → List Se
 after_delivery e clock sessions = settled_by e.rules.callers e clock (gives_some e clock sessions) (delivered e clock sessions)
 
 -- the packets that sessions send at the end of an event, in ascending order of slots
-abbrev pub packets_at : Terms → (here : Bool) → (time : ℕ) → Session → List Reply
-packets_at e here time s = map (said_by time s) (reports_at e here time s)
+abbrev pub packets_at : Terms → (here : Bool) → (clock : ℕ) → Session → List Reply
+packets_at e here clock s = map (said_by (time_in s clock) s) (reports_at e here clock s)
 
 abbrev pub packets_where : Terms → (clock : ℕ) → (Session → Bool) → List Session → List Reply
-packets_where e clock test sessions = flat_map (λ s. packets_at e (test s) (time_in s clock) s) (by_slot e sessions)
+packets_where e clock test sessions = flat_map (λ s. packets_at e (test s) clock s) (by_slot e sessions)
 
 -- whether a route signals the end of a file: on a route for libsrt callers in buffer mode, where a file is complete
 -- once no publisher is open
@@ -344,7 +344,7 @@ has_whole_file over s = over && is_subscriber s && s.file_ended && has_all s.pas
 -- since nothing else is due; the others are sent their packets
 abbrev pub served_at : (whole : Bool) → Terms → (clock : ℕ) → Session → List Reply
 served_at true e clock s = shutdown_to clock s ∷ []
-served_at false e clock s = packets_at e (is_subscriber s) (time_in s clock) s
+served_at false e clock s = packets_at e (is_subscriber s) clock s
 
 abbrev pub served : Terms → (clock : ℕ) → (over : Bool) → List Session → List Reply
 served e clock over sessions = flat_map (λ s. served_at (has_whole_file over s) e clock s) (by_slot e sessions)
@@ -373,7 +373,7 @@ replies_at true e index item route = []
 replies_at false e index item route =
     let clock = clock_after item route in
     let sessions = passed_by e index item route in
-    idle_told e clock route.sessions ++ (taken_by e index item route).answers ++ packets_where e clock speaks sessions
+    idle_notified e clock route.sessions ++ (taken_by e index item route).answers ++ packets_where e clock speaks sessions
     ++ served e clock (is_file_over e sessions) sessions
 
 abbrev pub replies_to : Terms → (index : ℕ) → Item → Route → List Reply
@@ -392,8 +392,8 @@ closes (Tick moment) = false
 closes (Close moment) = true
 
 -- the route after one more item. If it was closed before, only its clock advances
-abbrev pub told_more : Terms → (index : ℕ) → Item → Route → Route
-told_more e index item route =
+abbrev pub with_input : Terms → (index : ℕ) → Item → Route → Route
+with_input e index item route =
     record {
       clock = clock_after item route;
       sessions = sessions_at route.is_closed e index item route;
@@ -403,7 +403,7 @@ told_more e index item route =
 -- the route after these items
 abbrev pub after : Terms → (index : ℕ) → List Item → Route
 after e index [] = opened
-after e index (item ∷ items) = told_more e index item (after e index items)
+after e index (item ∷ items) = with_input e index item (after e index items)
 
 -- the replies to the newest item
 abbrev pub reply : Terms → (index : ℕ) → List Item → List Datagram

@@ -1,7 +1,7 @@
 -- Each reply is the encoding of a packet that can be sent, and decodes to that packet.
 use Rattle.std.specs.Prelude.{◌≡◌, ℕ, List, All, Ok}
-use Rattle.srt_seq.specs.Terms.{Terms}
-use Rattle.srt_seq.specs.Items.{Item}
+use Rattle.srt_types.specs.Terms.{Terms}
+use Rattle.srt_types.specs.Items.{Item}
 use Rattle.srt_packet.specs.declared.writing.Packet.{Packet}
 use Rattle.srt_packet.specs.Text.{text}
 use Rattle.srt_packet.specs.Sent.{CanBeSent, sent}

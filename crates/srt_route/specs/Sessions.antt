@@ -4,19 +4,21 @@ use Rattle.std.specs.Prelude.{find, filter_map, map, not, nat_le, nat_lt, ◌==�
 use Rattle.std.specs.List.{list_any}
 use Rattle.std.specs.Option.{is_some, option_or}
 use Rattle.std.specs.Str.{bytes_eq}
-use Rattle.srt_seq.specs.declared.shared.Peer.{Peer}
-use Rattle.srt_seq.specs.declared.shared.Mode.{Mode}
-use Rattle.srt_seq.specs.declared.shared.Mode.TheVariants.{Live, Buffer}
-use Rattle.srt_seq.specs.declared.shared.Callers.{Callers}
-use Rattle.srt_seq.specs.declared.shared.Callers.TheVariants.{Draft, Libsrt}
-use Rattle.srt_seq.specs.declared.shared.Role.{Role}
-use Rattle.srt_seq.specs.declared.shared.Role.TheVariants.{Publish, Request}
-use Rattle.srt_seq.specs.Lift.{stamped_from}
-use Rattle.srt_seq.specs.Runs.{numbers_from}
-use Rattle.srt_seq.specs.Terms.{Terms}
+use Rattle.srt_types.specs.declared.shared.Peer.{Peer}
+use Rattle.srt_types.specs.declared.shared.Mode.{Mode}
+use Rattle.srt_types.specs.declared.shared.Mode.TheVariants.{Live, Buffer}
+use Rattle.srt_types.specs.declared.shared.Callers.{Callers}
+use Rattle.srt_types.specs.declared.shared.Callers.TheVariants.{Draft, Libsrt}
+use Rattle.srt_types.specs.declared.shared.Role.{Role}
+use Rattle.srt_types.specs.declared.shared.Role.TheVariants.{Publish, Request}
+use Rattle.srt_types.specs.Lift.{stamped_from}
+use Rattle.srt_types.specs.Runs.{numbers_from}
+use Rattle.srt_types.specs.Terms.{Terms}
 use Rattle.srt_packet.specs.Grammar.{Body}
 use Rattle.srt_hs.specs.declared.writing.HsAnswer.{HsAnswer}
 use Rattle.srt_hs.specs.declared.writing.AnswerKind.TheVariants as answers
+use Rattle.srt_sub.specs.declared.resend_all.Resending.{Resending}
+use Rattle.srt_sub.specs.declared.resend_all.Resending.TheVariants.{AtEachTimeout, Once, BackingOff}
 use Rattle.srt_route.specs.declared.conclusion.Conclusion.{Conclusion}
 use Rattle.srt_route.specs.Past.{Past, Agreed, Report, expired_past, took_past, ends_with, answers_to, payloads_of, passed_past, reports_of}
 use Rattle.srt_route.specs.Past.{has_left, reported_past, silence_of}
@@ -78,6 +80,14 @@ agreed e id c =
 abbrev pub answer_of : Terms → (index : ℕ) → Session → HsAnswer
 answer_of e index s = agreed e (session_id index s) s.conclusion
 
+-- when a subscriber's session sends again what is in flight without a NAK. On a route for libsrt callers, in live mode,
+-- once to one that sends periodic NAKs, and ever more rarely to any other
+abbrev pub resending_of : Callers → Mode → (periodic_nak : Bool) → Resending
+resending_of Draft mode periodic_nak = AtEachTimeout
+resending_of Libsrt Live true = Once
+resending_of Libsrt Live false = BackingOff
+resending_of Libsrt Buffer periodic_nak = BackingOff
+
 -- the parameters of the session, in microseconds, packets and bytes. The first delay is for data from a publisher, the
 -- second for data to a subscriber. The route's rules determine which rules a publisher's session follows, and how much
 -- a subscriber's session may retransmit
@@ -92,6 +102,7 @@ agreed_terms e c =
         mtu = agreed_mtu c;
         window = c.window;
         resend_percent = e.rules.resend_percent;
+        resending = resending_of e.rules.callers e.mode c.periodic_nak;
       };
     }
 
@@ -183,9 +194,20 @@ stamp_in s stamp = stamped_from s.stamp stamp
 abbrev pub is_draining : Session → Bool
 is_draining s = is_some s.drains
 
--- whether the peer sent nothing for 5 s (our choice); never of a draining session, whose packets are ignored
+-- whether the peer was heard less than a second ago, a packet of this event included (our choice)
+abbrev pub is_recent_at : (heard clock : ℕ) → Bool
+is_recent_at heard clock = nat_lt (clock - heard) 1_000_000
+
+abbrev pub is_recent : Session → (clock : ℕ) → Bool
+is_recent s clock = is_recent_at s.heard clock
+
+-- whether 5 s have passed since the peer was last heard (our choice)
+abbrev pub has_fallen_silent : (heard clock : ℕ) → Bool
+has_fallen_silent heard clock = nat_le 5_000_000 (clock - heard)
+
+-- whether the peer fell silent; never of a draining session, whose packets are ignored
 abbrev pub is_silent_at : (drains : Option ℕ) → (heard clock : ℕ) → Bool
-is_silent_at None heard clock = nat_le 5_000_000 (clock - heard)
+is_silent_at None heard clock = has_fallen_silent heard clock
 is_silent_at (Some until) heard clock = false
 
 abbrev pub is_idle : Session → (clock : ℕ) → Bool
@@ -193,7 +215,7 @@ is_idle s clock = is_silent_at s.drains s.heard clock
 
 -- whether a session has expired: its peer is idle, or it drained for too long
 abbrev pub is_over_at : (drains : Option ℕ) → (heard clock : ℕ) → Bool
-is_over_at None heard clock = nat_le 5_000_000 (clock - heard)
+is_over_at None heard clock = has_fallen_silent heard clock
 is_over_at (Some until) heard clock = nat_le until clock
 
 abbrev pub is_over : Session → (clock : ℕ) → Bool
@@ -323,11 +345,12 @@ abbrev pub speaks : Session → Bool
 speaks s = is_publisher s && not (is_draining s)
 
 -- the packets that a session sends at the end of an event, and the session after them
-abbrev pub reports_at : Terms → (here : Bool) → (time : ℕ) → Session → List Report
-reports_at e here time s = if here then reports_of (terms_of e s) time s.past else []
+abbrev pub reports_at : Terms → (here : Bool) → (clock : ℕ) → Session → List Report
+reports_at e here clock s = if here then reports_of (terms_of e s) (time_in s clock) (is_recent s clock) s.past else []
 
-abbrev pub reported_at : Terms → (here : Bool) → (time : ℕ) → Session → Session
-reported_at e here time s = if here then record s { past = reported_past (is_draining s) (terms_of e s) time s.past } else s
+abbrev pub reported_at : Terms → (here : Bool) → (clock : ℕ) → Session → Session
+reported_at e here clock s =
+    if here then record s { past = reported_past (is_draining s) (terms_of e s) (time_in s clock) (is_recent s clock) s.past } else s
 
 abbrev pub reported : Terms → (clock : ℕ) → Session → Session
-reported e clock s = reported_at e s.is_open (time_in s clock) s
+reported e clock s = reported_at e s.is_open clock s

@@ -1,9 +1,9 @@
 -- Bytes with other sequence numbers and timestamps decode to the same values with those numbers and timestamps.
 use Rattle.std.specs.Prelude.{◌≡◌, ℕ, ◌+◌, ◌%◌, ◌^◌, ◌<◌, ◌≤◌, List, length, map, Option, option_map, IfSome, Result, Ok, Err, ⊤}
-use Rattle.srt_seq.specs.Words.{word}
-use Rattle.srt_seq.specs.Window.{counted_from}
-use Rattle.srt_seq.specs.Lift.{stamped_from}
-use Rattle.srt_seq.specs.Runs.{Range, Run}
+use Rattle.srt_types.specs.Words.{word}
+use Rattle.srt_types.specs.Window.{counted_from}
+use Rattle.srt_types.specs.Lift.{stamped_from}
+use Rattle.srt_types.specs.Runs.{Range, Run}
 use Rattle.srt_packet.specs.declared.reading.PacketFault.{PacketFault}
 use Rattle.srt_packet.specs.Grammar.{Packet, Body}
 use Rattle.srt_packet.specs.Reading.{packet_in}

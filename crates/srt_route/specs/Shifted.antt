@@ -1,7 +1,7 @@
 -- Items and replies of a route with other sequence numbers, other timestamps or later times, as bytes.
 use Rattle.std.specs.Prelude.{ℕ, ◌+◌, ◌*◌, ◌/◌, ◌%◌, ◌^◌, List, [], ◌∷◌, ◌++◌, length, map, take, drop, is_ok, nat_lt, if◌then◌else◌, Result, Ok, Err}
-use Rattle.srt_seq.specs.Words.{word_at}
-use Rattle.srt_seq.specs.Items.{Datagram, Item, Received, Tick, Close}
+use Rattle.srt_types.specs.Words.{word_at}
+use Rattle.srt_types.specs.Items.{Datagram, Item, Received, Tick, Close}
 use Rattle.srt_packet.specs.declared.reading.PacketFault.{PacketFault}
 use Rattle.srt_packet.specs.Grammar.{Packet, Body, Data, Handshake, KeepAlive, Ack, Nak, CongestionWarning, Shutdown, AckAck, DropRequest}
 use Rattle.srt_packet.specs.Grammar.{PeerError, UserDefined}

@@ -3,21 +3,23 @@ use Rattle.std.specs.Prelude.{◌≡◌, ℕ, ◌%◌, ◌^◌, ◌<◌, Bool, t
 use Rattle.std.specs.Prelude.{slice_index_or, option_map, not, ◌==◌, ◌&&◌, if◌then◌else◌, ⊤}
 use Rattle.std.specs.Option.{is_some, option_to_list}
 use Rattle.std.specs.Str.{bytes_eq}
-use Rattle.srt_seq.specs.declared.shared.Peer.{Peer}
-use Rattle.srt_seq.specs.declared.shared.Mode.{Mode}
-use Rattle.srt_seq.specs.Terms.{Terms}
-use Rattle.srt_seq.specs.Items.{Datagram}
+use Rattle.srt_types.specs.declared.shared.Peer.{Peer}
+use Rattle.srt_types.specs.declared.shared.Mode.{Mode}
+use Rattle.srt_types.specs.Terms.{Terms}
+use Rattle.srt_types.specs.Items.{Datagram}
 use Rattle.srt_route.specs.declared.replies.Reply.{Reply as TheReply}
-use Rattle.srt_seq.specs.Entries.{in_limits}
+use Rattle.srt_types.specs.Entries.{in_limits}
 use Rattle.srt_pub.specs.Stands as publisher
 use Rattle.srt_pub.specs.declared.session.Publisher.{Publisher}
 use Rattle.srt_sub.specs.Stands as subscriber
 use Rattle.srt_route.specs.declared.seat.Session.{Session as TheSession}
 use Rattle.srt_route.specs.declared.seat.Seat.{Seat}
+use Rattle.srt_route.specs.declared.seat.Sort.{Sort}
+use Rattle.srt_route.specs.declared.seat.Sort.TheVariants as sorts
 use Rattle.srt_route.specs.declared.table.Table.{Table}
 use Rattle.srt_route.specs.Written.{written}
 use Rattle.srt_route.specs.Sessions.{Session, is_same_peer, session_id, answer_of, publishes, is_publisher, active, is_open_in, generation_of}
-use Rattle.srt_route.specs.Sessions.{is_over_at, is_silent_at, renewed}
+use Rattle.srt_route.specs.Sessions.{is_over_at, is_recent_at, is_silent_at, renewed}
 use Rattle.srt_route.specs.Route.{Taken, Answers, is_of, sent}
 use Rattle.srt_route.specs.Buffers.{IsSeated}
 use Rattle.srt_route.specs.declared.publisher_buffers.PublisherBuffers.{PublisherBuffers}
@@ -214,6 +216,24 @@ is_stored_over clock t = is_over_at t.drains t.heard clock
 
 abbrev pub peer_idle : (clock : ℕ) → TheSession → Bool
 peer_idle clock t = is_silent_at t.drains t.heard clock
+
+-- whether the peer of a stored session was heard less than a second ago, and whether that of a seat's session was
+abbrev pub is_heard_recently : (clock : ℕ) → TheSession → Bool
+is_heard_recently clock t = is_recent_at t.heard clock
+
+abbrev pub hears_recently : (clock : ℕ) → Seat → Bool
+hears_recently clock seat = session_passes (is_heard_recently clock) seat.session
+
+abbrev pub has_expired : (clock : ℕ) → Seat → Bool
+has_expired clock seat = session_passes (is_stored_over clock) seat.session
+
+-- the test by which seats are counted
+abbrev pub is_of_sort : Sort → Seat → Bool
+is_of_sort sorts.Publisher seat = has_publisher seat
+is_of_sort (sorts.From peer) seat = has_address peer.ip seat
+is_of_sort sorts.Draining seat = has_draining seat
+is_of_sort (sorts.Expired clock) seat = has_expired clock seat
+is_of_sort sorts.Vacant seat = is_vacant seat
 
 -- the stored session after time has advanced
 abbrev pub stored_aged : (clock : ℕ) → Option TheSession → Option TheSession

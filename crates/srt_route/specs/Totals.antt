@@ -1,9 +1,11 @@
 -- Sums of the counts of sessions.
 use Rattle.std.specs.Prelude.{◌≡◌, ℕ, zero, suc, ◌+◌, ◌-◌, ◌^◌, min, Option, None, Some, List, [], ◌∷◌}
-use Rattle.srt_seq.specs.Terms.{Terms}
+use Rattle.srt_types.specs.Terms.{Terms}
 use Rattle.srt_pub.specs.declared.counts.Counts.{Counts as Received}
 use Rattle.srt_sub.specs.declared.counts.Counts.{Counts as Queued}
 use Rattle.srt_sub.specs.declared.counts.Sendings.{Sendings}
+use Rattle.srt_route.specs.declared.ledger.EndCause.{EndCause}
+use Rattle.srt_route.specs.declared.ledger.EndedSession.{EndedSession}
 use Rattle.srt_route.specs.declared.route.Route.{Route as TheRoute}
 use Rattle.srt_route.specs.declared.totals.Totals.{Totals}
 use Rattle.srt_route.specs.declared.view.SessionView.{SessionView}
@@ -19,7 +21,7 @@ both a b = min (2 ^ 64 - 1) (a + b)
 abbrev pub both_received : Received → Received → Received
 both_received a b =
     record {
-      came = both a.came b.came;
+      arrived = both a.arrived b.arrived;
       late = both a.late b.late;
       ahead = both a.ahead b.ahead;
       received = both a.received b.received;
@@ -48,6 +50,37 @@ both_sent a b = record { fresh = both a.fresh b.fresh; again = both a.again b.ag
 abbrev pub with_traffic : Traffic → Totals → Totals
 with_traffic (of.Received x) t = record { received = both_received t.received x.counts; queued = t.queued; sent = t.sent }
 with_traffic (of.Sent x) t = record { received = t.received; queued = both_queued t.queued x.counts; sent = both_sent t.sent x.sendings }
+
+-- the totals of no session
+abbrev pub no_totals : Totals
+no_totals =
+    record {
+      received = record {
+        arrived = 0;
+        late = 0;
+        ahead = 0;
+        received = 0;
+        bytes = 0;
+        delivered = 0;
+        given_up = 0;
+        naks = 0;
+        reported_lost = 0;
+        full_windows = 0;
+      };
+      queued = record { queued = 0; bytes = 0; naks = 0; given_up = 0; misdirected = 0 };
+      sent = record { fresh = 0; again = 0 };
+    }
+
+-- the sums after a session ended, if it did: its counts are added as they are recorded
+abbrev pub with_end : Option EndCause → Option EndedSession → Totals → Totals
+with_end None x t = t
+with_end (Some cause) None t = t
+with_end (Some cause) (Some x) t = with_traffic x.view.traffic t
+
+-- the same of the sessions in the slots below a number, once each
+abbrev pub sums_to : (cause : ℕ → Option EndCause) → (ended : ℕ → Option EndedSession) → (slots : ℕ) → Totals → Totals
+sums_to cause ended zero t = t
+sums_to cause ended (suc slots) t = with_end (cause slots) (ended slots) (sums_to cause ended slots t)
 
 -- the new sums are the old ones with the counts of some sessions added, so sums never decrease
 abbrev pub with_all : List Traffic → Totals → Totals

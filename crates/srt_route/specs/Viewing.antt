@@ -1,8 +1,8 @@
 -- Snapshots of a route's open sessions.
-use Rattle.std.specs.Prelude.{◌≡◌, ℕ, ◌<◌, Option, None, Some, List, find, length, slice_index_or, ◌&&◌, ⊤}
-use Rattle.srt_seq.specs.declared.shared.Role.{Role}
-use Rattle.srt_seq.specs.declared.shared.Role.TheVariants.{Publish, Request}
-use Rattle.srt_seq.specs.Terms.{Terms}
+use Rattle.std.specs.Prelude.{◌≡◌, ℕ, Option, None, Some, List, find, ◌&&◌, ⊤}
+use Rattle.srt_types.specs.declared.shared.Role.{Role}
+use Rattle.srt_types.specs.declared.shared.Role.TheVariants.{Publish, Request}
+use Rattle.srt_types.specs.Terms.{Terms}
 use Rattle.srt_hs.specs.declared.writing.HsAnswer.{HsAnswer}
 use Rattle.srt_hs.specs.declared.writing.AnswerKind.{AnswerKind}
 use Rattle.srt_hs.specs.declared.writing.AnswerKind.TheVariants.{Conclusion as ConclusionAnswer}
@@ -14,8 +14,6 @@ use Rattle.srt_route.specs.Past.{Past, Agreed, Publishes, Subscribes}
 use Rattle.srt_route.specs.Sessions.{Session, is_active, is_draining, is_open_in, publishes, receiver_ms, sender_ms, session_id, terms_of}
 use Rattle.srt_route.specs.Buffers.{IsSeated}
 use Rattle.srt_route.specs.Tables.{IsTable}
-use Rattle.srt_route.specs.declared.seat.Session.{Session as TheSession}
-use Rattle.srt_route.specs.declared.seat.Seat.{Seat}
 use Rattle.srt_route.specs.declared.table.Table.{Table}
 use Rattle.srt_route.specs.declared.view.SessionView.{SessionView}
 use Rattle.srt_route.specs.declared.view.Traffic.{Traffic}
@@ -64,25 +62,6 @@ ShowsSession e index slot sessions shown = Shows e index sessions (find (is_open
 abbrev pub ShowsSlot : (slot : ℕ) → Table → Option SessionView → Type 0
 ShowsSlot slot table shown =
     (e : Terms) (index clock : ℕ) (sessions : List Session) → IsTable e index clock table sessions → ShowsSession e index slot sessions shown
-
--- `v` is a snapshot of a stored session, its counts aside
-pub record IsSeen (t : TheSession) (v : SessionView) : Type 0 where
-  pub peer_is : v.peer ≡ t.peer
-  pub caller_is : v.caller ≡ t.caller
-  pub id_is : v.id ≡ t.id
-  pub role_is : v.role ≡ t.role
-  pub opened_is : v.opened ≡ t.opened
-  pub heard_is : v.heard ≡ t.heard
-
-abbrev pub Sees : Option TheSession → Option SessionView → Type 0
-Sees None None = ⊤
-Sees (Some t) (Some v) = IsSeen t v
-Sees None (Some v) = ⊥
-Sees (Some t) None = ⊥
-
--- the same of the stored session of a slot
-abbrev pub SeesSlot : (slot : ℕ) → Table → Option SessionView → Type 0
-SeesSlot slot table shown = (d : Seat) → slot < length table.seats.items → Sees (slice_index_or table.seats.items slot d).session shown
 
 -- these are the counts of the session that has these buffers and this role
 abbrev pub TellsTraffic : Role → Publisher → Subscriber → Traffic → Type 0

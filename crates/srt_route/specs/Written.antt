@@ -1,5 +1,5 @@
 -- The datagrams as which replies are sent.
-use Rattle.srt_seq.specs.Items.{Datagram}
+use Rattle.srt_types.specs.Items.{Datagram}
 use Rattle.srt_packet.specs.Encoded.{bytes_of}
 use Rattle.srt_route.specs.declared.replies.Reply.{Reply}
 

@@ -6,3 +6,4 @@ pub mod Standby
 pub mod Calls
 pub mod Files
 pub mod Drains
+pub mod Notes

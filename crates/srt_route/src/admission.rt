@@ -2,7 +2,7 @@
 //! opening of a session.
 
 ghost use Rattle.std.specs.Prelude.{◌≡◌, ◌<◌, ◌^◌, ◌∷◌, [], Some, count_by, length, IfOk};
-ghost use Rattle.srt_seq.specs.Given.{given};
+ghost use Rattle.srt_types.specs.Given.{given};
 ghost use Rattle.srt_route.specs.Route.{is_buffer, is_crowded, is_reserved, refused};
 ghost use Rattle.srt_route.specs.Written.{written};
 ghost use Rattle.srt_route.specs.Tables.{has_address, written_of};
@@ -22,8 +22,8 @@ use crate::socket_ids::id_at;
 use crate::standby::{leading_after, unused_buffers};
 use crate::start::start_buffers;
 use crate::table::Table;
-use srt_seq::limits::{MAX_MTU, MIN_MTU};
-use srt_seq::{Mode, Peer, Role};
+use srt_types::limits::{MAX_MTU, MIN_MTU};
+use srt_types::{Mode, Peer, Role};
 
 /// The slot in which a session opens, and the negotiated parameters.
 #[derive(Clone, Copy)]

@@ -2,13 +2,13 @@
 //! with the rules of the route.
 
 ghost use Rattle.std.specs.Prelude.{◌≡◌};
-ghost use Rattle.srt_seq.specs.Terms.{Terms};
+ghost use Rattle.srt_types.specs.Terms.{Terms};
 ghost use Rattle.srt_route.specs.Sessions.{agreed_ms};
 ghost use Rattle.srt_route.specs.Admission.{agreement_of};
 
 use crate::conclusion::Conclusion;
-use srt_seq::limits::MAX_MTU;
-use srt_seq::{Mode, Rules};
+use srt_types::limits::MAX_MTU;
+use srt_types::{Mode, Rules};
 
 /// The negotiated parameters of a session, and the rules of the route.
 #[derive(Clone, Copy)]

@@ -1,7 +1,7 @@
 //! Answers to handshakes, and their encoding.
 
 ghost use Rattle.std.specs.Prelude.{◌≡◌};
-ghost use Rattle.srt_seq.specs.Terms.{Terms};
+ghost use Rattle.srt_types.specs.Terms.{Terms};
 ghost use Rattle.srt_route.specs.Written.{written};
 ghost use Rattle.srt_route.specs.Sessions.{agreed};
 ghost use Rattle.srt_route.specs.Route.{Answers, refusal, sent};
@@ -14,7 +14,7 @@ use crate::replies::Reply;
 use arrayvec::ArrayVec;
 use srt_hs::{AnswerKind, HsAnswer, RefusalCode, write};
 use srt_packet::{Body, Packet};
-use srt_seq::Peer;
+use srt_types::Peer;
 
 /// Returns the answer that refuses a conclusion for this reason, with the caller's initial sequence number.
 pub fn refusal(initial: u32, reason: RefusalCode) -> HsAnswer

@@ -1,6 +1,6 @@
 //! Arrival time and sender of a packet.
 
-use srt_seq::Peer;
+use srt_types::Peer;
 
 /// The arrival of a packet at a route.
 #[derive(Clone, Copy)]

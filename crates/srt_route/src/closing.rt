@@ -9,7 +9,7 @@ ghost use Rattle.srt_route.specs.Sessions.{by_slot};
 ghost use Rattle.srt_route.specs.Tables.{with_stored};
 ghost use Rattle.srt_route.specs.Buffers.{datagrams_to};
 ghost use Rattle.srt_route.specs.inside.Reports.{Queues};
-ghost use Rattle.srt_seq.specs.Given.{given};
+ghost use Rattle.srt_types.specs.Given.{given};
 ghost use Rattle.srt_route.specs.Tables.{written_of};
 ghost use Rattle.srt_route.specs.inside.OneSession.{is_lost, shutdown_of, shutdowns_if, shutdowns_to};
 ghost use Rattle.srt_route.specs.inside.Calls.{TableBecomes, Transmits};
@@ -20,7 +20,7 @@ use crate::seat::{Seat, Session};
 use crate::table::Table;
 use srt_packet::{Body, EncodedPacket, Packet};
 use srt_pub::PubEnd;
-use srt_seq::Callers;
+use srt_types::Callers;
 
 /// Writes a session's SHUTDOWN (section 3.2.7), with the session's time as its timestamp.
 fn write_shutdown(session: &Session, clock: u64, packet: &mut EncodedPacket)

@@ -2,10 +2,10 @@
 
 ghost use Rattle.std.specs.Prelude.{◌≡◌, ◌^◌, ◌<◌, IfSome};
 ghost use Rattle.srt_hs.specs.View.{handshake_of, text_of};
-ghost use Rattle.srt_route.specs.Conclusions.{conclusion_in, conclusion_of, is_conclusion, role_asked};
+ghost use Rattle.srt_route.specs.Conclusions.{conclusion_in, conclusion_of, is_conclusion, role_requested};
 
 use srt_hs::{CongestionText, HsKind, HsRef, congestion, read, stream_id};
-use srt_seq::Role;
+use srt_types::Role;
 
 /// The values that a route reads from a conclusion.
 #[derive(Drop)]
@@ -20,6 +20,8 @@ pub struct Conclusion {
     pub caller: u32,
     /// The flag STREAM: the caller wants buffer mode.
     pub wants_stream: bool,
+    /// The flag PERIODICNAK: the caller reports losses periodically (section 3.2.1.1.1).
+    pub periodic_nak: bool,
     /// The caller's delay as a receiver, in milliseconds (section 3.2.1.1).
     pub receiver_ms: u16,
     /// The caller's delay as a sender, in milliseconds (section 3.2.1.1).
@@ -37,8 +39,8 @@ fn is_conclusion(kind: HsKind) -> bool
 }
 
 /// Returns the role that a handshake's Stream ID requests (appendix B). None without a Stream ID, or if it has a fault.
-fn role_asked(hs: &HsRef<'_>) -> Option<Role>
-    ensures { result ≡ role_asked (handshake_of hs.now).blocks.stream_id }
+fn role_requested(hs: &HsRef<'_>) -> Option<Role>
+    ensures { result ≡ role_requested (handshake_of hs.now).blocks.stream_id }
 {
     let mut text = [0u8; 512];
     let len = stream_id(hs, &mut text)?;
@@ -63,13 +65,14 @@ fn conclusion_of(hs: &HsRef<'_>) -> Option<Conclusion>
         return None;
     }
     let req = hs.blocks.hsreq?;
-    let role = role_asked(hs)?;
+    let role = role_requested(hs)?;
     Some(Conclusion {
         initial: hs.initial,
         mtu: hs.mtu,
         window: hs.window,
         caller: hs.id,
         wants_stream: (req.flags >> 6) & 1 == 1,
+        periodic_nak: req.has_periodic_nak(),
         receiver_ms: req.receiver_ms,
         sender_ms: req.sender_ms,
         role,

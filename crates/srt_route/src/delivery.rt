@@ -2,7 +2,7 @@
 //! subscriber, those of the standby for none (`standby.rt`).
 
 ghost use Rattle.std.specs.Prelude.{◌≡◌, ℕ, ◌<◌, ◌≤◌, ◌^◌, true, false, None, List, is_some, length};
-ghost use Rattle.srt_seq.specs.Terms.{Terms};
+ghost use Rattle.srt_types.specs.Terms.{Terms};
 ghost use Rattle.srt_pub.specs.Calls.{room_after, next_delivery, after_delivery};
 ghost use Rattle.srt_pub.specs.Changes.{BecomesAt, HoldsOfAt};
 ghost use Rattle.srt_route.specs.Sessions.{Session};
@@ -17,8 +17,8 @@ use crate::seat::Seat;
 use crate::standby::{active_buffers, deliver_standby};
 use crate::table::Table;
 use srt_pub::Publisher;
-use srt_seq::Mode;
-use srt_seq::limits::MAX_PAYLOADS;
+use srt_types::Mode;
+use srt_types::limits::MAX_PAYLOADS;
 
 /// Returns the number of payloads that fit into the subscriber's send buffer; None if the seat has no open subscriber.
 fn room_of(seat: &Seat) -> Option<u32>

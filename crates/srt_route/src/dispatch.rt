@@ -2,8 +2,8 @@
 //! Close ends every session.
 
 ghost use Rattle.std.specs.Prelude.{◌≡◌, ◌<◌, ◌^◌, ◌++◌};
-ghost use Rattle.srt_seq.specs.Given.{given};
-ghost use Rattle.srt_seq.specs.Items.{told};
+ghost use Rattle.srt_types.specs.Given.{given};
+ghost use Rattle.srt_types.specs.Items.{input_of};
 ghost use Rattle.srt_packet.specs.View.{body_of, packet_of};
 ghost use Rattle.srt_sub.specs.Endings.{is_ended, is_shutdown};
 ghost use Rattle.srt_sub.specs.Stands.{texts_of};
@@ -12,7 +12,7 @@ ghost use Rattle.srt_route.specs.Tables.{stored_after, written_of};
 ghost use Rattle.srt_route.specs.inside.OneSession.{PublisherTook, PublisherEndsFor, SubscriberTook, SubscriberAnswers};
 ghost use Rattle.srt_packet.specs.Reading.{packet_in};
 ghost use Rattle.srt_route.specs.Ledgers.{CountsStay};
-ghost use Rattle.srt_route.specs.Ends.{Ends, arrived_end, destined_end, read_end, item_end};
+ghost use Rattle.srt_route.specs.Ends.{Ends, arrived_ending, destined_ending, read_ending, item_ending};
 ghost use Rattle.srt_route.specs.Totals.{SumsGrow};
 ghost use Rattle.srt_route.specs.Tallies.{Tallies, item_tally, packet_tally, read_tally};
 ghost use Rattle.srt_route.specs.inside.Calls.{AnswersItem, AnswersPacket, TakenBySession, TakesDatagram, TakesItem, TakesPacket};
@@ -31,8 +31,8 @@ use crate::socket_ids::slot_in;
 use crate::table::Table;
 use srt_packet::{Kind, PacketRef, decode_parts};
 use srt_pub::{PubEnd, Publisher};
-use srt_seq::{Item, Peer};
 use srt_sub::Took;
+use srt_types::{Item, Peer};
 
 /// Processes a packet in a publisher's buffers. Returns the cause if it ends the session.
 fn hear_publisher(publisher: &mut Publisher, clock: u64, packet: &PacketRef<'_>) -> Option<PubEnd>
@@ -96,7 +96,7 @@ fn to_session(
 ) -> bool
     requires { arrival.clock < 2 ^ 62 }
     ensures taken { TakenBySession arrival (packet_of packet.now) table.old table.new (written_of (given result reply.new)) }
-    ensures ends { Ends arrival.clock (λ e index. arrived_end e index arrival.clock arrival.peer (packet_of packet.now)) table.old ledger.old ledger.new }
+    ensures ends { Ends arrival.clock (λ e index. arrived_ending e index arrival.clock arrival.peer (packet_of packet.now)) table.old ledger.old ledger.new }
     ensures counts { CountsStay ledger.old ledger.new }
     ensures sums { SumsGrow ledger.old.totals ledger.new.totals }
 {
@@ -113,7 +113,7 @@ fn to_session(
         let heard = hear_publisher(&mut table.publishers[which.place()], arrival.clock, packet);
         let end = end_unless(drains, heard);
         ledger.note(table, at, cause_of(end), arrival.clock);
-        let told = tell_lost(
+        let notified = tell_lost(
             &table.seats[at],
             table.rules.callers,
             end,
@@ -122,7 +122,7 @@ fn to_session(
         );
         table.seats[at].keep_or_end(arrival.clock, end.is_some(), drains);
         note_end(table, of_libsrt(table.rules.callers, shutdown_end(end)));
-        return told;
+        return notified;
     }
     ledger.note(table, at, shutdown_cause(&packet.kind), arrival.clock);
     hear_subscriber(&mut table.seats[at], arrival, packet, reply)
@@ -141,7 +141,7 @@ fn to_destination(
     requires early { arrival.clock < 2 ^ 62 }
     ensures table { TakesPacket arrival (packet_of packet.now) table.old table.new }
     ensures answer { AnswersPacket arrival (packet_of packet.now) table.old (written_of (given result reply.new)) }
-    ensures ends { Ends arrival.clock (λ e index. destined_end e index arrival.clock arrival.peer (packet_of packet.now)) table.old ledger.old ledger.new }
+    ensures ends { Ends arrival.clock (λ e index. destined_ending e index arrival.clock arrival.peer (packet_of packet.now)) table.old ledger.old ledger.new }
     ensures tally { Tallies arrival.clock (λ e sessions. packet_tally e arrival.peer (packet_of packet.now) sessions) table.old ledger.old ledger.new }
     ensures sums { SumsGrow ledger.old.totals ledger.new.totals }
 {
@@ -170,7 +170,7 @@ fn take_datagram(
 ) -> bool
     requires { clock < 2 ^ 62 }
     ensures taken { TakesDatagram clock peer (head.now ++ body.now) table.old table.new (written_of (given result reply.new)) }
-    ensures ends { Ends clock (λ e index. read_end e index clock peer (packet_in (head.now ++ body.now))) table.old ledger.old ledger.new }
+    ensures ends { Ends clock (λ e index. read_ending e index clock peer (packet_in (head.now ++ body.now))) table.old ledger.old ledger.new }
     ensures tally { Tallies clock (λ e sessions. read_tally e peer (packet_in (head.now ++ body.now)) sessions) table.old ledger.old ledger.new }
     ensures sums { SumsGrow ledger.old.totals ledger.new.totals }
 {
@@ -197,10 +197,10 @@ pub fn dispatch(
     waiting: &mut ReplyQueue,
 )
     requires { clock < 2 ^ 62 }
-    ensures table { TakesItem clock (told item.now) table.old table.new }
-    ensures said { AnswersItem clock (told item.now) table.old waiting.old waiting.new }
-    ensures ends { Ends clock (λ e index. item_end e index clock (told item.now)) table.old ledger.old ledger.new }
-    ensures tally { Tallies clock (λ e sessions. item_tally e (told item.now) sessions) table.old ledger.old ledger.new }
+    ensures table { TakesItem clock (input_of item.now) table.old table.new }
+    ensures said { AnswersItem clock (input_of item.now) table.old waiting.old waiting.new }
+    ensures ends { Ends clock (λ e index. item_ending e index clock (input_of item.now)) table.old ledger.old ledger.new }
+    ensures tally { Tallies clock (λ e sessions. item_tally e (input_of item.now) sessions) table.old ledger.old ledger.new }
     ensures sums { SumsGrow ledger.old.totals ledger.new.totals }
 {
     match item {

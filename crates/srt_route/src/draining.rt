@@ -9,20 +9,21 @@ ghost use Rattle.srt_route.specs.Ledgers.{CountsStay};
 ghost use Rattle.srt_route.specs.Sessions.{renewed};
 ghost use Rattle.srt_route.specs.Tables.{seat_settled};
 ghost use Rattle.srt_route.specs.Totals.{SumsGrow};
-ghost use Rattle.srt_route.specs.inside.Drains.{DeliversAndSettles, Drains, DrainsFrom, EndsDrained, EndsSettled, GivesSome, HasLeft, IsDrained, SettlesTo};
+ghost use Rattle.srt_route.specs.inside.Drains.{DeliversAndEnds, DeliversAndSettles, Drains, DrainsFrom, EndsAtDelivery, EndsDrained, EndsSettled};
+ghost use Rattle.srt_route.specs.inside.Drains.{GivesSome, HasLeft, IsDrained, SettlesTo};
 ghost use Rattle.srt_route.specs.inside.OneSession.{end_unless};
 
 use crate::delivery::{deliver, room_of_all};
 use crate::files::note_end;
 use crate::ledger::{Ledger, drained_cause};
-use crate::seat::{Seat, count_publishers, publishes};
+use crate::seat::{Seat, count_draining, count_publishers, publishes};
 use crate::standby::{active_buffers, is_active_by};
 use crate::table::Table;
 use crate::view::latency_in;
 use srt_packet::Kind;
 use srt_pub::PubEnd;
-use srt_seq::limits::PEER_IDLE_TIMEOUT_US;
-use srt_seq::{Callers, Mode, Role};
+use srt_types::limits::PEER_IDLE_TIMEOUT_US;
+use srt_types::{Callers, Mode, Role};
 
 /// Returns the time until which the publisher's session of this slot drains after a packet, in microseconds; None if it
 /// doesn't drain. It drains after a SHUTDOWN if it is the active one and something is left to deliver, for its delay
@@ -172,9 +173,10 @@ fn settle_each(table: &mut Table, ledger: &mut Ledger, delivered: bool, clock: u
     ensures sums { SumsGrow ledger.old.totals ledger.new.totals }
 {
     let mode = table.mode;
+    let active = active_buffers(table);
     for at in 0..table.seats.len() {
         let ends = is_drained(table, at);
-        ledger.note(table, at, drained_cause(ends), clock);
+        ledger.note_by(table, active, at, drained_cause(ends), clock);
         table.seats[at].settle(ends, mode, delivered, clock);
     }
 }
@@ -189,13 +191,27 @@ pub fn deliver_and_settle(table: &mut Table, ledger: &mut Ledger, clock: u64)
 {
     match table.rules.callers {
         Callers::Draft => deliver(table, clock),
-        Callers::Libsrt => {
-            let delivered = gives_some(table, clock);
-            deliver(table, clock);
-            let before = count_publishers(&table.seats);
-            settle_each(table, ledger, delivered, clock);
-            let end = drain_end(before, count_publishers(&table.seats));
-            note_end(table, end);
-        }
+        Callers::Libsrt => deliver_and_end(table, ledger, clock),
     }
+}
+
+/// The same on a route for libsrt callers. Only a session that drains can end here: while none does, this is the delivery
+/// alone.
+fn deliver_and_end(table: &mut Table, ledger: &mut Ledger, clock: u64)
+    requires { clock < 2 ^ 62 }
+    ensures table { DeliversAndEnds clock table.old table.new }
+    ensures ends { EndsAtDelivery clock table.old ledger.old ledger.new }
+    ensures counts { CountsStay ledger.old ledger.new }
+    ensures sums { SumsGrow ledger.old.totals ledger.new.totals }
+{
+    if count_draining(&table.seats) == 0 {
+        deliver(table, clock);
+        return;
+    }
+    let delivered = gives_some(table, clock);
+    deliver(table, clock);
+    let before = count_publishers(&table.seats);
+    settle_each(table, ledger, delivered, clock);
+    let end = drain_end(before, count_publishers(&table.seats));
+    note_end(table, end);
 }

@@ -11,7 +11,7 @@ ghost use Rattle.srt_route.specs.inside.Files.{HasWhole, IsOver, shutdown_end};
 use crate::seat::{Seat, count_publishers, publishes};
 use crate::table::Table;
 use srt_pub::PubEnd;
-use srt_seq::{Callers, Mode};
+use srt_types::{Callers, Mode};
 
 /// Returns `end` on a route for libsrt callers, and None where the callers follow the draft.
 pub fn of_libsrt(callers: Callers, end: Option<bool>) -> Option<bool>

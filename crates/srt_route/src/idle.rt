@@ -3,22 +3,31 @@
 
 ghost use Rattle.std.specs.Prelude.{◌≡◌, ◌<◌, ◌^◌, true, false};
 ghost use Rattle.srt_route.specs.Buffers.{ExpiresTo};
-ghost use Rattle.srt_route.specs.Tables.{session_passes, peer_idle, is_kept_subscriber, is_stored_over, stored_aged, with_stored};
+ghost use Rattle.srt_route.specs.Sessions.{has_fallen_silent};
+ghost use Rattle.srt_route.specs.Tables.{has_expired, session_passes, peer_idle, is_kept_subscriber, is_stored_over, stored_aged, with_stored};
 ghost use Rattle.srt_route.specs.Ledgers.{idle_cause, time_cause};
-ghost use Rattle.srt_route.specs.inside.Calls.{AdvancesTo, AgesTo, TellsIdle};
+ghost use Rattle.srt_route.specs.inside.Calls.{AdvancesTo, AgesAndLeads, AgesTo, TellsIdle};
+ghost use Rattle.srt_route.specs.inside.Notes.{NotesEach};
 ghost use Rattle.srt_route.specs.inside.OneSession.{shutdowns_if};
 ghost use Rattle.srt_route.specs.inside.Reports.{Queues};
 
 use crate::closing::tell_end;
 use crate::files::{note_end, of_libsrt, silent_end};
-use crate::ledger::EndCause;
+use crate::ledger::{EndCause, Ledger};
 use crate::replies::Reply;
 use crate::reply_queue::ReplyQueue;
-use crate::seat::{Seat, Session, count_publishers, publishes};
+use crate::seat::{Seat, Session, count_expired, count_publishers, publishes};
 use crate::standby::take_over;
 use crate::table::Table;
-use srt_seq::Callers;
-use srt_seq::limits::PEER_IDLE_TIMEOUT_US;
+use srt_types::Callers;
+use srt_types::limits::PEER_IDLE_TIMEOUT_US;
+
+/// Whether five seconds have passed since a peer was last heard, in microseconds.
+fn has_fallen_silent(heard: u64, clock: u64) -> bool
+    ensures { result ≡ has_fallen_silent heard clock }
+{
+    clock.saturating_sub(heard) >= PEER_IDLE_TIMEOUT_US
+}
 
 /// Whether the session has expired: its peer sent nothing for five seconds, or it drains and its time has expired.
 fn is_over(session: &Session, clock: u64) -> bool
@@ -26,7 +35,7 @@ fn is_over(session: &Session, clock: u64) -> bool
 {
     match session.drains {
         Some(until) => clock >= until,
-        None => clock.saturating_sub(session.heard) >= PEER_IDLE_TIMEOUT_US,
+        None => has_fallen_silent(session.heard, clock),
     }
 }
 
@@ -48,7 +57,7 @@ impl Seat {
         match &self.session {
             Some(session) => match session.drains {
                 Some(_) => false,
-                None => clock.saturating_sub(session.heard) >= PEER_IDLE_TIMEOUT_US,
+                None => has_fallen_silent(session.heard, clock),
             },
             None => false,
         }
@@ -74,13 +83,14 @@ impl Seat {
     fn end_if_over(&mut self, clock: u64)
         ensures { self.new ≡ with_stored (stored_aged clock self.old.session) self.old }
     {
-        if self.is_over(clock) {
+        if self.has_expired(clock) {
             self.session = None;
         }
     }
 
-    fn is_over(&self, clock: u64) -> bool
-        ensures { result ≡ session_passes (is_stored_over clock) self.now.session }
+    /// Whether the session has expired.
+    pub fn has_expired(&self, clock: u64) -> bool
+        ensures { result ≡ has_expired clock self.now }
     {
         match &self.session {
             Some(session) => is_over(session, clock),
@@ -139,17 +149,39 @@ fn end_idle(table: &mut Table, clock: u64, hand: &mut Box<Reply>, waiting: &mut 
     }
 }
 
+/// Ends expired sessions, lets the other subscribers drop what is too late, and after all ends lets the standby take
+/// over, if it is due.
+fn age(table: &mut Table, clock: u64, hand: &mut Box<Reply>, waiting: &mut ReplyQueue)
+    requires early { clock < 2 ^ 62 }
+    ensures table { AgesAndLeads clock table.old table.new }
+    ensures said { TellsIdle clock table.old waiting.old waiting.new }
+{
+    end_idle(table, clock, hand, waiting);
+    take_over(table, clock);
+}
+
 /// Advances the time to this clock, in microseconds: ends expired sessions, lets the other subscribers drop what is too
-/// late, and after all ends lets the standby take over, if it is due. On a route for libsrt callers, the remaining
-/// sessions record that a publisher's session ended.
-pub fn advance(table: &mut Table, clock: u64, hand: &mut Box<Reply>, waiting: &mut ReplyQueue)
+/// late, and after all ends lets the standby take over, if it is due. The ends are recorded, on a route for libsrt
+/// callers also in the remaining sessions, if a publisher's session ended.
+pub fn advance(
+    table: &mut Table,
+    ledger: &mut Ledger,
+    clock: u64,
+    hand: &mut Box<Reply>,
+    waiting: &mut ReplyQueue,
+)
     requires early { clock < 2 ^ 62 }
     ensures table { AdvancesTo clock table.old table.new }
     ensures said { TellsIdle clock table.old waiting.old waiting.new }
+    ensures ended { NotesEach (idle_cause clock) clock table.old ledger.old ledger.new }
 {
+    if count_expired(&table.seats, clock) == 0 {
+        age(table, clock, hand, waiting);
+        return;
+    }
+    ledger.note_idle(table, clock);
     let before = count_publishers(&table.seats);
-    end_idle(table, clock, hand, waiting);
+    age(table, clock, hand, waiting);
     let end = silent_end(before, count_publishers(&table.seats));
-    take_over(table, clock);
     note_end(table, of_libsrt(table.rules.callers, end));
 }

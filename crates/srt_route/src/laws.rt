@@ -4,11 +4,12 @@ ghost use Rattle.srt_route.specs.Acknowledged.{DeliversAll, DeliversInOrder, End
 ghost use Rattle.srt_route.specs.Activity.{ActiveGoesOn, OneIsActive, OneDelivers, OpensBehind, StandbyLeads, StaysActive};
 ghost use Rattle.srt_route.specs.Bounds.{TwoPublish, NoMoreThanSlots, OneInASlot, NoneElsewhere, OneOfACaller};
 ghost use Rattle.srt_route.specs.Closed.{ClosesOnce, ClosedHasNoSession, ClosedIsQuiet};
-ghost use Rattle.srt_route.specs.Drafts.{NoneDrains};
+ghost use Rattle.srt_route.specs.Deadlines.{DeadlinesAreNear};
+ghost use Rattle.srt_route.specs.Drafts.{ClocksAreTrusted, NoneDrains, ResendAtEachTimeout};
 ghost use Rattle.srt_route.specs.Limits.{FewOfAnAddress, KeepsSlots, NoneIsKeptFromPublishers, PublishersHaveSlots};
 ghost use Rattle.srt_route.specs.Queues.{QueuesGoOn};
 ghost use Rattle.srt_route.specs.Relabel.{Renumbers, Restamps, Moves};
-ghost use Rattle.srt_route.specs.Resends.{ResendsFew};
+ghost use Rattle.srt_route.specs.Resends.{ResendsAllOnce, ResendsFew, SilentAreSentNothing};
 ghost use Rattle.srt_route.specs.Route.{RepliesHavePlaces};
 ghost use Rattle.srt_route.specs.Sendable.{PublishersSendPackets, SubscribersSendPackets, AnswersArePackets, RepliesArePackets};
 ghost use Rattle.srt_route.specs.ShiftLaws.{ShiftGoesRound, FourBytesAreTheWord, PacketsShift, LengthsStay, LossesShift, HandshakesShift};
@@ -22,6 +23,23 @@ use crate::route::Route;
 /// number is at most 6400, plus the limit times its new packets, plus 100 for each 20 ms since its session opened.
 pub fn resends(route: &Route)
     ensures { ResendsFew route.now }
+{}
+
+/// On a live route for libsrt callers, a subscriber that sends periodic NAKs is sent everything in flight again without
+/// a NAK at most once until an ACK acknowledges more.
+pub fn resends_of_all(route: &Route)
+    ensures { ResendsAllOnce route.now }
+{}
+
+/// On a route for libsrt callers, nothing is sent again without a NAK to a subscriber that was heard last a second ago.
+pub fn silent_subscribers()
+    ensures { SilentAreSentNothing }
+{}
+
+/// In live mode a packet is due within 2^31 microseconds of one delay after its arrival, whatever its caller's packets
+/// say, ACKACKs included.
+pub fn deadlines()
+    ensures { DeadlinesAreNear }
 {}
 
 /// An item has at most as many replies as the queue of waiting replies holds.
@@ -53,6 +71,13 @@ pub fn open_sessions()
 /// ends its session at once.
 pub fn draft()
     ensures { NoneDrains }
+{}
+
+/// Where a route's callers follow the draft, no publisher's clock is corrected, and subscribers are sent everything in
+/// flight again after each timeout.
+pub fn draft_sessions()
+    ensures clocks { ClocksAreTrusted }
+    ensures resends { ResendAtEachTimeout }
 {}
 
 /// In buffer mode, whatever a route's items are, no acknowledgement point sent to a publisher in a Full or Light ACK is

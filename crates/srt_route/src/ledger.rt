@@ -5,11 +5,14 @@
 ghost use Rattle.std.specs.Prelude.{◌≡◌, ◌<◌, ℕ, None, Some, length, slice_set};
 ghost use Rattle.srt_packet.specs.View.{body_of};
 ghost use Rattle.srt_route.specs.Tallies.{no_tally, tally_of};
-ghost use Rattle.srt_route.specs.Totals.{with_traffic};
-ghost use Rattle.srt_route.specs.Ledgers.{Notes, NotesEach, cause_of, closed_cause, drained_cause, entry_of, file_cause, idle_cause, heard_at_end, refused_by};
+ghost use Rattle.srt_route.specs.Totals.{no_totals, with_traffic};
+ghost use Rattle.srt_route.specs.Ledgers.{cause_of, closed_cause, drained_cause, entry_of, file_cause, idle_cause, heard_at_end, refused_by};
 ghost use Rattle.srt_route.specs.Ledgers.{refused_for, with_opening, with_refusal, shutdown_cause};
+ghost use Rattle.srt_route.specs.inside.Notes.{Notes, NotesBy, NotesEach};
 
+use crate::publisher_buffers::PublisherBuffers;
 use crate::refusals::RefusalCause;
+use crate::standby::active_buffers;
 use crate::table::Table;
 use crate::totals::Totals;
 use crate::view::SessionView;
@@ -139,6 +142,7 @@ impl Ledger {
     pub fn new() -> Ledger
         ensures ended { (at : ℕ) → entry_of result at ≡ None }
         ensures tally { tally_of result ≡ no_tally }
+        ensures totals { result.totals ≡ no_totals }
     {
         Ledger {
             ended: [None; SLOTS],
@@ -228,13 +232,21 @@ impl Ledger {
         self.ended[at] = Some(session);
     }
 
-    /// Keeps the session of this slot as one that ends now for this cause, and adds its counts to the sums.
+    /// Keeps the session of this slot as one that ends now for this cause, and adds its counts to the sums. The active
+    /// publisher has the buffers `active`.
     #[inline(never)]
-    fn keep(&mut self, table: &Table, at: usize, cause: EndCause, moment: u64)
+    fn keep(
+        &mut self,
+        table: &Table,
+        active: Option<PublisherBuffers>,
+        at: usize,
+        cause: EndCause,
+        moment: u64,
+    )
         requires { at < length table.now.seats.items }
-        ensures { Notes at (Some cause) moment table.now self.old self.new }
+        ensures { NotesBy active at (Some cause) moment table.now self.old self.new }
     {
-        let Some(view) = table.look(at) else {
+        let Some(view) = table.look_by(active, at) else {
             return;
         };
         let mut view = view;
@@ -256,7 +268,26 @@ impl Ledger {
         ensures { Notes at cause moment table.now self.old self.new }
     {
         if let Some(cause) = cause {
-            self.keep(table, at, cause, moment);
+            self.keep(table, active_buffers(table), at, cause, moment);
+        }
+    }
+
+    /// Records that the session of this slot ends now, if there is a cause, where the active publisher has the buffers
+    /// `active`.
+    #[inline(always)]
+    pub fn note_by(
+        &mut self,
+        table: &Table,
+        active: Option<PublisherBuffers>,
+        at: usize,
+        cause: Option<EndCause>,
+        moment: u64,
+    )
+        requires { at < length table.now.seats.items }
+        ensures { NotesBy active at cause moment table.now self.old self.new }
+    {
+        if let Some(cause) = cause {
+            self.keep(table, active, at, cause, moment);
         }
     }
 

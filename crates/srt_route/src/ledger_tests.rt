@@ -4,7 +4,7 @@ use crate::tests::{FIRST, PUBLISHES, PUBLISHES_A_STREAM, REQUESTS, SECOND, peer,
 use crate::{EndCause, EndedSession, Reply, Route, SessionView, Traffic};
 use srt_hs::RefusalCode;
 use srt_samples::{Block, Caller, Sample, conclusion, data_packet, shutdown};
-use srt_seq::{Item, Peer, Role};
+use srt_types::{Item, Peer, Role};
 use std::process::Abort;
 use std::test::Fail;
 
@@ -23,7 +23,7 @@ fn media<'a>(number: u32) -> Sample<'a> {
 }
 
 /// Fetches all waiting replies, up to a hundred.
-fn drain(rt: &(impl AllocGlobal + Abort), route: &mut Route) -> Result<(), Fail> {
+pub(crate) fn drain(rt: &(impl AllocGlobal + Abort), route: &mut Route) -> Result<(), Fail> {
     let mut place = Box::new(rt.alloc(), Reply::blank())?;
     for _ in 0..100 {
         let _ = route.next_reply(&mut place);
@@ -108,7 +108,7 @@ fn assert_ended(
 }
 
 #[test]
-fn a_shutdown_of_a_publisher_is_told(rt: HostRuntime) -> Result<(), Fail> {
+fn a_shutdown_of_a_publisher_is_reported(rt: HostRuntime) -> Result<(), Fail> {
     let mut route = studio(rt.alloc())?;
     open(&rt, &mut route, 5000, &PUBLISHES)?;
     assert!(rt; route.ended(0).is_none());
@@ -133,7 +133,7 @@ fn a_shutdown_of_a_publisher_is_told(rt: HostRuntime) -> Result<(), Fail> {
 }
 
 #[test]
-fn a_shutdown_of_a_subscriber_is_told(rt: HostRuntime) -> Result<(), Fail> {
+fn a_shutdown_of_a_subscriber_is_reported(rt: HostRuntime) -> Result<(), Fail> {
     let mut route = studio(rt.alloc())?;
     open(&rt, &mut route, 5000, &PUBLISHES)?;
     open(&rt, &mut route, 5001, &REQUESTS)?;
@@ -153,7 +153,7 @@ fn a_shutdown_of_a_subscriber_is_told(rt: HostRuntime) -> Result<(), Fail> {
 }
 
 #[test]
-fn silence_is_told(rt: HostRuntime) -> Result<(), Fail> {
+fn silence_is_notified(rt: HostRuntime) -> Result<(), Fail> {
     let mut route = studio(rt.alloc())?;
     open(&rt, &mut route, 5000, &REQUESTS)?;
     give(&rt, &mut route, &Item::Tick { moment: 5_999_999 })?;
@@ -166,7 +166,7 @@ fn silence_is_told(rt: HostRuntime) -> Result<(), Fail> {
 }
 
 #[test]
-fn a_lost_window_is_told(rt: HostRuntime) -> Result<(), Fail> {
+fn a_lost_window_is_reported(rt: HostRuntime) -> Result<(), Fail> {
     let mut route = studio(rt.alloc())?;
     open(&rt, &mut route, 5000, &PUBLISHES)?;
     tell(&rt, &mut route, 1_400_000, peer(5000), media(1029))?;
@@ -176,7 +176,7 @@ fn a_lost_window_is_told(rt: HostRuntime) -> Result<(), Fail> {
     match view.traffic {
         Traffic::Received(x) => {
             assert_eq!(rt;
-                (x.counts.came, x.counts.received, x.counts.ahead),
+                (x.counts.arrived, x.counts.received, x.counts.ahead),
                 (1, 0, 1)
             )
         }
@@ -208,12 +208,15 @@ fn data_packets_that_come_to_a_subscriber_are_counted(rt: HostRuntime) -> Result
         Traffic::Sent(x) => assert_eq!(rt; (x.counts.misdirected, x.counts.queued), (2, 0)),
     }
     let totals = route.totals();
-    assert_eq!(rt; (totals.queued.misdirected, totals.received.came), (2, 0));
+    assert_eq!(rt;
+        (totals.queued.misdirected, totals.received.arrived),
+        (2, 0)
+    );
     Ok(())
 }
 
 #[test]
-fn a_close_is_told_of_each_session(rt: HostRuntime) -> Result<(), Fail> {
+fn a_close_is_reported_of_each_session(rt: HostRuntime) -> Result<(), Fail> {
     let mut route = studio(rt.alloc())?;
     open(&rt, &mut route, 5000, &PUBLISHES)?;
     open(&rt, &mut route, 5001, &PUBLISHES)?;
@@ -271,7 +274,7 @@ fn a_slot_tells_the_last_session_that_ended_in_it(rt: HostRuntime) -> Result<(),
 }
 
 #[test]
-fn the_end_of_a_publisher_that_a_standby_follows_is_told(rt: HostRuntime) -> Result<(), Fail> {
+fn the_end_of_a_publisher_that_a_standby_follows_is_reported(rt: HostRuntime) -> Result<(), Fail> {
     let mut route = studio(rt.alloc())?;
     open(&rt, &mut route, 5000, &PUBLISHES)?;
     open(&rt, &mut route, 5001, &PUBLISHES)?;
@@ -370,13 +373,13 @@ fn a_conclusion_that_comes_again_opens_nothing(rt: HostRuntime) -> Result<(), Fa
 /// Asserts the received and delivered packets, the queued ones and those that were sent, of all sessions.
 fn assert_totals(rt: &(impl AllocGlobal + Abort), route: &Route, counts: [u64; 4]) {
     let totals = route.totals();
-    let told = [
+    let notified = [
         totals.received.received,
         totals.received.delivered,
         totals.queued.queued,
         totals.sent.fresh,
     ];
-    assert!(rt; told == counts);
+    assert!(rt; notified == counts);
     assert_eq!(rt; totals.received.bytes, counts[0].saturating_mul(2));
     assert_eq!(rt; totals.queued.bytes, counts[2].saturating_mul(2));
 }

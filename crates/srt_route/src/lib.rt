@@ -67,7 +67,11 @@ pub use totals::Totals;
 pub use view::{SessionView, Traffic};
 
 #[cfg(test)]
+mod clock_tests;
+#[cfg(test)]
 mod ledger_tests;
+#[cfg(test)]
+mod resend_tests;
 #[cfg(test)]
 mod rules_tests;
 #[cfg(test)]

@@ -2,10 +2,10 @@
 
 ghost use Rattle.std.specs.Prelude.{◌≡◌};
 ghost use Rattle.std.specs.Result.{result_err};
-ghost use Rattle.srt_seq.specs.Terms.{terms_of};
+ghost use Rattle.srt_types.specs.Terms.{terms_of};
 ghost use Rattle.srt_route.specs.Opening.{fault_of};
 
-use srt_seq::{Entry, OpenFault, is_name};
+use srt_types::{Entry, OpenFault, is_name};
 
 /// Checks whether a route with this index can be opened with the entry, memory aside. The error is the first fault that
 /// applies: `Names` for the name, then `Limits` for the index and the numbers.

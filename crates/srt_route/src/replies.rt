@@ -5,7 +5,7 @@ ghost use Rattle.std.specs.Vec.{vec_capacity};
 ghost use Rattle.srt_packet.specs.Encoded.{bytes_of};
 
 use srt_packet::EncodedPacket;
-use srt_seq::Peer;
+use srt_types::Peer;
 use std::alloc::{AllocError, Global};
 
 /// A packet that a route sends, with its receiver.

@@ -5,7 +5,7 @@ ghost use Rattle.std.specs.Vec.{vec_capacity};
 ghost use Rattle.std.specs.VecDeque.{deque_capacity};
 
 use crate::replies::{Reply, blank_boxes};
-use srt_seq::Peer;
+use srt_types::Peer;
 use std::alloc::{AllocError, Global};
 use std::collections::VecDeque;
 use std::mem;
@@ -46,7 +46,7 @@ impl ScratchBoxes {
 }
 
 impl ReplyQueue {
-    ghost use Rattle.srt_seq.specs.Given.{given};
+    ghost use Rattle.srt_types.specs.Given.{given};
     ghost use Rattle.srt_packet.specs.Encoded.{bytes_of};
     ghost use Rattle.srt_pub.specs.Calls.{texts, listed};
     ghost use Rattle.srt_route.specs.Buffers.{datagrams_to};

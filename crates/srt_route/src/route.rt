@@ -1,7 +1,7 @@
 //! A route's state, and the six steps of an event, which docs/PROTOCOL.md describes in its section "A route".
 
 ghost use Rattle.std.specs.Prelude.{◌≡◌, ◌<◌, ◌^◌, max};
-ghost use Rattle.srt_seq.specs.Items.{told, moment_of};
+ghost use Rattle.srt_types.specs.Items.{input_of, moment_of};
 ghost use Rattle.srt_route.specs.Route.{closes};
 
 use crate::dispatch::dispatch;
@@ -14,7 +14,7 @@ use crate::reply_queue::{ReplyQueue, ScratchBoxes};
 use crate::seat::count_publishers;
 use crate::table::Table;
 use crate::transmit::{transmit_publishers, transmit_subscribers};
-use srt_seq::{Entry, Item, OpenFault};
+use srt_types::{Entry, Item, OpenFault};
 use std::alloc::Global;
 
 /// A route: its sessions and their buffers, and the replies that wait. It allocates nothing after `open`. The fields
@@ -45,7 +45,7 @@ fn later(clock: u64, moment: u64) -> u64
 
 /// Returns an item's time, in microseconds.
 fn moment(item: &Item) -> u64
-    ensures { result ≡ moment_of (told item.now) }
+    ensures { result ≡ moment_of (input_of item.now) }
 {
     match item {
         Item::Tick { moment } => *moment,
@@ -61,23 +61,23 @@ fn moment(item: &Item) -> u64
 
 /// Whether an item closes the route.
 fn closes(item: &Item) -> bool
-    ensures { result ≡ closes (told item.now) }
+    ensures { result ≡ closes (input_of item.now) }
 {
     matches!(item, Item::Close { moment: _ })
 }
 
 impl Route {
     ghost use Rattle.std.specs.Prelude.{◌↔◌, ℕ, ◌+◌, ◌*◌, ◌∷◌, [], List, length, None, Some, Err, IfOk, IfErr, true, false};
-    ghost use Rattle.srt_seq.specs.declared.shared.OpenFault.{OpenFault as TheFault};
-    ghost use Rattle.srt_seq.specs.Terms.{Terms, terms_of};
-    ghost use Rattle.srt_seq.specs.Items.{Item as TheItem};
+    ghost use Rattle.srt_types.specs.declared.shared.OpenFault.{OpenFault as TheFault};
+    ghost use Rattle.srt_types.specs.Terms.{Terms, terms_of};
+    ghost use Rattle.srt_types.specs.Items.{Item as TheItem};
     ghost use Rattle.srt_route.specs.Opening.{fault_of};
     ghost use Rattle.srt_route.specs.Written.{written};
     ghost use Rattle.srt_route.specs.Sessions.{open_publishers};
     ghost use Rattle.srt_route.specs.Route.{after, reply};
     ghost use Rattle.srt_route.specs.Ledgers.{ended_in};
-    ghost use Rattle.srt_route.specs.Ends.{KeepsEnds};
-    ghost use Rattle.srt_route.specs.Totals.{SumsGrow, totals_of_ended};
+    ghost use Rattle.srt_route.specs.Ends.{KeepsEnds, kept_in};
+    ghost use Rattle.srt_route.specs.Totals.{SumsGrow, no_totals, totals_of_ended};
     ghost use Rattle.srt_route.specs.Tallies.{no_tally, tally_after, tally_in};
     ghost use Rattle.srt_route.specs.Stands.{stands, waiting, places};
 
@@ -90,6 +90,7 @@ impl Route {
         ensures none_waits { IfOk result (λ route. waiting route ≡ []) }
         ensures none_ended { IfOk result (λ route. (slot : ℕ) → ended_in slot route ≡ None) }
         ensures tally { IfOk result (λ route. tally_in route ≡ no_tally) }
+        ensures totals { IfOk result (λ route. totals_of_ended route ≡ no_totals) }
         ensures room { IfOk result (λ route. places route ≡ 4 + 66 * entry.now.sessions) }
         ensures sound { IfOk result (λ _. fault_of (terms_of entry.now) index ≡ None) }
         ensures fault { (fault : TheFault) → fault_of (terms_of entry.now) index ≡ Some fault → result ≡ Err fault }
@@ -119,15 +120,15 @@ impl Route {
     /// before. Fetch them all with `next_reply` before the next call. Allocates nothing.
     pub fn step(&mut self, item: &Item) -> usize
         requires none_waits { waiting self.old ≡ [] }
-        requires timely { moment_of (told item.now) < 2 ^ 62 }
+        requires timely { moment_of (input_of item.now) < 2 ^ 62 }
         ensures count { result ≡ length (waiting self.new) }
-        ensures stands { (e : Terms) (index : ℕ) (items : List TheItem) → stands self.old e index items → stands self.new e index (told item.now ∷ items) }
+        ensures stands { (e : Terms) (index : ℕ) (items : List TheItem) → stands self.old e index items → stands self.new e index (input_of item.now ∷ items) }
         ensures replies { (e : Terms) (index : ℕ) (items : List TheItem) →
-            stands self.old e index items → waiting self.new ≡ reply e index (told item.now ∷ items) }
+            stands self.old e index items → waiting self.new ≡ reply e index (input_of item.now ∷ items) }
         ensures ends { (e : Terms) (index : ℕ) (items : List TheItem) → stands self.old e index items →
-            KeepsEnds e index (told item.now) (after e index items) (λ slot. ended_in slot self.old) (λ slot. ended_in slot self.new) }
+            KeepsEnds e index (input_of item.now) (after e index items) (kept_in self.old) (kept_in self.new) }
         ensures tally { (e : Terms) (index : ℕ) (items : List TheItem) →
-            stands self.old e index items → tally_in self.new ≡ tally_after e (told item.now) (after e index items) (tally_in self.old) }
+            stands self.old e index items → tally_in self.new ≡ tally_after e (input_of item.now) (after e index items) (tally_in self.old) }
         ensures sums { SumsGrow (totals_of_ended self.old) (totals_of_ended self.new) }
     {
         // 1: the clock is monotonic. After a Close nothing else happens.
@@ -137,9 +138,9 @@ impl Route {
         }
         self.closed = closes(item);
         // 2: idle sessions end, what is too late is dropped, and the standby takes over if it is due.
-        self.ledger.note_idle(&self.table, self.clock);
         advance(
             &mut self.table,
+            &mut self.ledger,
             self.clock,
             &mut self.scratch.reply,
             &mut self.waiting,

@@ -8,13 +8,13 @@ use srt_hs::RefusalCode;
 use srt_samples::{
     Block, Loss, Sample, ack, conclusion, data_packet, first_difference, keep_alive, nak, shutdown,
 };
-use srt_seq::{Callers, Item, Mode, Peer, Rules};
+use srt_types::{Callers, Item, Mode, Peer, Rules};
 use std::alloc::Global;
 use std::process::Abort;
 use std::test::Fail;
 
 /// A route with this mode, this number of slots and these rules.
-fn ruled(alloc: Global, mode: Mode, sessions: u32, rules: Rules) -> Result<Route, Fail> {
+pub(crate) fn ruled(alloc: Global, mode: Mode, sessions: u32, rules: Rules) -> Result<Route, Fail> {
     let name = match mode {
         Mode::Live => "studio",
         Mode::Buffer => "files",
@@ -39,13 +39,13 @@ fn neighbour(port: u16) -> Peer {
 /// with all its sessions, no free slot, and reserved slots.
 fn assert_admitted(rt: &(impl AllocGlobal + Abort), route: &Route, opened: u64, refused: [u64; 4]) {
     assert_eq!(rt; route.opened(), opened);
-    let told = [
+    let notified = [
         route.refused_for(RefusalCause::Peer),
         route.refused_for(RefusalCause::Address),
         route.refused_for(RefusalCause::Resource),
         route.refused_for(RefusalCause::Reserved),
     ];
-    assert!(rt; told == refused);
+    assert!(rt; notified == refused);
     let with_code = refused[1]
         .saturating_add(refused[2])
         .saturating_add(refused[3]);
@@ -106,7 +106,7 @@ fn slots_are_kept_for_publishers(rt: HostRuntime) -> Result<(), Fail> {
 }
 
 /// A data packet of the session with this ID, with this number and this timestamp.
-fn media<'a>(id: u32, number: u32, stamp: u32) -> Sample<'a> {
+pub(crate) fn media<'a>(id: u32, number: u32, stamp: u32) -> Sample<'a> {
     data_packet(number).stamp(stamp).to(id).payload(b"hi")
 }
 
@@ -305,7 +305,7 @@ fn a_subscriber_is_sent_few_packets_again(rt: HostRuntime) -> Result<(), Fail> {
     Ok(())
 }
 
-const OF_LIBSRT: Rules = Rules {
+pub(crate) const OF_LIBSRT: Rules = Rules {
     callers: Callers::Libsrt,
     ..Rules::DRAFT
 };
@@ -335,7 +335,7 @@ fn send(
 }
 
 /// Asserts the waiting replies: a SHUTDOWN with this timestamp to caller 1 at each of these ports, and nothing else.
-fn assert_told(
+fn assert_reported(
     rt: &(impl AllocGlobal + Abort),
     route: &mut Route,
     stamp: u32,
@@ -355,7 +355,7 @@ fn assert_told(
 }
 
 /// Two sessions of a route with these rules are silent for five seconds.
-fn assert_silence_told(
+fn assert_silence_notified(
     rt: &(impl AllocGlobal + Abort),
     rules: Rules,
     ports: &[u16],
@@ -368,17 +368,17 @@ fn assert_silence_told(
         return Err(Fail::from("no reply that waits"));
     }
     let _ = route.step(&Item::Tick { moment: 6_000_000 });
-    assert_told(rt, &mut route, 5_000_000, ports)
+    assert_reported(rt, &mut route, 5_000_000, ports)
 }
 
 #[test]
-fn ends_by_silence_are_told_to_libsrt_alone(rt: HostRuntime) -> Result<(), Fail> {
-    assert_silence_told(&rt, OF_LIBSRT, &[5000, 5001])?;
-    assert_silence_told(&rt, Rules::DRAFT, &[])
+fn ends_by_silence_are_reported_to_libsrt_alone(rt: HostRuntime) -> Result<(), Fail> {
+    assert_silence_notified(&rt, OF_LIBSRT, &[5000, 5001])?;
+    assert_silence_notified(&rt, Rules::DRAFT, &[])
 }
 
 /// A publisher of a route with these rules sends a packet far beyond its window.
-fn assert_lost_window_told(
+fn assert_lost_window_notified(
     rt: &(impl AllocGlobal + Abort),
     rules: Rules,
     ports: &[u16],
@@ -387,13 +387,13 @@ fn assert_lost_window_told(
     open(rt, &mut route, 5000, &PUBLISHES)?;
     let beyond = media(SLOT_0, 1029, 1_000);
     send(rt, &mut route, 1_400_000, peer(5000), beyond)?;
-    assert_told(rt, &mut route, 400_000, ports)
+    assert_reported(rt, &mut route, 400_000, ports)
 }
 
 #[test]
 fn a_lost_window_is_answered_to_libsrt_alone(rt: HostRuntime) -> Result<(), Fail> {
-    assert_lost_window_told(&rt, OF_LIBSRT, &[5000])?;
-    assert_lost_window_told(&rt, Rules::DRAFT, &[])
+    assert_lost_window_notified(&rt, OF_LIBSRT, &[5000])?;
+    assert_lost_window_notified(&rt, Rules::DRAFT, &[])
 }
 
 #[test]
@@ -402,7 +402,7 @@ fn an_own_shutdown_is_not_answered(rt: HostRuntime) -> Result<(), Fail> {
     open(&rt, &mut route, 5000, &PUBLISHES)?;
     let end = shutdown().to(SLOT_0);
     send(&rt, &mut route, 1_400_000, peer(5000), end)?;
-    assert_told(&rt, &mut route, 400_000, &[])
+    assert_reported(&rt, &mut route, 400_000, &[])
 }
 
 /// A publisher of files in slot 0 and a subscriber in slot 1 that was sent one packet at 1.001 s.
@@ -426,7 +426,7 @@ fn acknowledged<'a>() -> Sample<'a> {
 }
 
 #[test]
-fn the_end_of_a_file_is_told(rt: HostRuntime) -> Result<(), Fail> {
+fn the_end_of_a_file_is_reported(rt: HostRuntime) -> Result<(), Fail> {
     let mut route = fed_file(&rt, OF_LIBSRT)?;
     tell(
         &rt,
@@ -443,9 +443,9 @@ fn the_end_of_a_file_is_told(rt: HostRuntime) -> Result<(), Fail> {
         peer(5001),
         keep_alive().to(SLOT_1),
     )?;
-    assert_told(&rt, &mut route, 0, &[])?;
+    assert_reported(&rt, &mut route, 0, &[])?;
     send(&rt, &mut route, 1_120_000, peer(5001), acknowledged())?;
-    assert_told(&rt, &mut route, 120_000, &[5001])?;
+    assert_reported(&rt, &mut route, 120_000, &[5001])?;
     assert!(rt; route.session(1).is_none());
     let end = route.ended(1).ok_or("an end in slot 1")?;
     assert_eq!(rt; (end.cause, end.moment), (EndCause::FileEnded, 1_120_000));
@@ -463,7 +463,7 @@ fn a_silent_publisher_ends_no_file(rt: HostRuntime) -> Result<(), Fail> {
 }
 
 #[test]
-fn by_the_draft_no_end_of_a_file_is_told(rt: HostRuntime) -> Result<(), Fail> {
+fn by_the_draft_no_end_of_a_file_is_reported(rt: HostRuntime) -> Result<(), Fail> {
     let mut route = fed_file(&rt, Rules::DRAFT)?;
     tell(
         &rt,
@@ -473,7 +473,7 @@ fn by_the_draft_no_end_of_a_file_is_told(rt: HostRuntime) -> Result<(), Fail> {
         shutdown().to(SLOT_0),
     )?;
     send(&rt, &mut route, 1_120_000, peer(5001), acknowledged())?;
-    assert_told(&rt, &mut route, 0, &[])?;
+    assert_reported(&rt, &mut route, 0, &[])?;
     assert!(rt; route.session(1).is_some());
     Ok(())
 }
@@ -522,7 +522,7 @@ fn a_publisher_drains_for_five_seconds_at_most(rt: HostRuntime) -> Result<(), Fa
         return Err(Fail::from("no reply that waits"));
     }
     let _ = route.step(&Item::Tick { moment: 6_002_000 });
-    assert_told(&rt, &mut route, 0, &[])?;
+    assert_reported(&rt, &mut route, 0, &[])?;
     let end = route.ended(0).ok_or("an end in slot 0")?;
     assert_eq!(rt;
         (end.cause, end.moment),
@@ -541,7 +541,7 @@ fn by_the_draft_a_publisher_leaves_at_once(rt: HostRuntime) -> Result<(), Fail> 
 /// In buffer mode ACKs to libsrt callers have rates: at least 1000 packets and 1456000 bytes a second, and a link of
 /// 100000 packets. The route has one packet of 32 by then.
 #[test]
-fn callers_of_libsrt_are_told_rates(rt: HostRuntime) -> Result<(), Fail> {
+fn callers_of_libsrt_are_sent_rates(rt: HostRuntime) -> Result<(), Fail> {
     let mut route = ruled(rt.alloc(), Mode::Buffer, 5, OF_LIBSRT)?;
     open(&rt, &mut route, 5000, &PUBLISHES_FILES)?;
     tell(

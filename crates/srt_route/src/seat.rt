@@ -2,17 +2,19 @@
 
 ghost use Rattle.std.specs.Prelude.{◌≡◌, ℕ, ◌+◌, ◌*◌, ◌%◌, ◌^◌, ◌<◌, ◌≤◌, true, false, None, Some, position, length, option_map, count_by, if◌then◌else◌};
 ghost use Rattle.std.specs.List.{list_any};
-ghost use Rattle.srt_seq.specs.Given.{given};
+ghost use Rattle.srt_types.specs.Given.{given};
 ghost use Rattle.srt_route.specs.Sessions.{is_same_peer, publishes};
 ghost use Rattle.srt_route.specs.Tables.{is_session_of, session_passes, holds, has_address, has_publisher, has_subscriber, used_buffers, publishes_from};
-ghost use Rattle.srt_route.specs.Tables.{has_draining, has_speaker, is_vacant, heard_at, again_of, is_stored_for, stored_after, with_stored, written_of};
+ghost use Rattle.srt_types.specs.Capped.{one_if};
+ghost use Rattle.srt_route.specs.Tables.{has_draining, has_expired, has_speaker, is_of_sort, is_vacant, heard_at, again_of, is_stored_for};
+ghost use Rattle.srt_route.specs.Tables.{stored_after, with_stored, written_of};
 
 use crate::answer::answer_to;
 use crate::publisher_buffers::PublisherBuffers;
 use crate::replies::Reply;
 use srt_hs::HsAnswer;
-use srt_seq::{Peer, Role};
 use srt_sub::Subscriber;
+use srt_types::{Peer, Role};
 
 /// An open session.
 #[derive(Drop)]
@@ -53,6 +55,21 @@ pub struct Seat {
     pub subscriber: Subscriber,
 }
 
+/// The seats that are counted.
+#[derive(Clone, Copy)]
+pub enum Sort {
+    /// Those where a publisher's session is open.
+    Publisher,
+    /// Those where a session of this address is open, whatever the port.
+    From(Peer),
+    /// Those where a session drains.
+    Draining,
+    /// Those where a session has expired at this time, in microseconds.
+    Expired(u64),
+    /// Those where no session is open.
+    Vacant,
+}
+
 /// Whether a role is a publisher's.
 pub fn publishes(role: Role) -> bool
     ensures { result ≡ publishes role }
@@ -91,22 +108,6 @@ impl Seat {
         }
     }
 
-    /// Returns the number of publishers' sessions that are open here: 1 or 0.
-    fn publishers(&self) -> usize
-        ensures value { result ≡ (if has_publisher self.now then 1 else 0) }
-        ensures small { result ≤ 1 }
-    {
-        if self.has_publisher() { 1 } else { 0 }
-    }
-
-    /// Returns the number of sessions of this address that are open here, whatever the port: 1 or 0.
-    fn sessions_from(&self, peer: Peer) -> usize
-        ensures value { result ≡ (if has_address peer.ip self.now then 1 else 0) }
-        ensures small { result ≤ 1 }
-    {
-        if self.has_address(peer) { 1 } else { 0 }
-    }
-
     /// Whether a session of this address is open here, whatever the port.
     fn has_address(&self, peer: Peer) -> bool
         ensures { result ≡ has_address peer.ip self.now }
@@ -115,14 +116,6 @@ impl Seat {
             Some(session) => session.peer.ip == peer.ip,
             None => false,
         }
-    }
-
-    /// Returns 1 if no session is open here, otherwise 0.
-    fn vacancies(&self) -> usize
-        ensures value { result ≡ (if is_vacant self.now then 1 else 0) }
-        ensures small { result ≤ 1 }
-    {
-        if self.is_vacant() { 1 } else { 0 }
     }
 
     /// Whether a subscriber's session is open here.
@@ -233,14 +226,26 @@ impl Seat {
         }
     }
 
-    /// Returns the number of sessions that drain here: 1 or 0.
-    fn draining(&self) -> usize
-        ensures value { result ≡ (if has_draining self.now then 1 else 0) }
-        ensures small { result ≤ 1 }
+    /// Whether a session drains here.
+    fn drains(&self) -> bool
+        ensures { result ≡ has_draining self.now }
     {
         match &self.session {
-            Some(session) => { if session.drains.is_some() { 1 } else { 0 } }
-            None => 0,
+            Some(session) => session.drains.is_some(),
+            None => false,
+        }
+    }
+
+    /// Whether this seat is of a sort.
+    fn is_of(&self, sort: Sort) -> bool
+        ensures { result ≡ is_of_sort sort self.now }
+    {
+        match sort {
+            Sort::Publisher => self.has_publisher(),
+            Sort::From(peer) => self.has_address(peer),
+            Sort::Draining => self.drains(),
+            Sort::Expired(clock) => self.has_expired(clock),
+            Sort::Vacant => self.is_vacant(),
         }
     }
 }
@@ -252,48 +257,58 @@ pub fn slot_of(seats: &[Seat], peer: Peer, caller: u32) -> Option<usize>
     seats.iter().position(|seat| seat.holds(peer, caller))
 }
 
+/// Returns 1 if `yes`, else 0.
+fn one_if(yes: bool) -> usize
+    ensures { result ≡ one_if yes }
+{
+    if yes { 1 } else { 0 }
+}
+
+/// Returns the number of seats of a sort.
+#[inline(always)]
+fn count(seats: &[Seat], sort: Sort) -> usize
+    ensures { result ≡ count_by (is_of_sort sort) seats.now }
+{
+    let mut count = 0;
+    for at in 0..seats.len() {
+        count += one_if(seats[at].is_of(sort));
+    }
+    count
+}
+
 /// Returns the number of open publishers.
 pub fn count_publishers(seats: &[Seat]) -> usize
     ensures { result ≡ count_by has_publisher seats.now }
 {
-    let mut count = 0;
-    for at in 0..seats.len() {
-        count += seats[at].publishers();
-    }
-    count
+    count(seats, Sort::Publisher)
 }
 
 /// Returns the number of open sessions of this address, whatever their ports.
 pub fn count_from(seats: &[Seat], peer: Peer) -> usize
     ensures { result ≡ count_by (has_address peer.ip) seats.now }
 {
-    let mut count = 0;
-    for at in 0..seats.len() {
-        count += seats[at].sessions_from(peer);
-    }
-    count
+    count(seats, Sort::From(peer))
 }
 
 /// Returns the number of open sessions that drain.
 pub fn count_draining(seats: &[Seat]) -> usize
     ensures { result ≡ count_by has_draining seats.now }
 {
-    let mut count = 0;
-    for at in 0..seats.len() {
-        count += seats[at].draining();
-    }
-    count
+    count(seats, Sort::Draining)
+}
+
+/// Returns the number of open sessions that have expired at this clock.
+pub fn count_expired(seats: &[Seat], clock: u64) -> usize
+    ensures { result ≡ count_by (has_expired clock) seats.now }
+{
+    count(seats, Sort::Expired(clock))
 }
 
 /// Returns the number of free slots.
 pub fn count_vacant(seats: &[Seat]) -> usize
     ensures { result ≡ count_by is_vacant seats.now }
 {
-    let mut count = 0;
-    for at in 0..seats.len() {
-        count += seats[at].vacancies();
-    }
-    count
+    count(seats, Sort::Vacant)
 }
 
 /// Whether a publisher's session with these buffers is open in any seat.

@@ -7,14 +7,14 @@ ghost use Rattle.srt_route.specs.Sessions.{marked_if, takeover_us, takes_over};
 ghost use Rattle.srt_route.specs.inside.Calls.{TableBecomes};
 ghost use Rattle.srt_route.specs.declared.publisher_buffers.PublisherBuffers.{PublisherBuffers as TheBuffers};
 ghost use Rattle.srt_route.specs.inside.OneSession.{PublisherStoodBy};
-ghost use Rattle.srt_route.specs.inside.Standby.{unused_buffers, leading_after, is_active_by, HasFailed, HasNone, IsActiveOf, IsDue, StandsBy};
+ghost use Rattle.srt_route.specs.inside.Standby.{active_in, unused_buffers, leading_after, is_active_by, HasFailed, HasNone, IsActiveOf, IsDue, StandsBy};
 
 use crate::publisher_buffers::PublisherBuffers;
 use crate::seat::{Seat, Session, count_draining, have_publisher, publishes};
 use crate::table::Table;
 use srt_pub::Publisher;
-use srt_seq::limits::MAX_PAYLOADS;
-use srt_seq::{Mode, Role};
+use srt_types::limits::MAX_PAYLOADS;
+use srt_types::{Mode, Role};
 
 /// Returns the buffers for a publisher that opens while at most one is open: those that the open one doesn't use,
 /// otherwise the first.
@@ -103,6 +103,7 @@ pub fn take_over(table: &mut Table, clock: u64)
 /// Returns the buffers of the active publisher; None if no publisher is open. Of two open publishers the leading one is
 /// active, otherwise the only one.
 pub fn active_buffers(table: &Table) -> Option<PublisherBuffers>
+    ensures value { result ≡ active_in table.now }
     ensures none { result ≡ None → HasNone table.now }
     ensures some { (which : TheBuffers) → result ≡ Some which → IsActiveOf table.now which }
 {

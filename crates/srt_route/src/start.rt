@@ -1,7 +1,8 @@
 //! Starting the buffers of a session.
 
-ghost use Rattle.std.specs.Prelude.{◌<◌, ◌^◌};
-ghost use Rattle.srt_seq.specs.Window.{word_of};
+ghost use Rattle.std.specs.Prelude.{◌≡◌, ◌<◌, ◌^◌};
+ghost use Rattle.srt_types.specs.Window.{word_of};
+ghost use Rattle.srt_route.specs.Sessions.{resending_of};
 ghost use Rattle.srt_route.specs.inside.OneSession.{BeginsUnder, PublisherBegins, SubscriberBegins};
 
 use crate::agreement::Agreement;
@@ -9,8 +10,8 @@ use crate::arrival::Arrival;
 use crate::conclusion::Conclusion;
 use crate::seat::Seat;
 use srt_pub::Publisher;
-use srt_seq::{Role, Seq31, Stamp32};
-use srt_sub::Subscriber;
+use srt_sub::{Resending, Subscriber};
+use srt_types::{Callers, Mode, Role, Seq31, Stamp32};
 
 /// Starts a publisher's session, with the agreed delay and the route's rules.
 fn start_publisher(
@@ -34,6 +35,26 @@ fn start_publisher(
     });
 }
 
+/// Returns when a subscriber's session sends again what is in flight without a NAK. On a route for libsrt callers: in
+/// live mode once to a caller that sends periodic NAKs; ever more rarely to any other, and in buffer mode.
+fn resending(callers: Callers, mode: Mode, periodic_nak: bool) -> Resending
+    ensures { result ≡ resending_of callers mode periodic_nak }
+{
+    match callers {
+        Callers::Draft => Resending::AtEachTimeout,
+        Callers::Libsrt => match mode {
+            Mode::Live => {
+                if periodic_nak {
+                    Resending::Once
+                } else {
+                    Resending::BackingOff
+                }
+            }
+            Mode::Buffer => Resending::BackingOff,
+        },
+    }
+}
+
 /// Starts a subscriber's session, with the agreed parameters and the route's rules.
 fn start_subscriber(
     subscriber: &mut Subscriber,
@@ -54,6 +75,7 @@ fn start_subscriber(
         mtu: agreement.mtu,
         window: c.window,
         resend_percent: agreement.rules.resend_percent,
+        resending: resending(agreement.rules.callers, agreement.mode, c.periodic_nak),
     });
 }
 

@@ -5,8 +5,8 @@ ghost use Rattle.std.specs.Prelude.{◌≡◌, ◌<◌, ◌≤◌, [], None, len
 use crate::publisher_buffers::PublisherBuffers;
 use crate::seat::Seat;
 use srt_pub::Publisher;
-use srt_seq::{Entry, Mode, OpenFault, Rules};
 use srt_sub::Subscriber;
+use srt_types::{Entry, Mode, OpenFault, Rules};
 use std::alloc::{AllocError, Global};
 
 /// A route's seats with their sessions, the publishers' buffers, and the entry's values that answers to conclusions
@@ -35,7 +35,7 @@ pub struct Table {
 }
 
 impl Table {
-    ghost use Rattle.srt_seq.specs.Terms.{terms_of};
+    ghost use Rattle.srt_types.specs.Terms.{terms_of};
     ghost use Rattle.srt_route.specs.Opening.{fault_of};
     ghost use Rattle.srt_route.specs.Tables.{IsTable, AreWide};
 

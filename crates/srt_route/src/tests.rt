@@ -6,7 +6,7 @@ use srt_samples::{
     Block, Caller, Handshake, Offer, Phase, Sample, conclusion, data_packet, first_difference,
     handshake_packet, keep_alive, shutdown,
 };
-use srt_seq::{Access, Entry, Item, Mode, OpenFault, Peer, Role, Rules};
+use srt_types::{Access, Entry, Item, Mode, OpenFault, Peer, Role, Rules};
 use std::alloc::Global;
 use std::process::Abort;
 use std::test::Fail;

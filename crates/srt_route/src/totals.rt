@@ -1,7 +1,7 @@
 //! Sums of the counts of sessions.
 
 ghost use Rattle.std.specs.Prelude.{◌≡◌};
-ghost use Rattle.srt_route.specs.Totals.{both_received, both_queued, both_sent, with_traffic};
+ghost use Rattle.srt_route.specs.Totals.{both_received, both_queued, both_sent, no_totals, with_traffic};
 
 use crate::view::Traffic;
 
@@ -22,7 +22,7 @@ fn both_received(a: srt_pub::Counts, b: srt_pub::Counts) -> srt_pub::Counts
     ensures { result ≡ both_received a b }
 {
     srt_pub::Counts {
-        came: a.came.saturating_add(b.came),
+        arrived: a.arrived.saturating_add(b.arrived),
         late: a.late.saturating_add(b.late),
         ahead: a.ahead.saturating_add(b.ahead),
         received: a.received.saturating_add(b.received),
@@ -60,10 +60,12 @@ fn both_sent(a: srt_sub::Sendings, b: srt_sub::Sendings) -> srt_sub::Sendings
 
 impl Totals {
     /// Returns the totals of no session.
-    pub(crate) fn none() -> Totals {
+    pub(crate) fn none() -> Totals
+        ensures { result ≡ no_totals }
+    {
         Totals {
             received: srt_pub::Counts {
-                came: 0,
+                arrived: 0,
                 late: 0,
                 ahead: 0,
                 received: 0,

@@ -4,7 +4,7 @@
 ghost use Rattle.std.specs.Prelude.{◌≡◌, ◌<◌, ◌^◌, [], true, false, map, length};
 ghost use Rattle.srt_route.specs.Sessions.{speaks};
 ghost use Rattle.srt_route.specs.Route.{packets_where};
-ghost use Rattle.srt_route.specs.Tables.{has_subscriber};
+ghost use Rattle.srt_route.specs.Tables.{has_subscriber, hears_recently};
 ghost use Rattle.srt_route.specs.inside.Delivery.{changed, after_publisher, after_publisher_in, packets_in};
 ghost use Rattle.srt_route.specs.inside.Reports.{Queues};
 ghost use Rattle.srt_route.specs.inside.OneSession.{PublisherReported, PublisherSaid, SeatSaid, SubscriberReported, SubscriberSaid};
@@ -21,11 +21,27 @@ use crate::reply_queue::{ReplyQueue, ScratchBoxes};
 use crate::seat::Seat;
 use crate::table::Table;
 use srt_pub::Publisher;
-use srt_seq::Peer;
 use srt_sub::Subscriber;
+use srt_types::Peer;
 
 /// One more than the most packets that a subscriber is sent at the end of an event.
 const MAX_CALLS: u32 = 66;
+
+/// On a route for libsrt callers, the time since a subscriber's last packet from which on it is sent nothing again
+/// without a NAK, in microseconds (our choice).
+const RECENT_US: u64 = 1_000_000;
+
+impl Seat {
+    /// Whether the session's peer was heard less than a second ago; false if none is open here.
+    fn hears_recently(&self, clock: u64) -> bool
+        ensures { result ≡ hears_recently clock self.now }
+    {
+        match &self.session {
+            Some(session) => clock.saturating_sub(session.heard) < RECENT_US,
+            None => false,
+        }
+    }
+}
 
 /// Queues a publisher's ACK, NAK and KEEPALIVE, in this order, each if it is due (sections 3.2.3 to 3.2.5).
 fn transmit_reports(
@@ -95,20 +111,22 @@ pub fn transmit_publishers(
     }
 }
 
-/// Queues a subscriber's drop request, data packets and KEEPALIVE: at most 65.
+/// Queues a subscriber's drop request, data packets and KEEPALIVE: at most 65. `recent` is whether its peer was heard
+/// less than a second ago.
 fn transmit_subscriber(
     subscriber: &mut Subscriber,
     peer: Peer,
     clock: u64,
+    recent: bool,
     hand: &mut Box<Reply>,
     waiting: &mut ReplyQueue,
 )
     requires { clock < 2 ^ 62 }
-    ensures stands { SubscriberReported clock subscriber.old subscriber.new }
-    ensures said { SubscriberSaid clock peer subscriber.old waiting.old waiting.new }
+    ensures stands { SubscriberReported clock recent subscriber.old subscriber.new }
+    ensures said { SubscriberSaid clock recent peer subscriber.old waiting.old waiting.new }
 {
     for turn in 0..MAX_CALLS {
-        if !subscriber.emit(clock, &mut hand.packet) {
+        if !subscriber.emit(clock, recent, &mut hand.packet) {
             return;
         }
         waiting.put_to(peer, hand);
@@ -122,14 +140,22 @@ fn transmit_seat(seat: &mut Seat, clock: u64, hand: &mut Box<Reply>, waiting: &m
     ensures session { seat.new.session ≡ seat.old.session }
     ensures none { has_subscriber seat.old ≡ false → seat.new.subscriber ≡ seat.old.subscriber }
     ensures silent { has_subscriber seat.old ≡ false → Queues waiting.old waiting.new [] }
-    ensures stands { has_subscriber seat.old ≡ true → SubscriberReported clock seat.old.subscriber seat.new.subscriber }
+    ensures stands { has_subscriber seat.old ≡ true → SubscriberReported clock (hears_recently clock seat.old) seat.old.subscriber seat.new.subscriber }
     ensures said { SeatSaid clock seat.old waiting.old waiting.new }
 {
     if !seat.has_subscriber() {
         return;
     }
+    let recent = seat.hears_recently(clock);
     if let Some(session) = &seat.session {
-        transmit_subscriber(&mut seat.subscriber, session.peer, clock, hand, waiting);
+        transmit_subscriber(
+            &mut seat.subscriber,
+            session.peer,
+            clock,
+            recent,
+            hand,
+            waiting,
+        );
     }
 }
 

@@ -1,15 +1,17 @@
 //! Snapshots of a route: its open sessions and their counts. A snapshot changes nothing.
 
-ghost use Rattle.std.specs.Prelude.{◌≡◌, ℕ, List};
-ghost use Rattle.srt_seq.specs.Terms.{Terms};
-ghost use Rattle.srt_seq.specs.Items.{Item as TheItem};
+ghost use Rattle.std.specs.Prelude.{◌≡◌, ◌<◌, ℕ, List, length};
+ghost use Rattle.srt_types.specs.Terms.{Terms};
+ghost use Rattle.srt_types.specs.Items.{Item as TheItem};
 ghost use Rattle.srt_route.specs.Route.{after};
 ghost use Rattle.srt_route.specs.Stands.{stands};
 ghost use Rattle.srt_route.specs.Ledgers.{ended_in, opened_in, refused_in, refused_of};
 ghost use Rattle.srt_route.specs.Totals.{AddUp, totals_of_ended, with_shown};
-ghost use Rattle.srt_route.specs.Viewing.{delay_of, latency_in, SeesSlot, ShowsSlot, ShowsSession, TellsTraffic};
+ghost use Rattle.srt_route.specs.Viewing.{delay_of, latency_in, ShowsSlot, ShowsSession, TellsTraffic};
+ghost use Rattle.srt_route.specs.inside.Notes.{SeesSlot};
 
 use crate::ledger::EndedSession;
+use crate::publisher_buffers::PublisherBuffers;
 use crate::refusals::RefusalCause;
 use crate::route::Route;
 use crate::standby::{active_buffers, is_active_by};
@@ -17,8 +19,8 @@ use crate::table::Table;
 use crate::totals::Totals;
 use srt_hs::{AnswerKind, HsAnswer, RefusalCode};
 use srt_pub::Publisher;
-use srt_seq::{Peer, Role};
 use srt_sub::Subscriber;
+use srt_types::{Peer, Role};
 
 /// The state of a session's buffers and its counts, by its role.
 #[derive(Clone, Copy, Debug, PartialEq, Eq)]
@@ -96,13 +98,19 @@ fn traffic_of(role: Role, publisher: &Publisher, subscriber: &Subscriber) -> Tra
 impl Table {
     /// Returns a snapshot of the open session of a slot; None if none is open there, or if there is no such slot.
     pub fn look(&self, slot: usize) -> Option<SessionView>
-        ensures shows { ShowsSlot slot self.now result }
-        ensures stored { SeesSlot slot self.now result }
+        ensures { ShowsSlot slot self.now result }
     {
         if slot >= self.seats.len() {
             return None;
         }
-        let active = active_buffers(self);
+        self.look_by(active_buffers(self), slot)
+    }
+
+    /// The same of a slot that exists, where the active publisher has the buffers `active`.
+    pub fn look_by(&self, active: Option<PublisherBuffers>, slot: usize) -> Option<SessionView>
+        requires { slot < length self.now.seats.items }
+        ensures { SeesSlot active slot self.now result }
+    {
         let seat = &self.seats[slot];
         match &seat.session {
             Some(session) => Some(SessionView {

@@ -5,15 +5,15 @@ use Rattle.std.proofs.Common.{map, refl, sym, subst, Result, Ok, Err}
 use Rattle.std.proofs.lemmas.List.{append-nil, map-append}
 use Rattle.std.specs.Prelude.{⊤, IfSome, find}
 use Rattle.std.specs.Option.{is_some}
-use Rattle.srt_seq.specs.declared.shared.Callers.{Callers}
-use Rattle.srt_seq.specs.declared.shared.Callers.TheVariants.{Draft, Libsrt}
-use Rattle.srt_seq.specs.declared.shared.Mode.{Mode}
-use Rattle.srt_seq.specs.declared.shared.Mode.TheVariants.{Live, Buffer}
-use Rattle.srt_seq.specs.declared.shared.Peer.{Peer}
-use Rattle.srt_seq.specs.declared.shared.Role.{Role}
-use Rattle.srt_seq.specs.declared.shared.Role.TheVariants.{Publish, Request}
-use Rattle.srt_seq.specs.Terms.{Terms}
-use Rattle.srt_seq.specs.Items.{Item, Received, Tick, Close}
+use Rattle.srt_types.specs.declared.shared.Callers.{Callers}
+use Rattle.srt_types.specs.declared.shared.Callers.TheVariants.{Draft, Libsrt}
+use Rattle.srt_types.specs.declared.shared.Mode.{Mode}
+use Rattle.srt_types.specs.declared.shared.Mode.TheVariants.{Live, Buffer}
+use Rattle.srt_types.specs.declared.shared.Peer.{Peer}
+use Rattle.srt_types.specs.declared.shared.Role.{Role}
+use Rattle.srt_types.specs.declared.shared.Role.TheVariants.{Publish, Request}
+use Rattle.srt_types.specs.Terms.{Terms}
+use Rattle.srt_types.specs.Items.{Item, Received, Tick, Close}
 use Rattle.srt_sendbuf.specs.Sending.{queued}
 use Rattle.srt_packet.specs.declared.reading.PacketFault.{PacketFault}
 use Rattle.srt_packet.specs.Grammar.{Body, Packet}
@@ -30,15 +30,15 @@ use Rattle.srt_route.specs.Past.{Agreed, Past, Publishes, Subscribes, ends_with,
 use Rattle.srt_route.specs.Past.{reported_past, took_past}
 use Rattle.srt_route.specs.Sessions.{Session, advanced, aged, aged_at, ends_unless, is_active, is_draining, is_over, is_publisher, marked, marked_if}
 use Rattle.srt_route.specs.Sessions.{passed_at, reported_at, settled, settled_at, stamp_in, takes_over, terms_of, time_end, time_in, took, with_end}
-use Rattle.srt_route.specs.Sessions.{open_publishers}
+use Rattle.srt_route.specs.Sessions.{is_recent, open_publishers}
 use Rattle.srt_route.specs.Route.{Route, after, after_delivery, arrived, clock_after, concluded, concludes, considered, decision, delivered, delivery}
 use Rattle.srt_route.specs.Route.{drain_end, drain_if, drain_of, ended, finished, finished_at, gives_some, has_whole_file, heard_if, is_file_over}
 use Rattle.srt_route.specs.Route.{is_for, is_of, least_room, packet_end, packet_taken, passed_by, read_taken, room_if, sessions_at, settled_by, taken}
 use Rattle.srt_route.specs.Route.{taken_by, took_if, took_packet, without_destination}
 use Rattle.srt_route.specs.Acknowledged.{DeliversInOrder, DeliversOn, DeliversOnIn, EndsAtOnce, EndsDrained, EndsWithAll, HasDeliveredIn, FeedsAll}
-use Rattle.srt_route.specs.Acknowledged.{GetsAll, IsFed, IsTold, IsToldIn, PointsStay}
+use Rattle.srt_route.specs.Acknowledged.{GetsAll, IsFed, IsReported, IsReportedIn, PointsStay}
 use Rattle.srt_route.proofs.model.Lists.{Each, each_found, each_mapped}
-use Rattle.srt_route.proofs.model.ToldPoints.{IsKept, all_delivered, kept_delivered, kept_first, kept_reported, kept_took}
+use Rattle.srt_route.proofs.model.ReportedPoints.{IsKept, all_delivered, kept_delivered, kept_first, kept_reported, kept_took}
 
 abbrev pub KeptIn : (width : ℕ) → Past → Type 0
 KeptIn width (Publishes p) = IsKept width p
@@ -62,11 +62,11 @@ past_passed : (terms : Agreed) (time : ℕ) (room : Option ℕ) (fed : List (Lis
 past_passed terms time room fed (Publishes p) mode h = (kept_delivered terms.publisher time room p mode h).kept
 past_passed terms time room fed (Subscribes m) mode h = tt
 
-past_reported : (draining : Bool) (terms : Agreed) (time : ℕ) (past : Past)
-    → KeptIn terms.publisher.width past → KeptIn terms.publisher.width (reported_past draining terms time past)
-past_reported true terms time (Publishes p) h = h
-past_reported false terms time (Publishes p) h = kept_reported terms.publisher time p h
-past_reported draining terms time (Subscribes m) h = tt
+past_reported : (draining : Bool) (terms : Agreed) (time : ℕ) (recent : Bool) (past : Past)
+    → KeptIn terms.publisher.width past → KeptIn terms.publisher.width (reported_past draining terms time recent past)
+past_reported true terms time recent (Publishes p) h = h
+past_reported false terms time recent (Publishes p) h = kept_reported terms.publisher time p h
+past_reported draining terms time recent (Subscribes m) h = tt
 
 past_first : (width : ℕ) (role : Role) → KeptIn width (past_of role)
 past_first width Publish = kept_first width
@@ -187,13 +187,13 @@ delivery_keep : (e : Terms) (clock : ℕ) (ss : List Session) → e.mode ≡ Buf
 delivery_keep e clock ss mode h =
     settled_keep e.rules.callers e clock (gives_some e clock ss) (delivered e clock ss) (delivered_keep e clock ss mode h)
 
-reported_keeps : (e : Terms) (here : Bool) (time : ℕ) (s : Session) → Kept e s → Kept e (reported_at e here time s)
-reported_keeps e true time s h = past_reported (is_draining s) (terms_of e s) time s.past h
-reported_keeps e false time s h = h
+reported_keeps : (e : Terms) (here : Bool) (clock : ℕ) (s : Session) → Kept e s → Kept e (reported_at e here clock s)
+reported_keeps e true clock s h = past_reported (is_draining s) (terms_of e s) (time_in s clock) (is_recent s clock) s.past h
+reported_keeps e false clock s h = h
 
 finished_keeps : (whole : Bool) (e : Terms) (clock : ℕ) (s : Session) → Kept e s → Kept e (finished_at whole e clock s)
 finished_keeps true e clock s h = h
-finished_keeps false e clock s h = reported_keeps e s.is_open (time_in s clock) s h
+finished_keeps false e clock s h = reported_keeps e s.is_open clock s h
 
 sessions_keep : (is_closed : Bool) (e : Terms) (index : ℕ) (item : Item) (m : Route)
     → e.mode ≡ Buffer → Each (Kept e) m.sessions → Each (Kept e) (sessions_at is_closed e index item m)
@@ -223,12 +223,13 @@ each_so P Q so [] h = tt
 each_so P Q so (s ∷ ss) h = (so s h.0, each_so P Q so ss h.1)
 
 -- the acknowledgement points sent to a publisher
-told_in : (width : ℕ) (past : Past) → KeptIn width past → IsToldIn width past
-told_in width (Publishes p) h = h.told
-told_in width (Subscribes m) h = tt
+notified_in : (width : ℕ) (past : Past) → KeptIn width past → IsReportedIn width past
+notified_in width (Publishes p) h = h.notified
+notified_in width (Subscribes m) h = tt
 
 pub points_stay : PointsStay
-points_stay e index items mode = each_so (Kept e) (IsTold e) (λ s k. told_in e.buffer s.past k) (after e index items).sessions (all_keep e index items mode)
+points_stay e index items mode =
+    each_so (Kept e) (IsReported e) (λ s k. notified_in e.buffer s.past k) (after e index items).sessions (all_keep e index items mode)
 
 -- the numbers that a publisher delivers
 order_in : (terms : publisher.Terms) (past : Past) → terms.mode ≡ Buffer → KeptIn terms.width past → DeliversOnIn terms past

@@ -1,10 +1,10 @@
 -- A closed route has no open session, and replies to nothing.
 use Rattle.std.proofs.Common.{◌≡◌, ℕ, Bool, true, false, ◌||◌, ◌&&◌, Option, None, Some, List, [], ◌∷◌, map, refl, ap, ◌∙◌}
 use Rattle.std.specs.List.{list_any}
-use Rattle.srt_seq.specs.declared.shared.Callers.{Callers}
-use Rattle.srt_seq.specs.declared.shared.Callers.TheVariants.{Draft, Libsrt}
-use Rattle.srt_seq.specs.Terms.{Terms}
-use Rattle.srt_seq.specs.Items.{Item, Received, Tick, Close}
+use Rattle.srt_types.specs.declared.shared.Callers.{Callers}
+use Rattle.srt_types.specs.declared.shared.Callers.TheVariants.{Draft, Libsrt}
+use Rattle.srt_types.specs.Terms.{Terms}
+use Rattle.srt_types.specs.Items.{Item, Received, Tick, Close}
 use Rattle.srt_route.specs.Past.{has_left}
 use Rattle.srt_route.specs.Sessions.{Session, is_active, time_in, advanced, passed_at, passed, reported_at, terms_of}
 use Rattle.srt_route.specs.Sessions.{open_publishers, settled, settled_at, with_end}
@@ -29,13 +29,13 @@ passed_stays : (e : Terms) (here : Bool) (time : ℕ) (room : Option ℕ) (fed :
 passed_stays e true time room fed s = refl
 passed_stays e false time room fed s = refl
 
-reported_stays : (e : Terms) (here : Bool) (time : ℕ) (s : Session) → (reported_at e here time s).is_open ≡ s.is_open
-reported_stays e true time s = refl
-reported_stays e false time s = refl
+reported_stays : (e : Terms) (here : Bool) (clock : ℕ) (s : Session) → (reported_at e here clock s).is_open ≡ s.is_open
+reported_stays e true clock s = refl
+reported_stays e false clock s = refl
 
 finished_stays : (whole : Bool) (e : Terms) (clock : ℕ) (s : Session) → s.is_open ≡ false → (finished_at whole e clock s).is_open ≡ false
 finished_stays true e clock s h = refl
-finished_stays false e clock s h = reported_stays e s.is_open (time_in s clock) s ∙ h
+finished_stays false e clock s h = reported_stays e s.is_open clock s ∙ h
 
 -- if no session is open, a change that opens none leaves none open
 still_none : (f : Session → Session) → ((s : Session) → s.is_open ≡ false → (f s).is_open ≡ false) → (ss : List Session)

@@ -5,12 +5,12 @@ use Rattle.std.proofs.Common.{◌∷◌, ◌++◌, ◌||◌, map, length, find, 
 use Rattle.std.specs.Prelude.{filter_map, slice_get, nat_le, min}
 use Rattle.std.specs.List.{flat_map, cons_option}
 use Rattle.std.proofs.lemmas.List.{length-map, length-append, length-take}
-use Rattle.srt_seq.specs.declared.shared.Callers.{Callers}
-use Rattle.srt_seq.specs.declared.shared.Callers.TheVariants.{Draft, Libsrt}
-use Rattle.srt_seq.specs.declared.shared.Peer.{Peer}
-use Rattle.srt_seq.specs.Runs.{Run, numbers_from}
-use Rattle.srt_seq.specs.Terms.{Terms}
-use Rattle.srt_seq.specs.Items.{Item, Received, Tick, Close}
+use Rattle.srt_types.specs.declared.shared.Callers.{Callers}
+use Rattle.srt_types.specs.declared.shared.Callers.TheVariants.{Draft, Libsrt}
+use Rattle.srt_types.specs.declared.shared.Peer.{Peer}
+use Rattle.srt_types.specs.Runs.{Run, numbers_from}
+use Rattle.srt_types.specs.Terms.{Terms}
+use Rattle.srt_types.specs.Items.{Item, Received, Tick, Close}
 use Rattle.srt_packet.specs.declared.reading.PacketFault.{PacketFault}
 use Rattle.srt_packet.specs.Grammar.{Packet, Body}
 use Rattle.srt_packet.specs.Reading.{packet_in}
@@ -22,11 +22,12 @@ use Rattle.srt_sub.specs.Subscribing as subscriber
 use Rattle.srt_sub.specs.Heard as to_subscriber
 use Rattle.srt_route.specs.declared.conclusion.Conclusion.{Conclusion}
 use Rattle.srt_route.specs.Past.{Past, Publishes, Subscribes, Agreed, ToPublisher, ToSubscriber, loses_window, reports_of, answers_to}
-use Rattle.srt_route.specs.Sessions.{Session, is_draining, is_subscriber, is_open_in, is_idle, by_slot, speaks, time_in, terms_of, advanced, publishes}
+use Rattle.srt_route.specs.Sessions.{Session, is_draining, is_subscriber, is_open_in, is_idle, is_recent, by_slot, speaks, time_in, terms_of, advanced}
+use Rattle.srt_route.specs.Sessions.{publishes}
 use Rattle.srt_route.specs.Route.{Taken, Reply, sent, decision, considered, concluded, is_of, is_for, concludes, without_destination}
 use Rattle.srt_route.specs.Route.{arrived, answered_by, said_by, packet_taken, read_taken, taken, shutdown_to, Route, after, clock_after}
 use Rattle.srt_route.specs.Route.{taken_by, passed_by, replies_at, packets_at, packets_where, RepliesHavePlaces}
-use Rattle.srt_route.specs.Route.{after_delivery, ended, has_whole_file, idle_told, is_file_over, lost_told, served, served_at, told_if}
+use Rattle.srt_route.specs.Route.{after_delivery, ended, has_whole_file, idle_notified, is_file_over, lost_notified, served, served_at, notified_if}
 use Rattle.srt_route.proofs.model.FileEnds.{whole_subscribes}
 use Rattle.srt_route.proofs.model.Closed.{after_delivery_none, each_ended, none_open}
 
@@ -41,7 +42,7 @@ nak_few all [] = omega arith
 nak_few all (r ∷ rs) = omega arith
 
 naks_few : (all : Bool) (width seen : ℕ) (r : Receiving) → length (publisher.naks_of all width seen r) ≤ 1
-naks_few all width seen r = nak_few all (publisher.runs_said (publisher.gaps_told all width seen r))
+naks_few all width seen r = nak_few all (publisher.runs_said (publisher.gaps_reported all width seen r))
 
 keep_alive_few : (b : Bool) → length (publisher.keep_alive_if b) ≤ 1
 keep_alive_few true = omega arith
@@ -102,7 +103,7 @@ due_few places count terms s le =
       arith,
       length-append (drops ++ old_ones) new_ones,
       length-append drops old_ones,
-      drops_few (subscriber.untold s.notes),
+      drops_few (subscriber.unreported s.notes),
       media_few true again queue,
       media_few false new queue,
       few_new,
@@ -122,22 +123,27 @@ sub_kept_few : (time : ℕ) (due : List subscriber.Report) (notes : List subscri
 sub_kept_few time [] notes h = omega (arith, sub_keep_alive_few time notes)
 sub_kept_few time (r ∷ rs) notes h = omega (arith, h, length-append (r ∷ rs) [])
 
-pub subscriber_few : (terms : subscriber.Terms) (time : ℕ) (s : subscriber.Subscribing) → length (subscriber.reports terms time s) ≤ 65
-subscriber_few terms time s =
-    let t = subscriber.prepared terms time s in
+pub subscriber_few : (terms : subscriber.Terms) (time : ℕ) (recent : Bool) (s : subscriber.Subscribing)
+    → length (subscriber.reports terms time recent s) ≤ 65
+subscriber_few terms time recent s =
+    let t = subscriber.prepared terms time recent s in
     let count = subscriber.resends terms.resend_percent subscriber.most t.notes in
     sub_kept_few time (subscriber.due_of subscriber.most count terms t) t.notes
     (due_few subscriber.most count terms t (resends_few terms.resend_percent subscriber.most t.notes))
 
-reports_few : (terms : Agreed) (time : ℕ) (past : Past) → length (reports_of terms time past) ≤ 65
-reports_few terms time (Publishes p) = omega (arith, length-map (publisher.reports terms.publisher time p) ToPublisher, publisher_few terms.publisher time p)
-reports_few terms time (Subscribes s) =
-    omega (arith, length-map (subscriber.reports terms.subscriber time s) ToSubscriber, subscriber_few terms.subscriber time s)
+reports_few : (terms : Agreed) (time : ℕ) (recent : Bool) (past : Past) → length (reports_of terms time recent past) ≤ 65
+reports_few terms time recent (Publishes p) =
+    omega (arith, length-map (publisher.reports terms.publisher time p) ToPublisher, publisher_few terms.publisher time p)
+reports_few terms time recent (Subscribes s) =
+    omega (arith, length-map (subscriber.reports terms.subscriber time recent s) ToSubscriber, subscriber_few terms.subscriber time recent s)
 
 -- each session is sent its packets once
-said_few : (e : Terms) (here : Bool) (time : ℕ) (s : Session) → length (packets_at e here time s) ≤ cond here 65 0
-said_few e true time s = omega (arith, length-map (reports_of (terms_of e s) time s.past) (said_by time s), reports_few (terms_of e s) time s.past)
-said_few e false time s = omega arith
+said_few : (e : Terms) (here : Bool) (clock : ℕ) (s : Session) → length (packets_at e here clock s) ≤ cond here 65 0
+said_few e true clock s =
+    let time = time_in s clock in
+    let recent = is_recent s clock in
+    omega (arith, length-map (reports_of (terms_of e s) time recent s.past) (said_by time s), reports_few (terms_of e s) time recent s.past)
+said_few e false clock s = omega arith
 
 either : (is_open publishing draining : Bool) → cond (is_open && publishing && not draining) 65 0 + cond (is_open && not publishing) 65 0 ≤ 65
 either true true true = omega arith
@@ -157,10 +163,10 @@ served_few e clock over s = by (has_whole_file over s) refl
 
     by : (b : Bool) → has_whole_file over s ≡ b → length (served_at b e clock s) ≤ cond (is_subscriber s) 65 0
     by true is = one (is_subscriber s) (whole_subscribes over s is)
-    by false is = said_few e (is_subscriber s) (time_in s clock) s
+    by false is = said_few e (is_subscriber s) clock s
 
 abbrev packets : Terms → (clock : ℕ) → (Session → Bool) → Session → List Reply
-packets e clock test s = packets_at e (test s) (time_in s clock) s
+packets e clock test s = packets_at e (test s) clock s
 
 abbrev serving : Terms → (clock : ℕ) → (over : Bool) → Session → List Reply
 serving e clock over s = served_at (has_whole_file over s) e clock s
@@ -169,7 +175,7 @@ all_said : (e : Terms) (clock : ℕ) (over : Bool) (ss : List Session)
     → length (flat_map (packets e clock speaks) ss) + length (flat_map (serving e clock over) ss) ≤ 65 * length ss
 all_said e clock over [] = omega arith
 all_said e clock over (s ∷ ss) =
-    let few = said_few e (speaks s) (time_in s clock) s in
+    let few = said_few e (speaks s) clock s in
     let few_too = served_few e clock over s in
     let one = either s.is_open (publishes s.conclusion.role) (is_draining s) in
     let first = packets e clock speaks s in
@@ -208,7 +214,7 @@ acked_brief mark = by (mark == 0)
 
 heard_brief : (h : to_subscriber.Heard) → length (subscriber.answers h) ≤ 1
 heard_brief (to_subscriber.Ack mark number more) = acked_brief mark
-heard_brief (to_subscriber.Nak asked) = omega arith
+heard_brief (to_subscriber.Nak requested) = omega arith
 heard_brief to_subscriber.Data = omega arith
 heard_brief to_subscriber.Other = omega arith
 
@@ -222,20 +228,20 @@ answers_brief initial body (Subscribes s) =
     )
 
 -- a session that ends is sent at most one SHUTDOWN, and a publisher's nothing else
-told_few : (callers : Callers) (ends : Bool) (clock : ℕ) (s : Session) → length (told_if callers ends clock s) ≤ 1
-told_few Draft ends clock s = omega arith
-told_few Libsrt true clock s = omega arith
-told_few Libsrt false clock s = omega arith
+notified_few : (callers : Callers) (ends : Bool) (clock : ℕ) (s : Session) → length (notified_if callers ends clock s) ≤ 1
+notified_few Draft ends clock s = omega arith
+notified_few Libsrt true clock s = omega arith
+notified_few Libsrt false clock s = omega arith
 
-none_lost : (callers : Callers) (clock : ℕ) (s : Session) → length (told_if callers false clock s) ≡ 0
+none_lost : (callers : Callers) (clock : ℕ) (s : Session) → length (notified_if callers false clock s) ≡ 0
 none_lost Draft clock s = refl
 none_lost Libsrt clock s = refl
 
 lost_brief : (e : Terms) (clock : ℕ) (body : Body) (s : Session) (past : Past)
-    → length (told_if e.rules.callers (loses_window (terms_of e s) s.conclusion.initial body past) clock s)
+    → length (notified_if e.rules.callers (loses_window (terms_of e s) s.conclusion.initial body past) clock s)
     + length (answers_to s.conclusion.initial body past) ≤ 1
 lost_brief e clock body s (Publishes p) =
-    omega (arith, told_few e.rules.callers (loses_window (terms_of e s) s.conclusion.initial body (Publishes p)) clock s)
+    omega (arith, notified_few e.rules.callers (loses_window (terms_of e s) s.conclusion.initial body (Publishes p)) clock s)
 lost_brief e clock body s (Subscribes m) =
     omega (arith, none_lost e.rules.callers clock s, answers_brief s.conclusion.initial body (Subscribes m))
 
@@ -245,7 +251,7 @@ answered_brief e clock body (Some s) =
     let said = map (said_by (time_in s clock) s) (answers_to s.conclusion.initial body s.past) in
     omega (
       arith,
-      length-append (lost_told e clock body s) said,
+      length-append (lost_notified e clock body s) said,
       length-map (answers_to s.conclusion.initial body s.past) (said_by (time_in s clock) s),
       lost_brief e clock body s s.past,
     )
@@ -281,15 +287,15 @@ read_brief e index clock peer (Ok packet) ss = packet_brief e index clock peer p
 read_brief e index clock peer (Err fault) ss = omega arith
 
 -- each session that ends as time advances is sent at most one SHUTDOWN
-idle_few : (e : Terms) (clock : ℕ) (ss : List Session) → length (flat_map (λ s. told_if e.rules.callers (is_idle s clock) clock s) ss) ≤ length ss
+idle_few : (e : Terms) (clock : ℕ) (ss : List Session) → length (flat_map (λ s. notified_if e.rules.callers (is_idle s clock) clock s) ss) ≤ length ss
 idle_few e clock [] = omega arith
 idle_few e clock (s ∷ ss) =
-    let one = told_if e.rules.callers (is_idle s clock) clock s in
+    let one = notified_if e.rules.callers (is_idle s clock) clock s in
     omega (
       arith,
-      told_few e.rules.callers (is_idle s clock) clock s,
+      notified_few e.rules.callers (is_idle s clock) clock s,
       idle_few e clock ss,
-      length-append one (flat_map (λ s. told_if e.rules.callers (is_idle s clock) clock s) ss),
+      length-append one (flat_map (λ s. notified_if e.rules.callers (is_idle s clock) clock s) ss),
     )
 
 -- if the route is closed, each open session is sent a SHUTDOWN
@@ -337,7 +343,7 @@ replies_few true e index item m = omega arith
 replies_few false e index item m =
     let clock = clock_after item m in
     let ss = passed_by e index item m in
-    let idle = idle_told e clock m.sessions in
+    let idle = idle_notified e clock m.sessions in
     let answers = (taken_by e index item m).answers in
     let first = packets_where e clock speaks ss in
     let second = served e clock (is_file_over e ss) ss in

@@ -2,11 +2,11 @@
 use Rattle.std.proofs.Common.{◌≡◌, ℕ, ◌+◌, ◌==◌, ◌&&◌, not, Bool, true, false, cond, Option, None, Some, List, [], ◌∷◌, map, refl, ap, ◌∙◌, Result, Ok, Err}
 use Rattle.std.specs.Prelude.{filter, find}
 use Rattle.std.specs.Option.{is_some}
-use Rattle.srt_seq.specs.declared.shared.Callers.{Callers}
-use Rattle.srt_seq.specs.declared.shared.Callers.TheVariants.{Draft, Libsrt}
-use Rattle.srt_seq.specs.declared.shared.Peer.{Peer}
-use Rattle.srt_seq.specs.Terms.{Terms}
-use Rattle.srt_seq.specs.Items.{Item, Received, Tick, Close}
+use Rattle.srt_types.specs.declared.shared.Callers.{Callers}
+use Rattle.srt_types.specs.declared.shared.Callers.TheVariants.{Draft, Libsrt}
+use Rattle.srt_types.specs.declared.shared.Peer.{Peer}
+use Rattle.srt_types.specs.Terms.{Terms}
+use Rattle.srt_types.specs.Items.{Item, Received, Tick, Close}
 use Rattle.srt_packet.specs.declared.reading.PacketFault.{PacketFault}
 use Rattle.srt_packet.specs.Grammar.{Body, Packet}
 use Rattle.srt_packet.specs.Reading.{packet_in}
@@ -130,13 +130,13 @@ delivery_stay e clock ss draft h =
     settled_stay e.rules.callers e clock (gives_some e clock ss) (delivered e clock ss) draft
     (each_mapped Stays Stays _ (λ s k. passed_stays e s.is_open (time_in s clock) (room_if (is_active ss s) room) fed s k) ss h)
 
-reported_stays : (e : Terms) (here : Bool) (time : ℕ) (s : Session) → Stays s → Stays (reported_at e here time s)
-reported_stays e true time s h = h
-reported_stays e false time s h = h
+reported_stays : (e : Terms) (here : Bool) (clock : ℕ) (s : Session) → Stays s → Stays (reported_at e here clock s)
+reported_stays e true clock s h = h
+reported_stays e false clock s h = h
 
 finished_stays : (whole : Bool) (e : Terms) (clock : ℕ) (s : Session) → Stays s → Stays (finished_at whole e clock s)
 finished_stays true e clock s h = h
-finished_stays false e clock s h = reported_stays e s.is_open (time_in s clock) s h
+finished_stays false e clock s h = reported_stays e s.is_open clock s h
 
 sessions_stay : (is_closed : Bool) (e : Terms) (index : ℕ) (item : Item) (m : Route)
     → e.rules.callers ≡ Draft → Each Stays m.sessions → Each Stays (sessions_at is_closed e index item m)

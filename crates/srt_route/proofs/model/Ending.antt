@@ -2,10 +2,10 @@
 use Rattle.std.proofs.Common.{◌≡◌, ℕ, suc, ◌+◌, ◌-◌, ◌<◌, ◌≤◌, ◌^◌, Bool, true, false, ◌||◌, ◌&&◌, Option, None, Some, List, [], ◌∷◌, ◌++◌, map}
 use Rattle.std.proofs.Common.{find, refl, sym, ap, subst, ◌∙◌, append_assoc, append-nil, arith}
 use Rattle.std.specs.List.{cons_option}
-use Rattle.srt_seq.specs.declared.shared.Callers.{Callers}
-use Rattle.srt_seq.specs.declared.shared.Callers.TheVariants.{Draft, Libsrt}
-use Rattle.srt_seq.specs.Terms.{Terms}
-use Rattle.srt_seq.specs.Items.{Datagram, Item, Received, Tick, Close}
+use Rattle.srt_types.specs.declared.shared.Callers.{Callers}
+use Rattle.srt_types.specs.declared.shared.Callers.TheVariants.{Draft, Libsrt}
+use Rattle.srt_types.specs.Terms.{Terms}
+use Rattle.srt_types.specs.Items.{Datagram, Item, Received, Tick, Close}
 use Rattle.srt_pub.specs.declared.session.Publisher.{Publisher}
 use Rattle.srt_route.specs.declared.replies.Reply.{Reply}
 use Rattle.srt_route.specs.declared.seat.Session.{Session as TheSession}
@@ -16,7 +16,7 @@ use Rattle.srt_route.specs.Sessions.{Session, by_slot, is_active, is_open_in, ti
 use Rattle.srt_route.specs.Sessions.{open_publishers, settled, settled_at, with_end}
 use Rattle.srt_route.specs.Route.{after_delivery, drain_end, gives_some, settled_by}
 use Rattle.srt_route.specs.Route.{Route, sent, ended, shutdown_to, closes, clock_after, passed_by, sessions_at, taken_by, least_room}
-use Rattle.srt_route.specs.Route.{room_if, delivery, delivered, after, finished_at, has_whole_file, is_file_over, told_if}
+use Rattle.srt_route.specs.Route.{room_if, delivery, delivered, after, finished_at, has_whole_file, is_file_over, notified_if}
 use Rattle.srt_route.specs.Tables.{IsSession, IsStored, IsSeat, IsTable, with_stored}
 use Rattle.srt_route.specs.inside.OneSession.{shutdowns_if, shutdowns_to}
 use Rattle.srt_route.specs.inside.Reports.{AreSaid}
@@ -66,9 +66,9 @@ ended_from clock ss from count = map sent (map (shutdown_to clock) (from_places 
 
 -- the SHUTDOWNs sent to the slots below `at` with those of the remaining slots are the SHUTDOWNs of all
 pub record IsEnding (e : Terms) (clock at : ℕ) (ss : List Session) (before now : List Reply) (places more : ℕ) : Type 0 where
-  pub told : List Datagram
-  pub said : AreSaid before now places more told
-  pub whole : told ++ ended_from clock ss at (e.sessions - at) ≡ map sent (map (shutdown_to clock) (by_slot e ss))
+  pub notified : List Datagram
+  pub said : AreSaid before now places more notified
+  pub whole : notified ++ ended_from clock ss at (e.sessions - at) ≡ map sent (map (shutdown_to clock) (by_slot e ss))
 
 -- the SHUTDOWN of a seat is that of its slot's session
 pub stored_shutdown : (e : Terms) (index clock : ℕ) (t : TheSession) (s : Session)
@@ -76,11 +76,11 @@ pub stored_shutdown : (e : Terms) (index clock : ℕ) (t : TheSession) (s : Sess
 stored_shutdown e index clock t s is = rw (is.peer_is, is.caller_is, is.opened_is) refl
 
 -- the same of a SHUTDOWN that is sent only on a route for libsrt callers
-pub told_alike : (e : Terms) (index clock : ℕ) (callers : Callers) (over : Bool) (t : TheSession) (s : Session)
-    → IsSession e index t s → shutdowns_if callers over clock (Some t) ≡ map sent (told_if callers over clock s)
-told_alike e index clock Draft over t s is = refl
-told_alike e index clock Libsrt true t s is = stored_shutdown e index clock t s is
-told_alike e index clock Libsrt false t s is = refl
+pub notified_alike : (e : Terms) (index clock : ℕ) (callers : Callers) (over : Bool) (t : TheSession) (s : Session)
+    → IsSession e index t s → shutdowns_if callers over clock (Some t) ≡ map sent (notified_if callers over clock s)
+notified_alike e index clock Draft over t s is = refl
+notified_alike e index clock Libsrt true t s is = stored_shutdown e index clock t s is
+notified_alike e index clock Libsrt false t s is = refl
 
 next_shutdown : (e : Terms) (index clock : ℕ) (ss : List Session) (at count : ℕ) (o : Option TheSession) (f : Option Session)
     → find (is_open_in at) ss ≡ f → IsStored e index o f
@@ -104,12 +104,12 @@ end_slot e index clock p ss at x before now then_ places more most below is says
     let rest = ended_from clock ss (at + 1) (e.sessions - (at + 1)) in
     let count : e.sessions - at ≡ suc (e.sessions - (at + 1)) = omega (arith, below) in
     record {
-      told = h.told ++ one;
-      said = said_then before now then_ places more most h.told one h.said says;
-      whole = append_assoc h.told one rest
-          ∙ (ap (λ (ds : List Datagram). h.told ++ ds)
+      notified = h.notified ++ one;
+      said = said_then before now then_ places more most h.notified one h.said says;
+      whole = append_assoc h.notified one rest
+          ∙ (ap (λ (ds : List Datagram). h.notified ++ ds)
           (sym (next_shutdown e index clock ss at (e.sessions - (at + 1)) x.session (find (is_open_in at) ss) refl is.session_is))
-          ∙ (ap (λ (n : ℕ). h.told ++ ended_from clock ss at n) (sym count) ∙ h.whole));
+          ∙ (ap (λ (n : ℕ). h.notified ++ ended_from clock ss at n) (sym count) ∙ h.whole));
     }
 
 -- all slots
@@ -118,7 +118,7 @@ pub all_ended : (e : Terms) (clock at : ℕ) (ss : List Session) (before now : L
     → AreSaid before now places more (map sent (map (shutdown_to clock) (by_slot e ss)))
 all_ended e clock at ss before now places more all h =
     let none : e.sessions - at ≡ 0 = omega (arith, all) in
-    same_said (sym (append-nil h.told) ∙ (sym (ap (λ (n : ℕ). h.told ++ ended_from clock ss at n) none) ∙ h.whole)) h.said
+    same_said (sym (append-nil h.notified) ∙ (sym (ap (λ (n : ℕ). h.notified ++ ended_from clock ss at n) none) ∙ h.whole)) h.said
 
 -- the sessions of a closed route have ended
 abbrev pub HasEnded : Session → Type 0
@@ -129,13 +129,13 @@ passed_ended : (e : Terms) (here : Bool) (time : ℕ) (room : Option ℕ) (deliv
 passed_ended e true time room delivery s h = h
 passed_ended e false time room delivery s h = h
 
-reported_ended : (e : Terms) (here : Bool) (time : ℕ) (s : Session) → HasEnded s → HasEnded (reported_at e here time s)
-reported_ended e true time s h = h
-reported_ended e false time s h = h
+reported_ended : (e : Terms) (here : Bool) (clock : ℕ) (s : Session) → HasEnded s → HasEnded (reported_at e here clock s)
+reported_ended e true clock s h = h
+reported_ended e false clock s h = h
 
 finished_ended : (whole : Bool) (e : Terms) (clock : ℕ) (s : Session) → HasEnded s → HasEnded (finished_at whole e clock s)
 finished_ended true e clock s h = refl
-finished_ended false e clock s h = reported_ended e s.is_open (time_in s clock) s h
+finished_ended false e clock s h = reported_ended e s.is_open clock s h
 
 all_end : (ss : List Session) → Each HasEnded (map ended ss)
 all_end [] = tt

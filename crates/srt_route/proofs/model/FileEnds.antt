@@ -1,11 +1,12 @@
 -- What a session records of the last publisher's end, and the sessions that end with a file.
 use Rattle.std.proofs.Common.{◌≡◌, ℕ, ◌==◌, Bool, true, false, cond, ◌&&◌, Option, None, Some, List, map, refl, ap}
 use Rattle.std.proofs.lemmas.Bool.{and_parts}
-use Rattle.srt_seq.specs.declared.shared.Peer.{Peer}
-use Rattle.srt_seq.specs.Terms.{Terms}
+use Rattle.srt_types.specs.declared.shared.Peer.{Peer}
+use Rattle.srt_types.specs.Terms.{Terms}
 use Rattle.srt_packet.specs.Grammar.{Packet}
 use Rattle.srt_route.specs.Past.{Past, Publishes, Subscribes, Agreed, has_all, has_left, reported_past}
-use Rattle.srt_route.specs.Sessions.{Session, is_draining, is_publisher, is_subscriber, reported, reported_at, settled, settled_at, terms_of, time_in, with_end}
+use Rattle.srt_route.specs.Sessions.{Session, is_draining, is_publisher, is_recent, is_subscriber, reported, reported_at, settled, settled_at, terms_of}
+use Rattle.srt_route.specs.Sessions.{time_in, with_end}
 use Rattle.srt_route.specs.Route.{finished, finished_at, has_whole_file, is_file_over, sends_files, took_packet}
 use Rattle.srt_route.specs.inside.Delivery.{after_publisher, changed, publisher_reported}
 use Rattle.srt_route.proofs.model.Found.{Keeps}
@@ -76,7 +77,7 @@ settles_marks e given clock s = by s.drains
 
 -- the end of an event
 pub reports : (e : Terms) (clock : ℕ) → Keeps (reported e clock)
-reports e clock = keeps_changed (λ s. reported_past (is_draining s) (terms_of e s) (time_in s clock) s.past)
+reports e clock = keeps_changed (λ s. reported_past (is_draining s) (terms_of e s) (time_in s clock) (is_recent s clock) s.past)
 
 pub finishes : (e : Terms) (clock : ℕ) (over : Bool) → Keeps (finished e clock over)
 finishes e clock over =
@@ -111,7 +112,7 @@ finishes e clock over =
 pub finishes_marks : (e : Terms) (clock : ℕ) (over : Bool) → KeepsMarks (finished e clock over)
 finishes_marks e clock over s = by (has_whole_file over s)
   where
-    mark_of : (b : Bool) → (reported_at e b (time_in s clock) s).took_over ≡ s.took_over
+    mark_of : (b : Bool) → (reported_at e b clock s).took_over ≡ s.took_over
     mark_of true = refl
     mark_of false = refl
 

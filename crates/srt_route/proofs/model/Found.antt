@@ -5,7 +5,7 @@ use Rattle.std.specs.Option.{is_some}
 use Rattle.std.specs.List.{list_any}
 use Rattle.std.proofs.lemmas.Bool.{and_parts, and_from, eqb-true, eq-eqb, false_from_ne_true}
 use Rattle.std.proofs.lemmas.Slice.Eq.{bytes_eq-Decides}
-use Rattle.srt_seq.specs.declared.shared.Peer.{Peer}
+use Rattle.srt_types.specs.declared.shared.Peer.{Peer}
 use Rattle.srt_route.specs.Sessions.{Session, is_draining, is_same_peer, is_open_in, session_id, generation_of}
 use Rattle.srt_route.specs.Route.{is_of, is_for}
 use Rattle.srt_route.specs.Tables.{IsAlone, AreAlone}

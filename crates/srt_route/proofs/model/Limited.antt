@@ -6,12 +6,12 @@ use Rattle.std.specs.Str.{bytes_eq}
 use Rattle.std.proofs.lemmas.Bool.{and_from, and_parts}
 use Rattle.std.proofs.lemmas.Bool.Decides.{nat_tests}
 use Rattle.std.proofs.lemmas.Slice.Eq.{bytes_eq-Decides}
-use Rattle.srt_seq.specs.declared.shared.Peer.{Peer}
-use Rattle.srt_seq.specs.Runs.{numbers_from}
-use Rattle.srt_seq.specs.declared.shared.Callers.{Callers}
-use Rattle.srt_seq.specs.declared.shared.Callers.TheVariants.{Draft, Libsrt}
-use Rattle.srt_seq.specs.Terms.{Terms}
-use Rattle.srt_seq.specs.Items.{Item, Received, Tick, Close}
+use Rattle.srt_types.specs.declared.shared.Peer.{Peer}
+use Rattle.srt_types.specs.Runs.{numbers_from}
+use Rattle.srt_types.specs.declared.shared.Callers.{Callers}
+use Rattle.srt_types.specs.declared.shared.Callers.TheVariants.{Draft, Libsrt}
+use Rattle.srt_types.specs.Terms.{Terms}
+use Rattle.srt_types.specs.Items.{Item, Received, Tick, Close}
 use Rattle.srt_packet.specs.declared.reading.PacketFault.{PacketFault}
 use Rattle.srt_packet.specs.Grammar.{Packet}
 use Rattle.srt_packet.specs.Reading.{packet_in}

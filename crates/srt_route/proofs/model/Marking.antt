@@ -1,7 +1,7 @@
 -- A take-over changes only the marks.
 use Rattle.std.proofs.Common.{◌≡◌, ℕ, ◌==◌, Bool, true, false, ◌&&◌, not, cond, Option, None, Some, List, map, refl, sym, ap, ◌∙◌}
 use Rattle.std.specs.Option.{option_map, option_or}
-use Rattle.srt_seq.specs.Terms.{Terms}
+use Rattle.srt_types.specs.Terms.{Terms}
 use Rattle.srt_route.specs.Sessions.{Session, is_draining, number_draining, takes_over_if, active, first_opened, has_failed, is_active}
 use Rattle.srt_route.specs.Sessions.{is_publisher, is_standby, leads, marked, standby}
 use Rattle.srt_route.specs.Sessions.{takeover_us, takes_over, takes_over_after}

@@ -4,16 +4,16 @@ use Rattle.std.proofs.Common.{List, [], ◌∷◌, map, refl, sym, subst, Result
 use Rattle.std.specs.Prelude.{option_map, IfSome, find}
 use Rattle.std.proofs.lemmas.List.{append-nil}
 use Rattle.std.proofs.lemmas.Bool.{eqb-true, ne_eqb}
-use Rattle.srt_seq.specs.Runs.{numbers_from}
+use Rattle.srt_types.specs.Runs.{numbers_from}
 use Rattle.srt_recvbuf.specs.Receiving.{Arrival}
-use Rattle.srt_seq.specs.declared.shared.Callers.{Callers}
-use Rattle.srt_seq.specs.declared.shared.Callers.TheVariants.{Draft, Libsrt}
-use Rattle.srt_seq.specs.declared.shared.Mode.TheVariants.{Buffer}
-use Rattle.srt_seq.specs.declared.shared.Peer.{Peer}
-use Rattle.srt_seq.specs.declared.shared.Role.{Role}
-use Rattle.srt_seq.specs.declared.shared.Role.TheVariants.{Publish, Request}
-use Rattle.srt_seq.specs.Terms.{Terms}
-use Rattle.srt_seq.specs.Items.{Item, Received, Tick, Close}
+use Rattle.srt_types.specs.declared.shared.Callers.{Callers}
+use Rattle.srt_types.specs.declared.shared.Callers.TheVariants.{Draft, Libsrt}
+use Rattle.srt_types.specs.declared.shared.Mode.TheVariants.{Buffer}
+use Rattle.srt_types.specs.declared.shared.Peer.{Peer}
+use Rattle.srt_types.specs.declared.shared.Role.{Role}
+use Rattle.srt_types.specs.declared.shared.Role.TheVariants.{Publish, Request}
+use Rattle.srt_types.specs.Terms.{Terms}
+use Rattle.srt_types.specs.Items.{Item, Received, Tick, Close}
 use Rattle.srt_packet.specs.declared.reading.PacketFault.{PacketFault}
 use Rattle.srt_packet.specs.Grammar.{Body, Packet}
 use Rattle.srt_packet.specs.Reading.{packet_in}
@@ -21,7 +21,7 @@ use Rattle.srt_pub.specs.Heard.{heard_from}
 use Rattle.srt_pub.specs.Publishing as publisher
 use Rattle.srt_route.specs.Sessions.{generation_of, passed, Session, advanced, aged, aged_at, is_active, is_draining, is_over, is_publisher, marked}
 use Rattle.srt_route.specs.Sessions.{marked_if, passed_at, reported_at, settled, settled_at, stamp_in, takes_over, terms_of, time_end, time_in, took}
-use Rattle.srt_route.specs.Sessions.{with_end, open_publishers}
+use Rattle.srt_route.specs.Sessions.{is_recent, with_end, open_publishers}
 use Rattle.srt_route.specs.Route.{session_opened, Route, after, arrived, clock_after, concluded, concludes, considered, decision, delivered, delivery}
 use Rattle.srt_route.specs.Route.{drain_end, drain_of, ended, finished, finished_at, gives_some, has_whole_file, heard_if, is_file_over, is_for}
 use Rattle.srt_route.specs.Route.{is_of, least_room, packet_end, packet_taken, passed_by, read_taken, room_if, sessions_at, settled_by, taken}
@@ -32,19 +32,19 @@ use Rattle.srt_route.specs.declared.conclusion.Conclusion.{Conclusion}
 use Rattle.srt_route.specs.declared.refusals.RefusalCause.{RefusalCause}
 use Rattle.srt_route.specs.Past.{Agreed, Past, Publishes, Subscribes, expired_past, passed_past, past_of, reported_past, took_past}
 use Rattle.srt_route.proofs.model.Acknowledged.{Kept, KeptIn, taken_all_keep}
-use Rattle.srt_route.proofs.model.ToldPoints.{fronts_stay, kept_delivered, nothing_given}
+use Rattle.srt_route.proofs.model.ReportedPoints.{fronts_stay, kept_delivered, nothing_given}
 use Rattle.srt_route.proofs.model.Lists.{Each}
 
 abbrev Story : (numbers : List ℕ) → Session → Type 0
 Story numbers s = AreAllBelow numbers s.past
 
 -- the invariant for one session among all; a session has delivered nothing before it was opened
-abbrev Told : (numbers : List ℕ) → Option Session → Type 0
-Told numbers None = numbers ≡ []
-Told numbers (Some s) = Story numbers s
+abbrev Reported : (numbers : List ℕ) → Option Session → Type 0
+Reported numbers None = numbers ≡ []
+Reported numbers (Some s) = Story numbers s
 
 abbrev At : (numbers : List ℕ) (k : ℕ) → List Session → Type 0
-At numbers k ss = Told numbers (opened_as k ss)
+At numbers k ss = Reported numbers (opened_as k ss)
 
 length_mapped : (f : Session → Session) (ss : List Session) → length (map f ss) ≡ length ss
 length_mapped f [] = refl
@@ -60,16 +60,16 @@ opened_mapped f k (s ∷ ss) =
     inside true = refl
     inside false = refl
 
-told_mapped : (numbers : List ℕ) (f : Session → Session) → ((s : Session) → Story numbers s → Story numbers (f s))
-    → (o : Option Session) → Told numbers o → Told numbers (option_map f o)
-told_mapped numbers f keeps None h = h
-told_mapped numbers f keeps (Some s) h = keeps s h
+notified_mapped : (numbers : List ℕ) (f : Session → Session) → ((s : Session) → Story numbers s → Story numbers (f s))
+    → (o : Option Session) → Reported numbers o → Reported numbers (option_map f o)
+notified_mapped numbers f keeps None h = h
+notified_mapped numbers f keeps (Some s) h = keeps s h
 
 at_mapped : (numbers : List ℕ) (k : ℕ) (f : Session → Session) → ((s : Session) → Story numbers s → Story numbers (f s))
     → (ss : List Session) → At numbers k ss → At numbers k (map f ss)
 at_mapped numbers k f keeps ss h =
-    let P : Option Session → Type 0 = Told numbers in
-    subst P (sym (opened_mapped f k ss)) (told_mapped numbers f keeps (opened_as k ss) h)
+    let P : Option Session → Type 0 = Reported numbers in
+    subst P (sym (opened_mapped f k ss)) (notified_mapped numbers f keeps (opened_as k ss) h)
 
 -- no session was opened after more sessions than there are
 none_behind : (ss : List Session) (k : ℕ) → length ss ≤ k → opened_as k ss ≡ None
@@ -85,10 +85,10 @@ at_opened : (numbers : List ℕ) (k : ℕ) (s : Session) (role : Role) (ss : Lis
     → s.past ≡ past_of role → At numbers k ss → At numbers k (s ∷ ss)
 at_opened numbers k s role ss is h = by (length ss == k) refl
   where
-    by : (b : Bool) → (length ss == k) ≡ b → Told numbers (cond b (Some s) (opened_as k ss))
+    by : (b : Bool) → (length ss == k) ≡ b → Reported numbers (cond b (Some s) (opened_as k ss))
     by true e =
         let same : length ss ≡ k = eqb-true (length ss) k e in
-        let none : numbers ≡ [] = let P : Option Session → Type 0 = Told numbers in subst P (none_behind ss k (omega (arith, same))) h in
+        let none : numbers ≡ [] = let P : Option Session → Type 0 = Reported numbers in subst P (none_behind ss k (omega (arith, same))) h in
         let Q : Past → Type 0 = AreAllBelow numbers in
         subst Q (sym is) (story_first numbers role none)
     by false e = h
@@ -105,12 +105,12 @@ past_took numbers terms initial time stamp b (Publishes p) mode h =
     h ∙ ap (λ (n : ℕ). numbers_from 0 n) (sym (fronts_stay terms.publisher time stamp (heard_from initial b) p mode))
 past_took numbers terms initial time stamp b (Subscribes m) mode h = h
 
-past_reported : (numbers : List ℕ) (draining : Bool) (terms : Agreed) (time : ℕ) (past : Past)
-    → AreAllBelow numbers past → AreAllBelow numbers (reported_past draining terms time past)
-past_reported numbers true terms time (Publishes p) h = h
-past_reported numbers false terms time (Publishes p) h = h
-past_reported numbers true terms time (Subscribes m) h = h
-past_reported numbers false terms time (Subscribes m) h = h
+past_reported : (numbers : List ℕ) (draining : Bool) (terms : Agreed) (time : ℕ) (recent : Bool) (past : Past)
+    → AreAllBelow numbers past → AreAllBelow numbers (reported_past draining terms time recent past)
+past_reported numbers true terms time recent (Publishes p) h = h
+past_reported numbers false terms time recent (Publishes p) h = h
+past_reported numbers true terms time recent (Subscribes m) h = h
+past_reported numbers false terms time recent (Subscribes m) h = h
 
 numbers_both : (from a b : ℕ) → numbers_from from a ++ numbers_from (from + a) b ≡ numbers_from from (a + b)
 numbers_both from zero b =
@@ -242,15 +242,15 @@ settled_keep numbers place Libsrt e clock given ss h =
     at_mapped numbers place (with_end end) (λ s k. end_keeps numbers place e end s k) later
     (at_mapped numbers place (settled e given clock) (λ s k. settled_keeps numbers place s.drains e given clock s k) ss h)
 
-reported_keeps : (numbers : List ℕ) (place : ℕ) (e : Terms) (here : Bool) (time : ℕ) (s : Session)
-    → Story numbers s → Story numbers (reported_at e here time s)
-reported_keeps numbers place e true time s h = past_reported numbers (is_draining s) (terms_of e s) time s.past h
-reported_keeps numbers place e false time s h = h
+reported_keeps : (numbers : List ℕ) (place : ℕ) (e : Terms) (here : Bool) (clock : ℕ) (s : Session)
+    → Story numbers s → Story numbers (reported_at e here clock s)
+reported_keeps numbers place e true clock s h = past_reported numbers (is_draining s) (terms_of e s) (time_in s clock) (is_recent s clock) s.past h
+reported_keeps numbers place e false clock s h = h
 
 finished_keeps : (numbers : List ℕ) (place : ℕ) (whole : Bool) (e : Terms) (clock : ℕ) (s : Session)
     → Story numbers s → Story numbers (finished_at whole e clock s)
 finished_keeps numbers place true e clock s h = h
-finished_keeps numbers place false e clock s h = reported_keeps numbers place e s.is_open (time_in s clock) s h
+finished_keeps numbers place false e clock s h = reported_keeps numbers place e s.is_open clock s h
 
 -- an event delivers
 given_to : (numbers : List ℕ) (e : Terms) (clock : ℕ) (fed : List (List ℕ)) (ss : List Session) (s : Session) (here : Bool)
@@ -270,13 +270,13 @@ kept_as e place (s ∷ ss) h = by (length ss == place) (kept_as e place ss h.1)
     by true rest = h.0
     by false rest = rest
 
-delivered_told : (numbers : List ℕ) (e : Terms) (clock : ℕ) (ss : List Session) (o : Option Session)
-    → e.mode ≡ Buffer → IfSome o (Kept e) → Told numbers o
+delivered_notified : (numbers : List ℕ) (e : Terms) (clock : ℕ) (ss : List Session) (o : Option Session)
+    → e.mode ≡ Buffer → IfSome o (Kept e) → Reported numbers o
     → let room = least_room e ss in
     let fed = delivery e clock room ss in
-    Told (numbers ++ numbers_of e clock ss o) (option_map (λ s. passed e clock (room_if (is_active ss s) room) fed s) o)
-delivered_told numbers e clock ss None mode kept h = append-nil numbers ∙ h
-delivered_told numbers e clock ss (Some s) mode kept h = given_to numbers e clock (delivery e clock (least_room e ss) ss) ss s s.is_open mode kept h
+    Reported (numbers ++ numbers_of e clock ss o) (option_map (λ s. passed e clock (room_if (is_active ss s) room) fed s) o)
+delivered_notified numbers e clock ss None mode kept h = append-nil numbers ∙ h
+delivered_notified numbers e clock ss (Some s) mode kept h = given_to numbers e clock (delivery e clock (least_room e ss) ss) ss s s.is_open mode kept h
 
 delivered_keep : (numbers : List ℕ) (place : ℕ) (e : Terms) (clock : ℕ) (ss : List Session) → e.mode ≡ Buffer → Each (Kept e) ss → At numbers place ss
     → At (numbers ++ numbers_of e clock ss (opened_as place ss)) place (delivered e clock ss)
@@ -284,8 +284,8 @@ delivered_keep numbers place e clock ss mode kept h =
     let room = least_room e ss in
     let fed = delivery e clock room ss in
     let f : Session → Session = λ s. passed e clock (room_if (is_active ss s) room) fed s in
-    let P : Option Session → Type 0 = Told (numbers ++ numbers_of e clock ss (opened_as place ss)) in
-    subst P (sym (opened_mapped f place ss)) (delivered_told numbers e clock ss (opened_as place ss) mode (kept_as e place ss kept) h)
+    let P : Option Session → Type 0 = Reported (numbers ++ numbers_of e clock ss (opened_as place ss)) in
+    subst P (sym (opened_mapped f place ss)) (delivered_notified numbers e clock ss (opened_as place ss) mode (kept_as e place ss kept) h)
 
 sessions_keep : (numbers : List ℕ) (place : ℕ) (is_closed : Bool) (e : Terms) (index : ℕ) (item : Item) (m : Route)
     → e.mode ≡ Buffer → Each (Kept e) (taken_by e index item m).sessions → At numbers place m.sessions
@@ -302,17 +302,17 @@ sessions_keep numbers place false e index item m mode kept h =
     (delivered_keep numbers place e clock ss mode kept
     (taken_keep numbers place e index clock item (advanced e clock m.sessions) mode (advanced_keep numbers place e clock m.sessions h))))
 
-all_told : (e : Terms) (index : ℕ) (items : List Item) (place : ℕ)
+all_reported : (e : Terms) (index : ℕ) (items : List Item) (place : ℕ)
     → e.mode ≡ Buffer → At (numbers_delivered e index items place) place (after e index items).sessions
-all_told e index [] place mode = refl
-all_told e index (item ∷ items) place mode =
+all_reported e index [] place mode = refl
+all_reported e index (item ∷ items) place mode =
     let m = after e index items in
     sessions_keep (numbers_delivered e index items place) place m.is_closed e index item m mode (taken_all_keep e index items item mode)
-    (all_told e index items place mode)
+    (all_reported e index items place mode)
 
 pub delivers_all : DeliversAll
 delivers_all e index items place s mode is =
-    let P : Option Session → Type 0 = Told (numbers_delivered e index items place) in subst P is (all_told e index items place mode)
+    let P : Option Session → Type 0 = Reported (numbers_delivered e index items place) in subst P is (all_reported e index items place mode)
 
 -- a standby delivers nothing
 none_by : (terms : publisher.Terms) (time : ℕ) (past : Past) → terms.mode ≡ Buffer → numbers_in terms time None past ≡ []

@@ -2,13 +2,13 @@
 use Rattle.std.proofs.Common.{◌≡◌, ◌⊎◌, inl, inr, ℕ, Bool, true, false, cond, ◌==◌, ◌&&◌, not, Option, None, Some, List, [], ◌∷◌, ◌++◌, map, find}
 use Rattle.std.proofs.Common.{Result, Ok, Err, refl, sym, ap, ◌∙◌, append_assoc}
 use Rattle.std.proofs.lemmas.List.{append-nil}
-use Rattle.srt_seq.specs.declared.shared.Peer.{Peer}
-use Rattle.srt_seq.specs.declared.shared.Mode.{Mode}
-use Rattle.srt_seq.specs.declared.shared.Mode.TheVariants.{Live, Buffer}
-use Rattle.srt_seq.specs.declared.shared.Callers.{Callers}
-use Rattle.srt_seq.specs.declared.shared.Callers.TheVariants.{Draft, Libsrt}
-use Rattle.srt_seq.specs.Terms.{Terms}
-use Rattle.srt_seq.specs.Items.{Item, Received, Tick, Close}
+use Rattle.srt_types.specs.declared.shared.Peer.{Peer}
+use Rattle.srt_types.specs.declared.shared.Mode.{Mode}
+use Rattle.srt_types.specs.declared.shared.Mode.TheVariants.{Live, Buffer}
+use Rattle.srt_types.specs.declared.shared.Callers.{Callers}
+use Rattle.srt_types.specs.declared.shared.Callers.TheVariants.{Draft, Libsrt}
+use Rattle.srt_types.specs.Terms.{Terms}
+use Rattle.srt_types.specs.Items.{Item, Received, Tick, Close}
 use Rattle.srt_packet.specs.declared.reading.PacketFault.{PacketFault}
 use Rattle.srt_packet.specs.Grammar.{Packet, Body}
 use Rattle.srt_packet.specs.Reading.{packet_in}
@@ -24,7 +24,7 @@ use Rattle.srt_route.specs.Route.{Route, after, arrived, clock_after, concluded,
 use Rattle.srt_route.specs.Route.{is_for, is_of, least_room, packet_taken, passed_by, read_taken, room_if, session_opened, sessions_at, taken, taken_by}
 use Rattle.srt_route.specs.Route.{drain_end, drain_of, finished, finished_at, gives_some, has_whole_file, is_file_over, packet_end, settled_by}
 use Rattle.srt_route.specs.Route.{took_if, took_packet, without_destination}
-use Rattle.srt_route.specs.Sessions.{is_draining, open_publishers, settled, settled_at}
+use Rattle.srt_route.specs.Sessions.{is_draining, is_recent, open_publishers, settled, settled_at}
 use Rattle.srt_route.specs.Queues.{AreContinued, AreSome, HasOpened, IsContinued, QueuesGoOn, delivery_by, payload_in, queue_in}
 use Rattle.srt_route.proofs.stored.Seats.{took_queue}
 
@@ -244,38 +244,41 @@ sent_queue : (ns : List ℕ) (s : Sending) → (subscriber.sent_each ns s).queue
 sent_queue [] s = refl
 sent_queue (n ∷ ns) s = sent_queue ns (sent n s)
 
-presumed_queue : (time : ℕ) (m : subscriber.Subscribing) → (subscriber.presumed time m).sending.queue ≡ m.sending.queue
-presumed_queue time m = by (subscriber.resend_due time m)
+presumed_queue : (terms : subscriber.Terms) (time : ℕ) (recent : Bool) (m : subscriber.Subscribing)
+    → (subscriber.presumed terms time recent m).sending.queue ≡ m.sending.queue
+presumed_queue terms time recent m = by (subscriber.resend_due terms time recent m)
   where
-    by : (b : Bool) → (cond b (record m { sending = all_lost m.sending }) m).sending.queue ≡ m.sending.queue
+    by : (b : Bool)
+        → (cond b (record m { sending = all_lost m.sending; notes = subscriber.Presumed ∷ m.notes }) m).sending.queue ≡ m.sending.queue
     by true = refl
     by false = refl
 
-past_reported : (draining : Bool) (terms : Agreed) (time : ℕ) (past : Past) → queue_in (reported_past draining terms time past) ≡ queue_in past
-past_reported draining terms time (Publishes p) = refl
-past_reported draining terms time (Subscribes m) =
-    let t = subscriber.prepared terms.subscriber time m in
+past_reported : (draining : Bool) (terms : Agreed) (time : ℕ) (recent : Bool) (past : Past)
+    → queue_in (reported_past draining terms time recent past) ≡ queue_in past
+past_reported draining terms time recent (Publishes p) = refl
+past_reported draining terms time recent (Subscribes m) =
+    let t = subscriber.prepared terms.subscriber time recent m in
     let count = subscriber.resends terms.subscriber.resend_percent subscriber.most t.notes in
     sent_queue
     (subscriber.again_of count t.sending
     ++ subscriber.new_of subscriber.most count (subscriber.flow_window terms.subscriber.window t.notes) t.sending)
     t.sending
-    ∙ presumed_queue time (subscriber.renewed terms.subscriber time m)
+    ∙ presumed_queue terms.subscriber time recent (subscriber.renewed terms.subscriber time m)
 
 pub reports_queues : (e : Terms) (clock : ℕ) → KeepsQueues (reported e clock)
 reports_queues e clock =
     record { slot = λ s. slot_of s s.is_open; generation = λ s. generation_is s s.is_open; queue = λ s. queue_of s s.is_open }
   where
-    slot_of : (s : Session) (b : Bool) → (reported_at e b (time_in s clock) s).slot ≡ s.slot
+    slot_of : (s : Session) (b : Bool) → (reported_at e b clock s).slot ≡ s.slot
     slot_of s true = refl
     slot_of s false = refl
 
-    generation_is : (s : Session) (b : Bool) → (reported_at e b (time_in s clock) s).generation ≡ s.generation
+    generation_is : (s : Session) (b : Bool) → (reported_at e b clock s).generation ≡ s.generation
     generation_is s true = refl
     generation_is s false = refl
 
-    queue_of : (s : Session) (b : Bool) → queue_in (reported_at e b (time_in s clock) s).past ≡ queue_in s.past
-    queue_of s true = past_reported (is_draining s) (terms_of e s) (time_in s clock) s.past
+    queue_of : (s : Session) (b : Bool) → queue_in (reported_at e b clock s).past ≡ queue_in s.past
+    queue_of s true = past_reported (is_draining s) (terms_of e s) (time_in s clock) (is_recent s clock) s.past
     queue_of s false = refl
 
 pub finishes_queues : (e : Terms) (clock : ℕ) (over : Bool) → KeepsQueues (finished e clock over)

@@ -2,12 +2,12 @@
 use Rattle.std.proofs.Common.{◌≡◌, ℕ, ◌+◌, ◌%◌, ◌^◌, ◌<◌, ◌≤◌, Bool, true, false, cond, List, [], ◌∷◌, ◌++◌, length, map, ap, ◌∙◌, arith}
 use Rattle.std.specs.Prelude.{All}
 use Rattle.std.proofs.lemmas.List.Elements.{All-nil, All-cons}
-use Rattle.srt_seq.specs.Words.{word, words}
-use Rattle.srt_seq.specs.Counts.{message_number, ack_number}
-use Rattle.srt_seq.specs.declared.numbers.Seq31.{Seq31}
-use Rattle.srt_seq.specs.declared.numbers.Msg26.{Msg26}
-use Rattle.srt_seq.specs.Runs.{Run}
-use Rattle.srt_seq.proofs.WordBytes.{length_of_words}
+use Rattle.srt_types.specs.Words.{word, words}
+use Rattle.srt_types.specs.Counts.{message_number, ack_number}
+use Rattle.srt_types.specs.declared.numbers.Seq31.{Seq31}
+use Rattle.srt_types.specs.declared.numbers.Msg26.{Msg26}
+use Rattle.srt_types.specs.Runs.{Run}
+use Rattle.srt_types.proofs.WordBytes.{length_of_words}
 use Rattle.srt_packet.specs.declared.writing.Packet.{Packet}
 use Rattle.srt_packet.specs.declared.writing.Body.TheVariants as out
 use Rattle.srt_packet.specs.Text.{text}
@@ -15,7 +15,7 @@ use Rattle.srt_packet.specs.Sent.{CanBeSent}
 use Rattle.srt_packet.specs.Reading.{packet_in}
 use Rattle.srt_packet.proofs.Sent.{sent_is_read}
 use Rattle.srt_hs.specs.Text.{answer_text}
-use Rattle.srt_seq.specs.Window.{number_word}
+use Rattle.srt_types.specs.Window.{number_word}
 use Rattle.srt_pub.specs.Publishing as publisher
 use Rattle.srt_pub.specs.Says.{losses_said, says}
 use Rattle.srt_sub.specs.Subscribing as subscriber

@@ -5,18 +5,18 @@ use Rattle.std.proofs.Common.{map, length, min, Result, Ok, Err, refl, ap, subst
 use Rattle.std.specs.Prelude.{⊤, IfSome, IfOk, find, filter_map, take_while, slice_get, drop, int_le, pos, ℤ, nat_le, nat_lt}
 use Rattle.std.specs.List.{flat_map}
 use Rattle.std.proofs.lemmas.List.{length-take, length-drop}
-use Rattle.srt_seq.specs.Words.{word_at}
-use Rattle.srt_seq.specs.declared.shared.Callers.{Callers}
-use Rattle.srt_seq.specs.declared.shared.Callers.TheVariants.{Draft, Libsrt}
-use Rattle.srt_seq.specs.declared.shared.Peer.{Peer}
-use Rattle.srt_seq.specs.declared.shared.Mode.{Mode}
-use Rattle.srt_seq.specs.declared.shared.Mode.TheVariants.{Live, Buffer}
-use Rattle.srt_seq.specs.declared.shared.Role.{Role}
-use Rattle.srt_seq.specs.declared.shared.Role.TheVariants.{Publish, Request}
-use Rattle.srt_seq.specs.Window.{in_window}
-use Rattle.srt_seq.specs.Runs.{Range, Run, runs, numbers_from, span}
-use Rattle.srt_seq.specs.Terms.{Terms}
-use Rattle.srt_seq.specs.Items.{Item, Received, Tick, Close}
+use Rattle.srt_types.specs.Words.{word_at}
+use Rattle.srt_types.specs.declared.shared.Callers.{Callers}
+use Rattle.srt_types.specs.declared.shared.Callers.TheVariants.{Draft, Libsrt}
+use Rattle.srt_types.specs.declared.shared.Peer.{Peer}
+use Rattle.srt_types.specs.declared.shared.Mode.{Mode}
+use Rattle.srt_types.specs.declared.shared.Mode.TheVariants.{Live, Buffer}
+use Rattle.srt_types.specs.declared.shared.Role.{Role}
+use Rattle.srt_types.specs.declared.shared.Role.TheVariants.{Publish, Request}
+use Rattle.srt_types.specs.Window.{in_window}
+use Rattle.srt_types.specs.Runs.{Range, Run, runs, numbers_from, span}
+use Rattle.srt_types.specs.Terms.{Terms}
+use Rattle.srt_types.specs.Items.{Item, Received, Tick, Close}
 use Rattle.srt_packet.specs.declared.reading.PacketFault.{PacketFault}
 use Rattle.srt_packet.specs.Grammar.{Packet, Body, Spells, SpellsBody, Data, Handshake, KeepAlive, Ack, Nak, CongestionWarning, Shutdown}
 use Rattle.srt_packet.specs.Grammar.{AckAck, DropRequest, PeerError, UserDefined}
@@ -33,9 +33,9 @@ use Rattle.srt_route.specs.Past.{Past, Publishes, Subscribes, Agreed, Report, To
 use Rattle.srt_route.specs.Past.{answers_to, loses_window, payload_of, payloads_of, passed_past, reports_of, reported_past}
 use Rattle.srt_route.specs.Sessions.{Session, is_publisher, is_subscriber, active, is_active, is_open_in, by_slot}
 use Rattle.srt_route.specs.Sessions.{time_in, stamp_in, is_idle, is_over, terms_of, aged_at, aged, advanced, marked, marked_if, takes_over}
-use Rattle.srt_route.specs.Sessions.{passed_at, passed, reported_at}
+use Rattle.srt_route.specs.Sessions.{is_recent, passed_at, passed, reported_at}
 use Rattle.srt_route.specs.Route.{Output, Answers, Says, Ends, Reply, Taken, closed, ended, shutdown_to, decision, is_of, heard_if, opens}
-use Rattle.srt_route.specs.Route.{finished, finished_at, has_whole_file, idle_told, is_file_over, lost_told, packet_end, served, served_at, told_if}
+use Rattle.srt_route.specs.Route.{finished, finished_at, has_whole_file, idle_notified, is_file_over, lost_notified, packet_end, served, served_at, notified_if}
 use Rattle.srt_route.specs.Route.{drain_end, drain_of, gives_some, settled_by, took_packet}
 use Rattle.srt_route.specs.Sessions.{is_draining, open_publishers, settled as session_settled, settled_at, speaks, time_end, with_end}
 use Rattle.srt_route.specs.Route.{considered, concluded, is_for, took_if, said_by, answered_by, arrived, concludes, without_destination}
@@ -130,10 +130,10 @@ requested_sound width q r h = by (nat_lt q.first (2 ^ 31) && nat_lt q.last (2 ^ 
     by true = h
     by false = h
 
-confirmed_sound : (time : ℕ) (o : Option publisher.Full) (p : publisher.Publishing)
-    → Each HasPayload p.receiving.arrivals → Each HasPayload (publisher.confirmed_at time o p).receiving.arrivals
-confirmed_sound time None p h = h
-confirmed_sound time (Some full) p h = h
+confirmed_sound : (time stamp : ℕ) (o : Option publisher.Full) (p : publisher.Publishing)
+    → Each HasPayload p.receiving.arrivals → Each HasPayload (publisher.confirmed_at time stamp o p).receiving.arrivals
+confirmed_sound time stamp None p h = h
+confirmed_sound time stamp (Some full) p h = h
 
 request_sound : (mode : Mode) (terms : publisher.Terms) (q : Range) (p : publisher.Publishing)
     → Each HasPayload p.receiving.arrivals → Each HasPayload (publisher.with_request mode terms q p).receiving.arrivals
@@ -146,9 +146,10 @@ publisher_took : (terms : publisher.Terms) (time stamp : ℕ) (heard : to_publis
 publisher_took terms time stamp (to_publisher.Data number encryption payload) p one h = by (encryption == 0)
   where
     by : (b : Bool) → Each HasPayload (cond b (publisher.with_data terms time stamp number payload p) p).receiving.arrivals
-    by true = with_number_sound (in_window number p.receiving.front terms.width) payload (publisher.due_in terms.mode terms time stamp) p.receiving one h
+    by true = with_number_sound (in_window number p.receiving.front terms.width) payload
+        (publisher.due_in terms.mode terms (publisher.correction_of terms p.notes) time stamp) p.receiving one h
     by false = h
-publisher_took terms time stamp (to_publisher.AckAck number) p one h = confirmed_sound time (publisher.confirmed_by number p.notes) p h
+publisher_took terms time stamp (to_publisher.AckAck number) p one h = confirmed_sound time stamp (publisher.confirmed_by number p.notes) p h
 publisher_took terms time stamp (to_publisher.DropRequest range) p one h = request_sound terms.mode terms range p h
 publisher_took terms time stamp to_publisher.Other p one h = h
 
@@ -181,7 +182,7 @@ acked_said mark = by (mark == 0)
 
 heard_said : (heard : to_subscriber.Heard) → Each IsSubscribersReport (subscriber.answers heard)
 heard_said (to_subscriber.Ack mark number more) = acked_said mark
-heard_said (to_subscriber.Nak asked) = tt
+heard_said (to_subscriber.Nak requested) = tt
 heard_said to_subscriber.Data = tt
 heard_said to_subscriber.Other = tt
 
@@ -236,8 +237,8 @@ nak_said false (r ∷ rs) few = ((omega arith, omega (arith, few)), tt)
 
 naks_said : (all : Bool) (width seen : ℕ) (r : Receiving) → Each IsPublishersReport (publisher.naks_of all width seen r)
 naks_said all width seen r =
-    nak_said all (publisher.runs_said (publisher.gaps_told all width seen r))
-    (omega (arith, length-take 32 (runs (publisher.gaps_told all width seen r))))
+    nak_said all (publisher.runs_said (publisher.gaps_reported all width seen r))
+    (omega (arith, length-take 32 (runs (publisher.gaps_reported all width seen r))))
 
 acks_said : (terms : publisher.Terms) (full light : Bool) (point room : ℕ) (notes : List publisher.Note)
     → Each IsPublishersReport (publisher.ack_of full light (publisher.full_ack terms point room notes) (publisher.LightAck point))
@@ -278,10 +279,13 @@ media_said again (n ∷ ns) queue h =
     each_append IsSubscribersReport (subscriber.media_of again n (slice_get queue n)) (subscriber.media again ns queue)
     (media_one_said again n (slice_get queue n) (each_at KeepsPayload queue n h)) (media_said again ns queue h)
 
-presumed_sound : (time : ℕ) (s : subscriber.Subscribing) → Each KeepsPayload s.sending.queue → Each KeepsPayload (subscriber.presumed time s).sending.queue
-presumed_sound time s h = by (subscriber.resend_due time s)
+presumed_sound : (terms : subscriber.Terms) (time : ℕ) (recent : Bool) (s : subscriber.Subscribing)
+    → Each KeepsPayload s.sending.queue → Each KeepsPayload (subscriber.presumed terms time recent s).sending.queue
+presumed_sound terms time recent s h = by (subscriber.resend_due terms time recent s)
   where
-    by : (b : Bool) → Each KeepsPayload (cond b (record s { sending = Rattle.srt_sendbuf.specs.Sending.all_lost s.sending }) s).sending.queue
+    by : (b : Bool)
+        → Each KeepsPayload
+        (cond b (record s { sending = Rattle.srt_sendbuf.specs.Sending.all_lost s.sending; notes = subscriber.Presumed ∷ s.notes }) s).sending.queue
     by true = h
     by false = h
 
@@ -300,41 +304,42 @@ due_said places count terms s h =
     let old_ones = subscriber.media true (subscriber.again_of count s.sending) s.sending.queue in
     let new_ones = subscriber.media false (subscriber.new_of places count (subscriber.flow_window terms.window s.notes) s.sending) s.sending.queue in
     each_append IsSubscribersReport (drops ++ old_ones) new_ones
-    (each_append IsSubscribersReport drops old_ones (drops_said (subscriber.untold s.notes))
+    (each_append IsSubscribersReport drops old_ones (drops_said (subscriber.unreported s.notes))
     (media_said true (subscriber.again_of count s.sending) s.sending.queue h))
     (media_said false (subscriber.new_of places count (subscriber.flow_window terms.window s.notes) s.sending) s.sending.queue h)
 
-subscriber_said : (terms : subscriber.Terms) (time : ℕ) (s : subscriber.Subscribing)
-    → Each KeepsPayload s.sending.queue → Each IsSubscribersReport (subscriber.reports terms time s)
-subscriber_said terms time s h =
-    let t = subscriber.prepared terms time s in
+subscriber_said : (terms : subscriber.Terms) (time : ℕ) (recent : Bool) (s : subscriber.Subscribing)
+    → Each KeepsPayload s.sending.queue → Each IsSubscribersReport (subscriber.reports terms time recent s)
+subscriber_said terms time recent s h =
+    let t = subscriber.prepared terms time recent s in
     let count = subscriber.resends terms.resend_percent subscriber.most t.notes in
     let due = subscriber.due_of subscriber.most count terms t in
     each_append IsSubscribersReport due (subscriber.keep_alives time due t.notes)
-    (due_said subscriber.most count terms t (presumed_sound time (subscriber.renewed terms time s) h)) (idle_said time due t.notes)
+    (due_said subscriber.most count terms t (presumed_sound terms time recent (subscriber.renewed terms time s) h)) (idle_said time due t.notes)
 
-past_said : (terms : Agreed) (time : ℕ) (past : Past) → IsSoundPast past → Each IsSaidReport (reports_of terms time past)
-past_said terms time (Publishes p) h =
+past_said : (terms : Agreed) (time : ℕ) (recent : Bool) (past : Past) → IsSoundPast past → Each IsSaidReport (reports_of terms time recent past)
+past_said terms time recent (Publishes p) h =
     each_mapped IsPublishersReport IsSaidReport ToPublisher (λ x one. one) (publisher.reports terms.publisher time p)
     (publisher_said terms.publisher time p)
-past_said terms time (Subscribes s) h =
-    each_mapped IsSubscribersReport IsSaidReport ToSubscriber (λ x one. one) (subscriber.reports terms.subscriber time s)
-    (subscriber_said terms.subscriber time s h)
+past_said terms time recent (Subscribes s) h =
+    each_mapped IsSubscribersReport IsSaidReport ToSubscriber (λ x one. one) (subscriber.reports terms.subscriber time recent s)
+    (subscriber_said terms.subscriber time recent s h)
 
 sent_queue : (ns : List ℕ) (s : Sending) → Each KeepsPayload s.queue → Each KeepsPayload (subscriber.sent_each ns s).queue
 sent_queue [] s h = h
 sent_queue (n ∷ ns) s h = sent_queue ns (sent_one n s) h
 
-past_reported : (draining : Bool) (terms : Agreed) (time : ℕ) (past : Past) → IsSoundPast past → IsSoundPast (reported_past draining terms time past)
-past_reported true terms time (Publishes p) h = h
-past_reported false terms time (Publishes p) h = h
-past_reported draining terms time (Subscribes s) h =
-    let t = subscriber.prepared terms.subscriber time s in
+past_reported : (draining : Bool) (terms : Agreed) (time : ℕ) (recent : Bool) (past : Past)
+    → IsSoundPast past → IsSoundPast (reported_past draining terms time recent past)
+past_reported true terms time recent (Publishes p) h = h
+past_reported false terms time recent (Publishes p) h = h
+past_reported draining terms time recent (Subscribes s) h =
+    let t = subscriber.prepared terms.subscriber time recent s in
     let count = subscriber.resends terms.subscriber.resend_percent subscriber.most t.notes in
     sent_queue
     (subscriber.again_of count t.sending
     ++ subscriber.new_of subscriber.most count (subscriber.flow_window terms.subscriber.window t.notes) t.sending)
-    t.sending (presumed_sound time (subscriber.renewed terms.subscriber time s) h)
+    t.sending (presumed_sound terms.subscriber time recent (subscriber.renewed terms.subscriber time s) h)
 
 -- sessions
 aged_at_sound : (e : Terms) (lives : Bool) (time : ℕ) (s : Session) → IsSound s → IsSound (aged_at e lives time s)
@@ -366,32 +371,36 @@ passed_at_sound : (e : Terms) (here : Bool) (time : ℕ) (room : Option ℕ) (xs
 passed_at_sound e true time room xs s all h = record { past = past_passed (terms_of e s) time room xs s.past all h.past; answer = h.answer }
 passed_at_sound e false time room xs s all h = h
 
-reported_at_sound : (e : Terms) (here : Bool) (time : ℕ) (s : Session) → IsSound s → IsSound (reported_at e here time s)
-reported_at_sound e true time s h = record { past = past_reported (is_draining s) (terms_of e s) time s.past h.past; answer = h.answer }
-reported_at_sound e false time s h = h
+reported_at_sound : (e : Terms) (here : Bool) (clock : ℕ) (s : Session) → IsSound s → IsSound (reported_at e here clock s)
+reported_at_sound e true clock s h =
+    record { past = past_reported (is_draining s) (terms_of e s) (time_in s clock) (is_recent s clock) s.past h.past; answer = h.answer }
+reported_at_sound e false clock s h = h
 
 finished_sound : (whole : Bool) (e : Terms) (clock : ℕ) (s : Session) → IsSound s → IsSound (finished_at whole e clock s)
 finished_sound true e clock s h = record { past = h.past; answer = h.answer }
-finished_sound false e clock s h = reported_at_sound e s.is_open (time_in s clock) s h
+finished_sound false e clock s h = reported_at_sound e s.is_open clock s h
 
 said_by_session : (time : ℕ) (s : Session) (xs : List Report) → Each IsSaidReport xs → Each IsSaidReply (map (said_by time s) xs)
 said_by_session time s xs h = each_mapped IsSaidReport IsSaidReply (said_by time s) (λ x one. one) xs h
 
-packets_said : (e : Terms) (here : Bool) (time : ℕ) (s : Session) → IsSound s → Each IsSaidReply (packets_at e here time s)
-packets_said e true time s h = said_by_session time s (reports_of (terms_of e s) time s.past) (past_said (terms_of e s) time s.past h.past)
-packets_said e false time s h = tt
+packets_said : (e : Terms) (here : Bool) (clock : ℕ) (s : Session) → IsSound s → Each IsSaidReply (packets_at e here clock s)
+packets_said e true clock s h =
+    let time = time_in s clock in
+    let recent = is_recent s clock in
+    said_by_session time s (reports_of (terms_of e s) time recent s.past) (past_said (terms_of e s) time recent s.past h.past)
+packets_said e false clock s h = tt
 
 sound_by_slot : (e : Terms) (ss : List Session) → Each IsSound ss → Each IsSound (by_slot e ss)
 sound_by_slot e ss h = each_picked IsSound (λ slot. find (is_open_in slot) ss) (λ slot. each_found IsSound (is_open_in slot) ss h) (numbers_from 0 e.sessions)
 
 all_packets_said : (e : Terms) (clock : ℕ) (test : Session → Bool) (ss : List Session) → Each IsSound ss → Each IsSaidReply (packets_where e clock test ss)
 all_packets_said e clock test ss h =
-    each_flat IsSound IsSaidReply (λ s. packets_at e (test s) (time_in s clock) s)
-    (λ s one. packets_said e (test s) (time_in s clock) s one) (by_slot e ss) (sound_by_slot e ss h)
+    each_flat IsSound IsSaidReply (λ s. packets_at e (test s) clock s)
+    (λ s one. packets_said e (test s) clock s one) (by_slot e ss) (sound_by_slot e ss h)
 
 served_said : (whole : Bool) (e : Terms) (clock : ℕ) (s : Session) → IsSound s → Each IsSaidReply (served_at whole e clock s)
 served_said true e clock s h = (tt, tt)
-served_said false e clock s h = packets_said e (is_subscriber s) (time_in s clock) s h
+served_said false e clock s h = packets_said e (is_subscriber s) clock s h
 
 all_served_said : (e : Terms) (clock : ℕ) (over : Bool) (ss : List Session) → Each IsSound ss → Each IsSaidReply (served e clock over ss)
 all_served_said e clock over ss h =
@@ -403,16 +412,16 @@ record IsSoundTaken (t : Taken) : Type 0 where
   sessions : Each IsSound t.sessions
   answers : Each IsSaidReply t.answers
 
-told_if_said : (callers : Callers) (ends : Bool) (clock : ℕ) (s : Session) → Each IsSaidReply (told_if callers ends clock s)
-told_if_said Draft ends clock s = tt
-told_if_said Libsrt true clock s = (tt, tt)
-told_if_said Libsrt false clock s = tt
+notified_if_said : (callers : Callers) (ends : Bool) (clock : ℕ) (s : Session) → Each IsSaidReply (notified_if callers ends clock s)
+notified_if_said Draft ends clock s = tt
+notified_if_said Libsrt true clock s = (tt, tt)
+notified_if_said Libsrt false clock s = tt
 
 answered_said : (e : Terms) (clock : ℕ) (body : Body) (o : Option Session) → Each IsSaidReply (answered_by e clock body o)
 answered_said e clock body None = tt
 answered_said e clock body (Some s) =
-    each_append IsSaidReply (lost_told e clock body s) (map (said_by (time_in s clock) s) (answers_to s.conclusion.initial body s.past))
-    (told_if_said e.rules.callers (loses_window (terms_of e s) s.conclusion.initial body s.past) clock s)
+    each_append IsSaidReply (lost_notified e clock body s) (map (said_by (time_in s clock) s) (answers_to s.conclusion.initial body s.past))
+    (notified_if_said e.rules.callers (loses_window (terms_of e s) s.conclusion.initial body s.past) clock s)
     (said_by_session (time_in s clock) s (answers_to s.conclusion.initial body s.past) (answers_said s.conclusion.initial body s.past))
 
 arrived_sound : (e : Terms) (index clock : ℕ) (peer : Peer) (p : Packet) (ss : List Session)
@@ -547,11 +556,11 @@ settled_sound Libsrt e clock given ss h =
     (each_mapped IsSound IsSound (session_settled e given clock) (λ s sound. settled_at_sound s.drains e given clock s sound) ss h)
 
 -- the packets sent as time advances
-silence_said : (e : Terms) (clock : ℕ) (ss : List Session) → Each IsSaidReply (flat_map (λ s. told_if e.rules.callers (is_idle s clock) clock s) ss)
+silence_said : (e : Terms) (clock : ℕ) (ss : List Session) → Each IsSaidReply (flat_map (λ s. notified_if e.rules.callers (is_idle s clock) clock s) ss)
 silence_said e clock [] = tt
 silence_said e clock (s ∷ ss) =
-    each_append IsSaidReply (told_if e.rules.callers (is_idle s clock) clock s)
-    (flat_map (λ s. told_if e.rules.callers (is_idle s clock) clock s) ss) (told_if_said e.rules.callers (is_idle s clock) clock s)
+    each_append IsSaidReply (notified_if e.rules.callers (is_idle s clock) clock s)
+    (flat_map (λ s. notified_if e.rules.callers (is_idle s clock) clock s) ss) (notified_if_said e.rules.callers (is_idle s clock) clock s)
     (silence_said e clock ss)
 
 -- an event
@@ -608,7 +617,7 @@ replies_at_said false e index items item =
     let clock = clock_after item m in
     let ss = passed_by e index item m in
     let sound = passed_by_sound e index items item (after_sound e index items) in
-    let idle = idle_told e clock m.sessions in
+    let idle = idle_notified e clock m.sessions in
     let first = (taken_by e index item m).answers in
     let second = packets_where e clock speaks ss in
     let third = served e clock (is_file_over e ss) ss in

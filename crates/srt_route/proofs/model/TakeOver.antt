@@ -6,17 +6,17 @@ use Rattle.std.specs.Prelude.{⊤, filter, filter_map, nat_le, nat_lt, not, ◌|
 use Rattle.std.specs.Option.{option_or, option_map}
 use Rattle.std.proofs.lemmas.Bool.{and_parts, and_from, eqb-true, eq-eqb, cases_eq, false_from_ne_true}
 use Rattle.std.proofs.lemmas.Bool.Decides.{nat_tests}
-use Rattle.srt_seq.specs.declared.shared.Peer.{Peer}
-use Rattle.srt_seq.specs.declared.shared.Mode.{Mode}
-use Rattle.srt_seq.specs.Terms.{Terms}
-use Rattle.srt_seq.specs.Items.{Item, Received, Tick, Close}
+use Rattle.srt_types.specs.declared.shared.Peer.{Peer}
+use Rattle.srt_types.specs.declared.shared.Mode.{Mode}
+use Rattle.srt_types.specs.Terms.{Terms}
+use Rattle.srt_types.specs.Items.{Item, Received, Tick, Close}
 use Rattle.srt_packet.specs.declared.reading.PacketFault.{PacketFault}
 use Rattle.srt_packet.specs.Grammar.{Packet}
 use Rattle.srt_packet.specs.Reading.{packet_in}
 use Rattle.srt_route.specs.declared.refusals.RefusalCause.{RefusalCause}
 use Rattle.srt_route.specs.declared.refusals.RefusalCause.TheVariants as causes
-use Rattle.srt_seq.specs.Runs.{least_from, numbers_from}
-use Rattle.srt_seq.specs.declared.shared.Mode.TheVariants.{Live, Buffer}
+use Rattle.srt_types.specs.Runs.{least_from, numbers_from}
+use Rattle.srt_types.specs.declared.shared.Mode.TheVariants.{Live, Buffer}
 use Rattle.srt_recvbuf.specs.Receiving.{Request, Receiving, is_dropped, is_requested, is_received, passed as passed_over}
 use Rattle.srt_pub.specs.Publishing as publisher
 use Rattle.srt_route.specs.declared.conclusion.Conclusion.{Conclusion}
@@ -33,8 +33,8 @@ use Rattle.srt_route.specs.Route.{settled_by, took_packet}
 use Rattle.srt_route.specs.Sessions.{settled, settled_at, terms_of, time_end, with_end}
 use Rattle.srt_route.specs.Past.{has_left}
 use Rattle.srt_route.proofs.model.Found.{for_open}
-use Rattle.srt_seq.specs.declared.shared.Callers.{Callers}
-use Rattle.srt_seq.specs.declared.shared.Callers.TheVariants.{Draft, Libsrt}
+use Rattle.srt_types.specs.declared.shared.Callers.{Callers}
+use Rattle.srt_types.specs.declared.shared.Callers.TheVariants.{Draft, Libsrt}
 use Rattle.srt_route.specs.Route.{delivery, room_if, delivered, taken_by, passed_by, Route, sessions_at, clock_after, after}
 
 -- no older session is open in an open session's slot
@@ -527,18 +527,18 @@ pub passed_keeps : (e : Terms) (here : Bool) (time : ℕ) (room : Option ℕ) (f
 passed_keeps e true time room fed s = refl
 passed_keeps e false time room fed s = refl
 
-pub reported_keeps : (e : Terms) (here : Bool) (time : ℕ) (s : Session) → is_publisher (reported_at e here time s) ≡ is_publisher s
-reported_keeps e true time s = refl
-reported_keeps e false time s = refl
+pub reported_keeps : (e : Terms) (here : Bool) (clock : ℕ) (s : Session) → is_publisher (reported_at e here clock s) ≡ is_publisher s
+reported_keeps e true clock s = refl
+reported_keeps e false clock s = refl
 
 passed_marks : (e : Terms) (here : Bool) (time : ℕ) (room : Option ℕ) (fed : List (List ℕ)) (s : Session)
     → (passed_at e here time room fed s).took_over ≡ s.took_over
 passed_marks e true time room fed s = refl
 passed_marks e false time room fed s = refl
 
-reported_marks : (e : Terms) (here : Bool) (time : ℕ) (s : Session) → (reported_at e here time s).took_over ≡ s.took_over
-reported_marks e true time s = refl
-reported_marks e false time s = refl
+reported_marks : (e : Terms) (here : Bool) (clock : ℕ) (s : Session) → (reported_at e here clock s).took_over ≡ s.took_over
+reported_marks e true clock s = refl
+reported_marks e false clock s = refl
 
 -- a delivery and the end of an event change neither the number of open publishers nor which one is active
 pub active_delivered : (e : Terms) (clock : ℕ) (ss : List Session)
@@ -553,7 +553,7 @@ active_delivered e clock ss =
 
 pub active_reported : (e : Terms) (clock : ℕ) (ss : List Session) → active (map (reported e clock) ss) ≡ option_map (reported e clock) (active ss)
 active_reported e clock ss =
-    active_through (reported e clock) (λ s. reported_keeps e s.is_open (time_in s clock) s) (λ s. reported_marks e s.is_open (time_in s clock) s) ss
+    active_through (reported e clock) (λ s. reported_keeps e s.is_open clock s) (λ s. reported_marks e s.is_open clock s) ss
 
 -- a publisher opens only while at most one is open
 reason_left : (a b d : Bool) (x y z : RefusalCause) → cond a (Some x) (cond b (Some y) (cond d (Some z) None)) ≡ None → d ≡ false
@@ -708,7 +708,7 @@ finished_opens_none e clock over s h = by (has_whole_file over s) h
   where
     by : (b : Bool) → is_publisher (finished_at b e clock s) ≡ true → is_publisher s ≡ true
     by true k = absurd (let bad : false ≡ true = k in cc)
-    by false k = sym (reported_keeps e s.is_open (time_in s clock) s) ∙ k
+    by false k = sym (reported_keeps e s.is_open clock s) ∙ k
 
 finished_few : (e : Terms) (clock : ℕ) (over : Bool) (ss : List Session) → AreFew ss → AreFew (map (finished e clock over) ss)
 finished_few e clock over ss few = few_kept (finished e clock over) (finished_opens_none e clock over) ss few

@@ -2,7 +2,7 @@
 use Rattle.std.proofs.Common.{◌≡◌, ℕ, ◌+◌, ◌-◌, ◌/◌, ◌%◌, ◌^◌, ◌<◌, ◌≤◌, List, [], ◌∷◌, ◌++◌, length, take, drop, get_or, refl, sym, ap, ◌∙◌, arith}
 use Rattle.std.proofs.lemmas.List.{length-append, length-take, length-drop, length-take-le, get_or_append_left, get_or-append_right}
 use Rattle.std.proofs.lemmas.List.{get_or-take, get_or-drop, ext_get_or, drop_at}
-use Rattle.srt_seq.specs.Words.{word_at}
+use Rattle.srt_types.specs.Words.{word_at}
 use Rattle.srt_hs.specs.Grammar.{half_at}
 use Rattle.srt_route.specs.Shifted.{four_bytes, with_word, with_rest}
 use Rattle.srt_route.specs.ShiftLaws.{FourBytesAreTheWord}

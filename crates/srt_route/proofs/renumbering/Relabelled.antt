@@ -1,20 +1,20 @@
 -- A route with the same items, but other sequence numbers, other timestamps or later times.
 use Rattle.std.proofs.Common.{◌≡◌, ℕ, ◌+◌, ◌-◌, Bool, true, false, cond, ◌&&◌, ◌||◌, not, Option, None, Some, List, [], ◌∷◌, ◌++◌, map, max}
 use Rattle.std.proofs.Common.{Result, Ok, Err, refl, sym, ap, ◌∙◌, ◌≤◌, arith}
-use Rattle.std.specs.Prelude.{⊤, find, filter, option_map, nat_le, fold, length, ◌==◌}
+use Rattle.std.specs.Prelude.{⊤, find, filter, option_map, nat_le, nat_lt, fold, length, ◌==◌}
 use Rattle.std.specs.List.{flat_map}
 use Rattle.std.specs.Option.{is_some}
 use Rattle.std.proofs.lemmas.Bool.Decides.{nat_tests}
 use Rattle.std.proofs.lemmas.List.{length-map, map-append}
-use Rattle.srt_seq.specs.declared.shared.Callers.{Callers}
-use Rattle.srt_seq.specs.declared.shared.Callers.TheVariants.{Draft, Libsrt}
-use Rattle.srt_seq.specs.declared.shared.Mode.{Mode}
-use Rattle.srt_seq.specs.declared.shared.Mode.TheVariants.{Live, Buffer}
-use Rattle.srt_seq.specs.declared.shared.Peer.{Peer}
-use Rattle.srt_seq.specs.Lift.{stamped_from}
-use Rattle.srt_seq.specs.Runs.{numbers_from}
-use Rattle.srt_seq.specs.Terms.{Terms}
-use Rattle.srt_seq.specs.Items.{Datagram, Item, Received, Tick, Close}
+use Rattle.srt_types.specs.declared.shared.Callers.{Callers}
+use Rattle.srt_types.specs.declared.shared.Callers.TheVariants.{Draft, Libsrt}
+use Rattle.srt_types.specs.declared.shared.Mode.{Mode}
+use Rattle.srt_types.specs.declared.shared.Mode.TheVariants.{Live, Buffer}
+use Rattle.srt_types.specs.declared.shared.Peer.{Peer}
+use Rattle.srt_types.specs.Lift.{stamped_from}
+use Rattle.srt_types.specs.Runs.{numbers_from}
+use Rattle.srt_types.specs.Terms.{Terms}
+use Rattle.srt_types.specs.Items.{Datagram, Item, Received, Tick, Close}
 use Rattle.srt_packet.specs.declared.reading.PacketFault.{PacketFault}
 use Rattle.srt_packet.specs.Grammar.{Packet}
 use Rattle.srt_packet.specs.Reading.{packet_in}
@@ -26,20 +26,21 @@ use Rattle.srt_sub.specs.Heard as to_subscriber
 use Rattle.srt_sub.specs.Subscribing as subscriber
 use Rattle.srt_route.specs.declared.conclusion.Conclusion.{Conclusion}
 use Rattle.srt_route.specs.Past.{Past, Publishes, Subscribes, Agreed, Report, ToSubscriber, took_past, is_shutdown, ends_with, answers_to}
-use Rattle.srt_route.specs.Past.{has_left, reported_past}
+use Rattle.srt_route.specs.Past.{has_left, reported_past, reports_of}
 use Rattle.srt_route.specs.Past.{least_with, loses_window, payloads_of, publisher_end, silence_of}
 use Rattle.srt_route.specs.Sessions.{Session, is_publisher, is_subscriber, open_publishers, active, is_active, is_open_in, by_slot, is_free}
 use Rattle.srt_route.specs.Sessions.{free_slot, generation_of, time_in, stamp_in, is_idle, aged_at, aged, terms_of, took_at, took}
 use Rattle.srt_route.specs.Sessions.{advanced, free_slots, has_failed, is_from, is_silent, is_standby, marked, marked_if, sessions_from, standby}
 use Rattle.srt_route.specs.Sessions.{takeover_us, takes_over, takes_over_after, answered_at_once, passed_at, passed, reports_at, reported_at, reported}
 use Rattle.srt_route.specs.Route.{Route, Taken, Output, Answers, Says, Ends, Reply, clock_after, closes, ended, shutdown_to, closed}
-use Rattle.srt_route.specs.Route.{decided, decision, idle_told, is_crowded, is_reserved, lost_told, told_if}
+use Rattle.srt_route.specs.Route.{decided, decision, idle_notified, is_crowded, is_reserved, lost_notified, notified_if}
 use Rattle.srt_route.specs.Route.{session_opened, with_session, opens, considered, refused, is_of, heard_if, concluded, is_for, took_if}
 use Rattle.srt_route.specs.Route.{said_by, answered_by, arrived, concludes, without_destination, packet_taken, read_taken, taken}
 use Rattle.srt_route.specs.Route.{least_room, delivery_of, delivery, room_if, delivered, packets_at, packets_where, taken_by, passed_by}
-use Rattle.srt_route.specs.Route.{replies_at, replies_to, sessions_at, told_more, after}
+use Rattle.srt_route.specs.Route.{replies_at, replies_to, sessions_at, with_input, after}
 use Rattle.srt_route.specs.Route.{finished, finished_at, has_whole_file, is_file_over, packet_end, sends_files, served, served_at, took_packet}
-use Rattle.srt_route.specs.Sessions.{drains_open, ends_unless, is_draining, is_over, is_over_at, is_same_peer, is_silent_at, number_draining}
+use Rattle.srt_route.specs.Sessions.{drains_open, ends_unless, is_draining, is_over, is_over_at, is_recent, is_same_peer, is_silent_at}
+use Rattle.srt_route.specs.Sessions.{number_draining}
 use Rattle.srt_route.specs.Sessions.{of_libsrt, renewed, session_id, settled, settled_at, silent_end, speaks, takes_over_if, time_end, with_end}
 use Rattle.srt_route.specs.Route.{after_delivery, drain_end, drain_if, drain_of, gives_some, is_some_payload, settled_by}
 use Rattle.srt_route.proofs.model.Standbys.{publishers_through, active_through, is_active_through}
@@ -156,6 +157,9 @@ le_same a b later = by (nat_le (a + later) (b + later)) (nat_le a b) refl refl
 over_at_same : (later : ℕ) (o : Option ℕ) (heard clock : ℕ) → is_over_at (shifted later o) (heard + later) (clock + later) ≡ is_over_at o heard clock
 over_at_same later None heard clock = ap (nat_le 5_000_000) (time_same heard clock later)
 over_at_same later (Some until) heard clock = le_same until clock later
+
+recent_same : (r : Change) (clock : ℕ) (s : Session) → is_recent (changed_session r s) (clock + r.later) ≡ is_recent s clock
+recent_same r clock s = ap (λ n. nat_lt n 1_000_000) (time_same s.heard clock r.later)
 
 ends_over_same : (r : Change) (clock : ℕ) (s : Session) → is_over (changed_session r s) (clock + r.later) ≡ is_over s clock
 ends_over_same r clock s = over_at_same r.later s.drains s.heard clock
@@ -314,11 +318,11 @@ answers_same r initial q p h (Subscribes x) = ap (λ heard. map ToSubscriber (su
 shutdown_same : (r : Change) (clock : ℕ) (s : Session) → shutdown_to (clock + r.later) (changed_session r s) ≡ changed_reply r (shutdown_to clock s)
 shutdown_same r clock s = ap (λ t. record { peer = s.peer; packet = Ends s.conclusion.caller t }) (own_time r clock s)
 
-told_if_same : (r : Change) (callers : Callers) (ends : Bool) (clock : ℕ) (s : Session)
-    → told_if callers ends (clock + r.later) (changed_session r s) ≡ map (changed_reply r) (told_if callers ends clock s)
-told_if_same r Draft ends clock s = refl
-told_if_same r Libsrt true clock s = ap (λ x. x ∷ []) (shutdown_same r clock s)
-told_if_same r Libsrt false clock s = refl
+notified_if_same : (r : Change) (callers : Callers) (ends : Bool) (clock : ℕ) (s : Session)
+    → notified_if callers ends (clock + r.later) (changed_session r s) ≡ map (changed_reply r) (notified_if callers ends clock s)
+notified_if_same r Draft ends clock s = refl
+notified_if_same r Libsrt true clock s = ap (λ x. x ∷ []) (shutdown_same r clock s)
+notified_if_same r Libsrt false clock s = refl
 
 lost_same : (r : Change) (terms : Agreed) (initial : ℕ) (q p : Packet)
     → IsChangedPacket r q p → (past : Past) → loses_window terms (r.initial initial) q.body past ≡ loses_window terms initial p.body past
@@ -326,11 +330,11 @@ lost_same r terms initial q p h (Publishes x) =
     ap (λ heard. publisher.loses_window terms.publisher.mode terms.publisher heard x) (h.publisher_hears initial)
 lost_same r terms initial q p h (Subscribes x) = refl
 
-lost_told_same : (e : Terms) (r : Change) (clock : ℕ) (q p : Packet) → IsChangedPacket r q p → (s : Session)
-    → lost_told e (clock + r.later) q.body (changed_session r s) ≡ map (changed_reply r) (lost_told e clock p.body s)
-lost_told_same e r clock q p h s =
-    ap (λ b. told_if e.rules.callers b (clock + r.later) (changed_session r s)) (lost_same r (terms_of e s) s.conclusion.initial q p h s.past)
-    ∙ told_if_same r e.rules.callers (loses_window (terms_of e s) s.conclusion.initial p.body s.past) clock s
+lost_notified_same : (e : Terms) (r : Change) (clock : ℕ) (q p : Packet) → IsChangedPacket r q p → (s : Session)
+    → lost_notified e (clock + r.later) q.body (changed_session r s) ≡ map (changed_reply r) (lost_notified e clock p.body s)
+lost_notified_same e r clock q p h s =
+    ap (λ b. notified_if e.rules.callers b (clock + r.later) (changed_session r s)) (lost_same r (terms_of e s) s.conclusion.initial q p h s.past)
+    ∙ notified_if_same r e.rules.callers (loses_window (terms_of e s) s.conclusion.initial p.body s.past) clock s
 
 answered_same : (e : Terms) (r : Change) (clock : ℕ) (q p : Packet) → IsChangedPacket r q p → (o : Option Session)
     → answered_by e (clock + r.later) q.body (option_map (changed_session r) o) ≡ map (changed_reply r) (answered_by e clock p.body o)
@@ -338,11 +342,11 @@ answered_same e r clock q p h None = refl
 answered_same e r clock q p h (Some s) =
     let t = changed_session r s in
     let said = map (said_by (time_in s clock) s) (answered_at_once p.body s) in
-    ap (λ x. lost_told e (clock + r.later) q.body t ++ map (said_by x t) (answered_at_once q.body t)) (own_time r clock s)
-    ∙ ap (λ xs. lost_told e (clock + r.later) q.body t ++ map (said_by (time_in s clock) t) xs) (answers_same r s.conclusion.initial q p h s.past)
-    ∙ ap (λ xs. lost_told e (clock + r.later) q.body t ++ xs) (map_replies r (time_in s clock) s (answered_at_once p.body s))
-    ∙ ap (λ xs. xs ++ map (changed_reply r) said) (lost_told_same e r clock q p h s)
-    ∙ sym (map-append (changed_reply r) (lost_told e clock p.body s) said)
+    ap (λ x. lost_notified e (clock + r.later) q.body t ++ map (said_by x t) (answered_at_once q.body t)) (own_time r clock s)
+    ∙ ap (λ xs. lost_notified e (clock + r.later) q.body t ++ map (said_by (time_in s clock) t) xs) (answers_same r s.conclusion.initial q p h s.past)
+    ∙ ap (λ xs. lost_notified e (clock + r.later) q.body t ++ xs) (map_replies r (time_in s clock) s (answered_at_once p.body s))
+    ∙ ap (λ xs. xs ++ map (changed_reply r) said) (lost_notified_same e r clock q p h s)
+    ∙ sym (map-append (changed_reply r) (lost_notified e clock p.body s) said)
 
 took_if_same : (e : Terms) (r : Change) (clock : ℕ) (drains : Option ℕ) (q p : Packet) → IsChangedPacket r q p → (s : Session) (mine : Bool)
     → took_if (shifted r.later drains) mine e (clock + r.later) q (changed_session r s) ≡ changed_session r (took_if drains mine e clock p s)
@@ -676,29 +680,42 @@ after_delivery_same e r clock ss =
     ∙ settled_by_same e.rules.callers e r clock (gives_some e clock ss) (delivered e clock ss)
 
 -- packets
-reported_here : (e : Terms) (r : Change) (here : Bool) (time : ℕ) (s : Session)
-    → reported_at e here time (changed_session r s) ≡ changed_session r (reported_at e here time s)
-reported_here e r true time s =
-    ap (λ b. record (changed_session r s) { past = reported_past b (terms_of e s) time s.past }) (draining_same r s)
-reported_here e r false time s = refl
+reported_here : (e : Terms) (r : Change) (here : Bool) (clock : ℕ) (s : Session)
+    → reported_at e here (clock + r.later) (changed_session r s) ≡ changed_session r (reported_at e here clock s)
+reported_here e r true clock s =
+    let t = changed_session r s in
+    let later = clock + r.later in
+    ap (λ b. record t { past = reported_past b (terms_of e s) (time_in t later) (is_recent t later) s.past }) (draining_same r s)
+    ∙ ap (λ n. record t { past = reported_past (is_draining s) (terms_of e s) n (is_recent t later) s.past }) (own_time r clock s)
+    ∙ ap (λ b. record t { past = reported_past (is_draining s) (terms_of e s) (time_in s clock) b s.past }) (recent_same r clock s)
+reported_here e r false clock s = refl
 
 reported_same : (e : Terms) (r : Change) (clock : ℕ) (s : Session) → reported e (clock + r.later) (changed_session r s) ≡ changed_session r (reported e clock s)
-reported_same e r clock s = ap (λ t. reported_at e s.is_open t (changed_session r s)) (own_time r clock s) ∙ reported_here e r s.is_open (time_in s clock) s
+reported_same e r clock s = reported_here e r s.is_open clock s
 
-packets_here : (e : Terms) (r : Change) (here : Bool) (time : ℕ) (s : Session)
-    → packets_at e here time (changed_session r s) ≡ map (changed_reply r) (packets_at e here time s)
-packets_here e r here time s = map_replies r time s (reports_at e here time s)
+reports_here : (e : Terms) (r : Change) (here : Bool) (clock : ℕ) (s : Session)
+    → reports_at e here (clock + r.later) (changed_session r s) ≡ reports_at e here clock s
+reports_here e r here clock s =
+    let t = changed_session r s in
+    ap (λ n. cond here (reports_of (terms_of e s) n (is_recent t (clock + r.later)) s.past) []) (own_time r clock s)
+    ∙ ap (λ b. cond here (reports_of (terms_of e s) (time_in s clock) b s.past) []) (recent_same r clock s)
+
+packets_here : (e : Terms) (r : Change) (here : Bool) (clock : ℕ) (s : Session)
+    → packets_at e here (clock + r.later) (changed_session r s) ≡ map (changed_reply r) (packets_at e here clock s)
+packets_here e r here clock s =
+    let t = changed_session r s in
+    ap (λ n. map (said_by n t) (reports_at e here (clock + r.later) t)) (own_time r clock s)
+    ∙ ap (λ xs. map (said_by (time_in s clock) t) xs) (reports_here e r here clock s)
+    ∙ map_replies r (time_in s clock) s (reports_at e here clock s)
 
 packets_same : (e : Terms) (r : Change) (clock : ℕ) (test : Session → Bool) → ((s : Session) → test (changed_session r s) ≡ test s)
     → (ss : List Session)
     → packets_where e (clock + r.later) test (map (changed_session r) ss) ≡ map (changed_reply r) (packets_where e clock test ss)
 packets_same e r clock test same ss =
-    ap (λ xs. flat_map (λ s. packets_at e (test s) (time_in s (clock + r.later)) s) xs) (by_slot_same e r ss)
-    ∙ flat_through (changed_session r) (λ s. packets_at e (test s) (time_in s (clock + r.later)) s)
-    (λ s. packets_at e (test s) (time_in s clock) s) (changed_reply r)
-    (λ s. ap (λ b. packets_at e b (time_in (changed_session r s) (clock + r.later)) (changed_session r s)) (same s)
-    ∙ ap (λ t. packets_at e (test s) t (changed_session r s)) (own_time r clock s)
-    ∙ packets_here e r (test s) (time_in s clock) s) (by_slot e ss)
+    ap (λ xs. flat_map (λ s. packets_at e (test s) (clock + r.later) s) xs) (by_slot_same e r ss)
+    ∙ flat_through (changed_session r) (λ s. packets_at e (test s) (clock + r.later) s)
+    (λ s. packets_at e (test s) clock s) (changed_reply r)
+    (λ s. ap (λ b. packets_at e b (clock + r.later) (changed_session r s)) (same s) ∙ packets_here e r (test s) clock s) (by_slot e ss)
 
 speaks_same : (r : Change) (s : Session) → speaks (changed_session r s) ≡ speaks s
 speaks_same r s = ap (λ b. is_publisher s && not b) (draining_same r s)
@@ -710,8 +727,7 @@ over_same e r ss = ap (λ n. sends_files e.rules.callers e.mode && n == 0) (publ
 served_here : (e : Terms) (r : Change) (clock : ℕ) (whole : Bool) (s : Session)
     → served_at whole e (clock + r.later) (changed_session r s) ≡ map (changed_reply r) (served_at whole e clock s)
 served_here e r clock true s = ap (λ x. x ∷ []) (shutdown_same r clock s)
-served_here e r clock false s =
-    ap (λ t. packets_at e (is_subscriber s) t (changed_session r s)) (own_time r clock s) ∙ packets_here e r (is_subscriber s) (time_in s clock) s
+served_here e r clock false s = packets_here e r (is_subscriber s) clock s
 
 served_same : (e : Terms) (r : Change) (clock : ℕ) (over : Bool) (ss : List Session)
     → served e (clock + r.later) over (map (changed_session r) ss) ≡ map (changed_reply r) (served e clock over ss)
@@ -726,14 +742,14 @@ finished_here e r clock true s = refl
 finished_here e r clock false s = reported_same e r clock s
 
 -- the packets sent as time advances
-idle_told_same : (e : Terms) (r : Change) (clock : ℕ) (ss : List Session)
-    → idle_told e (clock + r.later) (map (changed_session r) ss) ≡ map (changed_reply r) (idle_told e clock ss)
-idle_told_same e r clock ss =
-    ap (λ xs. flat_map (λ s. told_if e.rules.callers (is_idle s (clock + r.later)) (clock + r.later) s) xs) (by_slot_same e r ss)
-    ∙ flat_through (changed_session r) (λ s. told_if e.rules.callers (is_idle s (clock + r.later)) (clock + r.later) s)
-    (λ s. told_if e.rules.callers (is_idle s clock) clock s) (changed_reply r)
-    (λ s. ap (λ b. told_if e.rules.callers b (clock + r.later) (changed_session r s)) (idle_same r clock s)
-    ∙ told_if_same r e.rules.callers (is_idle s clock) clock s) (by_slot e ss)
+idle_notified_same : (e : Terms) (r : Change) (clock : ℕ) (ss : List Session)
+    → idle_notified e (clock + r.later) (map (changed_session r) ss) ≡ map (changed_reply r) (idle_notified e clock ss)
+idle_notified_same e r clock ss =
+    ap (λ xs. flat_map (λ s. notified_if e.rules.callers (is_idle s (clock + r.later)) (clock + r.later) s) xs) (by_slot_same e r ss)
+    ∙ flat_through (changed_session r) (λ s. notified_if e.rules.callers (is_idle s (clock + r.later)) (clock + r.later) s)
+    (λ s. notified_if e.rules.callers (is_idle s clock) clock s) (changed_reply r)
+    (λ s. ap (λ b. notified_if e.rules.callers b (clock + r.later) (changed_session r s)) (idle_same r clock s)
+    ∙ notified_if_same r e.rules.callers (is_idle s clock) clock s) (by_slot e ss)
 
 -- before the first item the clock is 0 in both
 record IsChangedRoute (r : Change) (n m : Route) : Type 0 where
@@ -798,9 +814,9 @@ sessions_same false e index r j i n m h k =
     ∙ map_through (changed_session r) (finished e (clock + r.later) over) (finished e clock over) (changed_session r)
     (λ s. finished_here e r clock (has_whole_file over s) s) ss
 
-told_same : (e : Terms) (index : ℕ) (r : Change) (j i : Item) (n m : Route)
-    → IsChangedItem r j i → IsChangedRoute r n m → IsChangedRoute r (told_more e index j n) (told_more e index i m)
-told_same e index r j i n m h k =
+notified_same : (e : Terms) (index : ℕ) (r : Change) (j i : Item) (n m : Route)
+    → IsChangedItem r j i → IsChangedRoute r n m → IsChangedRoute r (with_input e index j n) (with_input e index i m)
+notified_same e index r j i n m h k =
     record {
       clock_is = λ moment. goes_on (clock_after j n) (clock_after i m) r.later moment (clock_same r j i n m h k);
       sessions_are = ap (λ b. sessions_at b e index j n) k.closed_is ∙ sessions_same m.is_closed e index r j i n m h k;
@@ -816,24 +832,24 @@ replies_at_same false e index r j i n m h k =
     let others = passed_by e index j n in
     let ss = passed_by e index i m in
     let over = is_file_over e ss in
-    let idle = idle_told e clock m.sessions in
+    let idle = idle_notified e clock m.sessions in
     let first = (taken_by e index i m).answers in
     let second = packets_where e clock speaks ss in
     let third = served e clock over ss in
     ap
     (λ t.
-    idle_told e t n.sessions ++ (taken_by e index j n).answers ++ packets_where e t speaks others ++ served e t (is_file_over e others) others)
+    idle_notified e t n.sessions ++ (taken_by e index j n).answers ++ packets_where e t speaks others ++ served e t (is_file_over e others) others)
     (clock_same r j i n m h k)
     ∙ ap
     (λ xs.
-    idle_told e (clock + r.later) xs ++ (taken_by e index j n).answers ++ packets_where e (clock + r.later) speaks others
+    idle_notified e (clock + r.later) xs ++ (taken_by e index j n).answers ++ packets_where e (clock + r.later) speaks others
     ++ served e (clock + r.later) (is_file_over e others) others)
     k.sessions_are
     ∙ ap
     (λ xs.
     xs ++ (taken_by e index j n).answers ++ packets_where e (clock + r.later) speaks others
     ++ served e (clock + r.later) (is_file_over e others) others)
-    (idle_told_same e r clock m.sessions)
+    (idle_notified_same e r clock m.sessions)
     ∙ ap
     (λ (t : Taken).
     map (changed_reply r) idle ++ t.answers ++ packets_where e (clock + r.later) speaks others
@@ -868,7 +884,7 @@ at_first later moment = omega arith
 
 after_same : (e : Terms) (index : ℕ) (r : Change) (js is : List Item) → AreChanged r js is → IsChangedRoute r (after e index js) (after e index is)
 after_same e index r [] [] h = record { clock_is = at_first r.later; sessions_are = refl; closed_is = refl }
-after_same e index r (j ∷ js) (i ∷ is) h = told_same e index r j i (after e index js) (after e index is) h.0 (after_same e index r js is h.1)
+after_same e index r (j ∷ js) (i ∷ is) h = notified_same e index r j i (after e index js) (after e index is) h.0 (after_same e index r js is h.1)
 after_same e index r [] (i ∷ is) h = absurd h
 after_same e index r (j ∷ js) [] h = absurd h
 

@@ -2,8 +2,8 @@
 use Rattle.std.proofs.Common.{◌≡◌, ℕ, ◌+◌, ◌%◌, ◌^◌, Option, None, Some, List, [], ◌∷◌, ◌++◌, map, Result, Ok, Err, refl, sym, ap, subst, ◌∙◌, arith}
 use Rattle.std.specs.Prelude.{option_map}
 use Rattle.std.proofs.lemmas.List.{map-append}
-use Rattle.srt_seq.specs.Terms.{Terms}
-use Rattle.srt_seq.specs.Items.{Datagram, Item, Received, Tick, Close}
+use Rattle.srt_types.specs.Terms.{Terms}
+use Rattle.srt_types.specs.Items.{Datagram, Item, Received, Tick, Close}
 use Rattle.srt_packet.specs.declared.reading.PacketFault.{PacketFault}
 use Rattle.srt_packet.specs.Grammar.{Packet, Body, Data, Handshake, KeepAlive, Ack, Nak, CongestionWarning, Shutdown, AckAck, DropRequest}
 use Rattle.srt_packet.specs.Grammar.{PeerError, UserDefined}
@@ -39,7 +39,7 @@ solo_is e index (item ∷ items) =
 abbrev same : ℕ → ℕ
 same n = n
 
-same_stamp : (first word : ℕ) → Rattle.srt_seq.specs.Lift.stamped_from (same first) (same word) ≡ Rattle.srt_seq.specs.Lift.stamped_from first word
+same_stamp : (first word : ℕ) → Rattle.srt_types.specs.Lift.stamped_from (same first) (same word) ≡ Rattle.srt_types.specs.Lift.stamped_from first word
 same_stamp first word = refl
 
 not_later : (n : ℕ) → n ≡ n + 0
@@ -127,19 +127,19 @@ renumbered_read by (Ok p) =
     }
 renumbered_read by (Err fault) = tt
 
-restamped_told : (by : ℕ) (d : Datagram) → IsChangedDatagram (restamp by) (restamped_datagram by d) d
-restamped_told by d =
+restamped_notified : (by : ℕ) (d : Datagram) → IsChangedDatagram (restamp by) (restamped_datagram by d) d
+restamped_notified by d =
     record {
       peer_is = refl;
       reading_is = subst (λ read. IsChangedReading (restamp by) read (packet_in d.bytes)) (sym (packets_restamp by d.bytes))
           (restamped_read by (packet_in d.bytes));
     }
 
-moved_told : (by : ℕ) (d : Datagram) → IsChangedDatagram (move by) d d
-moved_told by d = record { peer_is = refl; reading_is = moved_read by (packet_in d.bytes) }
+moved_notified : (by : ℕ) (d : Datagram) → IsChangedDatagram (move by) d d
+moved_notified by d = record { peer_is = refl; reading_is = moved_read by (packet_in d.bytes) }
 
-renumbered_told : (by : ℕ) (d : Datagram) → IsChangedDatagram (renumber by) (renumbered_datagram by d) d
-renumbered_told by d =
+renumbered_notified : (by : ℕ) (d : Datagram) → IsChangedDatagram (renumber by) (renumbered_datagram by d) d
+renumbered_notified by d =
     record {
       peer_is = refl;
       reading_is = subst (λ read. IsChangedReading (renumber by) read (packet_in d.bytes)) (sym (packets_shift by d.bytes))
@@ -147,17 +147,17 @@ renumbered_told by d =
     }
 
 restamped_item_is : (by : ℕ) (item : Item) → IsChangedItem (restamp by) (restamped_item by item) item
-restamped_item_is by (Received d m) = (restamped_told by d, not_later m)
+restamped_item_is by (Received d m) = (restamped_notified by d, not_later m)
 restamped_item_is by (Tick m) = not_later m
 restamped_item_is by (Close m) = not_later m
 
 moved_item_is : (by : ℕ) (item : Item) → IsChangedItem (move by) (moved_item by item) item
-moved_item_is by (Received d m) = (moved_told by d, refl)
+moved_item_is by (Received d m) = (moved_notified by d, refl)
 moved_item_is by (Tick m) = refl
 moved_item_is by (Close m) = refl
 
 renumbered_item_is : (by : ℕ) (item : Item) → IsChangedItem (renumber by) (renumbered_item by item) item
-renumbered_item_is by (Received d m) = (renumbered_told by d, not_later m)
+renumbered_item_is by (Received d m) = (renumbered_notified by d, not_later m)
 renumbered_item_is by (Tick m) = not_later m
 renumbered_item_is by (Close m) = not_later m
 

@@ -3,13 +3,13 @@ use Rattle.std.proofs.Common.{◌≡◌, ℕ, ◌/◌, ◌%◌, ◌^◌, ◌<◌
 use Rattle.std.proofs.Common.{length, take, drop, flat_map, Result, Ok, Err, is_ok, nat_lt, ◌==◌, ◌&&◌, refl, sym, ap, subst, ◌∙◌, arith}
 use Rattle.std.specs.Bool.{⊤}
 use Rattle.std.proofs.lemmas.List.{length-take-le, length-drop}
-use Rattle.srt_seq.specs.Words.{word, word_at, words_in}
-use Rattle.srt_seq.specs.declared.shared.Mode.{Mode}
-use Rattle.srt_seq.specs.declared.shared.Role.{Role}
+use Rattle.srt_types.specs.Words.{word, word_at, words_in}
+use Rattle.srt_types.specs.declared.shared.Mode.{Mode}
+use Rattle.srt_types.specs.declared.shared.Role.{Role}
 use Rattle.srt_packet.specs.Grammar as grammar
 use Rattle.srt_packet.specs.Grammar.{Packet, Spells}
 use Rattle.srt_packet.proofs.Agreement.{packet_only}
-use Rattle.srt_seq.proofs.WordBytes.{length_of_words}
+use Rattle.srt_types.proofs.WordBytes.{length_of_words}
 use Rattle.srt_hs.specs.declared.handshake.HsReq.{HsReq}
 use Rattle.srt_hs.specs.declared.handshake.HsKind.{HsKind}
 use Rattle.srt_hs.specs.declared.handshake.HsKind.TheVariants as kinds
@@ -27,7 +27,7 @@ use Rattle.srt_hs.specs.RoundTrip.{answered_blocks}
 use Rattle.srt_hs.proofs.Steps.{read_ok}
 use Rattle.srt_hs.proofs.Spelled.{reading_is_spelling}
 use Rattle.srt_sub.specs.Says.{packet_text}
-use Rattle.srt_route.specs.Conclusions.{with_blocks, is_conclusion, conclusion_of, conclusion_read, conclusion_in, role_asked}
+use Rattle.srt_route.specs.Conclusions.{with_blocks, is_conclusion, conclusion_of, conclusion_read, conclusion_in, role_requested}
 use Rattle.srt_route.specs.Shifted.{shifted, shifted_at, shifted_handshake, renumbered}
 use Rattle.srt_route.specs.ShiftLaws.{HasFewWords, ConclusionsHaveFewWords, IsReadable, AnswersSayOthers}
 use Rattle.srt_route.proofs.renumbering.ShiftedOutput.{word_shifts, renumbered_is}
@@ -178,8 +178,8 @@ conclusion_has_few : (hs : Handshake) → AreFew hs.blocks.congestion → IfSome
 unfolding conclusion_of
 conclusion_has_few hs h = of_test (is_conclusion hs.kind && hs.version == 5 && nat_lt hs.initial (2 ^ 31))
   where
-    of_test : (b : Bool) → IfSome (cond b (with_blocks hs hs.blocks.hsreq (role_asked hs.blocks.stream_id)) None) (λ c. HasFewWords c.congestion)
-    of_test true = blocks_have_few hs hs.blocks.hsreq (role_asked hs.blocks.stream_id) h
+    of_test : (b : Bool) → IfSome (cond b (with_blocks hs hs.blocks.hsreq (role_requested hs.blocks.stream_id)) None) (λ c. HasFewWords c.congestion)
+    of_test true = blocks_have_few hs hs.blocks.hsreq (role_requested hs.blocks.stream_id) h
     of_test false = tt
 
 read_has_few : (info : List ℕ) (r : Result Handshake HsFault) → handshake_in info ≡ r → IfSome (conclusion_read r) (λ c. HasFewWords c.congestion)

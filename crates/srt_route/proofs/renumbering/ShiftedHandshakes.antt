@@ -1,14 +1,14 @@
 -- Handshakes and conclusions with another initial sequence number.
 use Rattle.std.proofs.Common.{◌≡◌, ℕ, ◌^◌, ◌≤◌, Bool, true, false, cond, Option, None, Some, option_map, List, length, Result, Ok, Err}
 use Rattle.std.proofs.Common.{nat_lt, is_ok, ◌==◌, ◌&&◌, refl, sym, ap, ◌∙◌, arith}
-use Rattle.srt_seq.specs.Words.{word_at}
-use Rattle.srt_seq.specs.declared.shared.Role.{Role}
+use Rattle.srt_types.specs.Words.{word_at}
+use Rattle.srt_types.specs.declared.shared.Role.{Role}
 use Rattle.srt_hs.specs.declared.handshake.HsReq.{HsReq}
 use Rattle.srt_hs.specs.declared.handshake.HsFault.{HsFault}
 use Rattle.srt_hs.specs.Grammar.{Handshake, kind_of, Spells}
 use Rattle.srt_hs.specs.Reading.{handshake_in}
 use Rattle.srt_hs.proofs.Spelled.{reading_is_spelling}
-use Rattle.srt_route.specs.Conclusions.{with_blocks, is_conclusion, conclusion_of, conclusion_read, conclusion_in, role_asked}
+use Rattle.srt_route.specs.Conclusions.{with_blocks, is_conclusion, conclusion_of, conclusion_read, conclusion_in, role_requested}
 use Rattle.srt_route.specs.Shifted.{shifted, with_word, shifted_at, shifted_handshake}
 use Rattle.srt_route.specs.ShiftLaws.{with_initial, shifted_greeting, shifted_conclusion, HandshakesShift, ConclusionsShift}
 use Rattle.srt_route.proofs.renumbering.PlacedWords.{length_with, word_before, word_there, word_after, half_before, rest_after}
@@ -64,14 +64,14 @@ unfolding conclusion_of
 conclusion_shifts by hs =
     ap
     (λ small. cond (is_conclusion hs.kind && hs.version == 5 && small)
-    (with_blocks (with_initial by hs) hs.blocks.hsreq (role_asked hs.blocks.stream_id)) None)
+    (with_blocks (with_initial by hs) hs.blocks.hsreq (role_requested hs.blocks.stream_id)) None)
     (top_stays by hs.initial)
     ∙ of_test (is_conclusion hs.kind && hs.version == 5 && nat_lt hs.initial (2 ^ 31))
   where
     of_test : (b : Bool)
-        → cond b (with_blocks (with_initial by hs) hs.blocks.hsreq (role_asked hs.blocks.stream_id)) None
-        ≡ option_map (shifted_conclusion by) (cond b (with_blocks hs hs.blocks.hsreq (role_asked hs.blocks.stream_id)) None)
-    of_test true = blocks_shift by hs hs.blocks.hsreq (role_asked hs.blocks.stream_id)
+        → cond b (with_blocks (with_initial by hs) hs.blocks.hsreq (role_requested hs.blocks.stream_id)) None
+        ≡ option_map (shifted_conclusion by) (cond b (with_blocks hs hs.blocks.hsreq (role_requested hs.blocks.stream_id)) None)
+    of_test true = blocks_shift by hs hs.blocks.hsreq (role_requested hs.blocks.stream_id)
     of_test false = refl
 
 conclusion_read_shifts : (by : ℕ) (r : Result Handshake HsFault)

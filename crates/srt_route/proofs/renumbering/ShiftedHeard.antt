@@ -1,12 +1,12 @@
 -- What sessions read from packets with other numbers.
 use Rattle.std.proofs.Common.{◌≡◌, ℕ, List, [], ◌∷◌, Some, length, map, nat_le, cond, Result, Ok, Err, refl, ap, ◌∙◌}
-use Rattle.srt_seq.specs.Words.{word_at}
-use Rattle.srt_seq.specs.Window.{counted_from}
-use Rattle.srt_seq.specs.Runs.{Range}
+use Rattle.srt_types.specs.Words.{word_at}
+use Rattle.srt_types.specs.Window.{counted_from}
+use Rattle.srt_types.specs.Runs.{Range}
 use Rattle.srt_packet.specs.Grammar.{Data, Handshake, KeepAlive, Ack, Nak, CongestionWarning, Shutdown, AckAck, DropRequest, PeerError, UserDefined}
 use Rattle.srt_loss.specs.declared.reading.LossFault.{LossFault}
 use Rattle.srt_loss.specs.Reading.{losses_in}
-use Rattle.srt_seq.specs.Runs.{range_from, ranges_from}
+use Rattle.srt_types.specs.Runs.{range_from, ranges_from}
 use Rattle.srt_pub.specs.Heard as to_publisher
 use Rattle.srt_sub.specs.Heard as to_subscriber
 use Rattle.srt_route.specs.Shifted.{shifted, shifted_first}
@@ -41,10 +41,10 @@ ranges_same by initial (r ∷ rs) =
     ap (λ s. s ∷ ranges_from (shifted by initial) (map (shifted_range by) rs)) (range_same by initial r)
     ∙ ap (λ ss. range_from initial r ∷ ss) (ranges_same by initial rs)
 
-asked_same : (by initial : ℕ) (read : Result (List Range) LossFault)
-    → to_subscriber.asked_from (shifted by initial) (shifted_losses by read) ≡ to_subscriber.asked_from initial read
-asked_same by initial (Ok ranges) = ap (λ rs. Some rs) (ranges_same by initial ranges)
-asked_same by initial (Err fault) = refl
+requested_same : (by initial : ℕ) (read : Result (List Range) LossFault)
+    → to_subscriber.requested_from (shifted by initial) (shifted_losses by read) ≡ to_subscriber.requested_from initial read
+requested_same by initial (Ok ranges) = ap (λ rs. Some rs) (ranges_same by initial ranges)
+requested_same by initial (Err fault) = refl
 
 ack_same : (by initial mark : ℕ) (info : List ℕ)
     → to_subscriber.heard_from (shifted by initial) (Ack mark (shifted_first by info)) ≡ to_subscriber.heard_from initial (Ack mark info)
@@ -65,8 +65,8 @@ subscribers_hear by initial (Handshake info) = refl
 subscribers_hear by initial KeepAlive = refl
 subscribers_hear by initial (Ack number info) = ack_same by initial number info
 subscribers_hear by initial (Nak info) =
-    ap (λ read. to_subscriber.Nak (to_subscriber.asked_from (shifted by initial) read)) (losses_shift by info)
-    ∙ ap (λ asked. to_subscriber.Nak asked) (asked_same by initial (losses_in info))
+    ap (λ read. to_subscriber.Nak (to_subscriber.requested_from (shifted by initial) read)) (losses_shift by info)
+    ∙ ap (λ requested. to_subscriber.Nak requested) (requested_same by initial (losses_in info))
 subscribers_hear by initial CongestionWarning = refl
 subscribers_hear by initial Shutdown = refl
 subscribers_hear by initial (AckAck number) = refl

@@ -3,16 +3,16 @@ use Rattle.std.proofs.Common.{◌≡◌, ℕ, ◌+◌, ◌*◌, ◌/◌, ◌%◌
 use Rattle.std.proofs.lemmas.Bool.Decides.{nat_tests}
 use Rattle.std.proofs.lemmas.List.{length-append, map-append}
 use Rattle.std.proofs.lemmas.Nat.{from_be_bytes-to_be_bytes_4}
-use Rattle.srt_seq.specs.Words.{word, word_at, words}
-use Rattle.srt_seq.specs.Counts.{message_number, ack_number}
-use Rattle.srt_seq.specs.Runs.{Range, Run}
+use Rattle.srt_types.specs.Words.{word, word_at, words}
+use Rattle.srt_types.specs.Counts.{message_number, ack_number}
+use Rattle.srt_types.specs.Runs.{Range, Run}
 use Rattle.srt_packet.specs.Grammar as grammar
 use Rattle.srt_packet.specs.Grammar.{Packet, Spells}
 use Rattle.srt_packet.specs.Reading.{packet_in}
 use Rattle.srt_packet.proofs.Agreement.{packet_only}
-use Rattle.srt_seq.proofs.WordBytes.{length_of_words}
+use Rattle.srt_types.proofs.WordBytes.{length_of_words}
 use Rattle.srt_loss.specs.Text.{range_words}
-use Rattle.srt_seq.specs.Window.{number_word}
+use Rattle.srt_types.specs.Window.{number_word}
 use Rattle.srt_pub.specs.Publishing as publisher
 use Rattle.srt_pub.specs.Says.{range_said, losses_said, says}
 use Rattle.srt_sub.specs.Subscribing as subscriber

@@ -3,8 +3,8 @@ use Rattle.std.proofs.Common.{◌≡◌, ℕ, ◌-◌, ◌%◌, ◌^◌, ◌<◌
 use Rattle.std.proofs.Common.{Result, Ok, Err, nat_lt, ◌==◌, refl, sym, ap, inl, inr, ◌∙◌, arith}
 use Rattle.std.proofs.lemmas.Bool.{cases_lt}
 use Rattle.std.proofs.lemmas.Bool.Decides.{nat_tests}
-use Rattle.srt_seq.specs.Words.{word, word_at, words_in}
-use Rattle.srt_seq.specs.Runs.{Range, span}
+use Rattle.srt_types.specs.Words.{word, word_at, words_in}
+use Rattle.srt_types.specs.Runs.{Range, span}
 use Rattle.srt_loss.specs.declared.reading.LossFault.{LossFault}
 use Rattle.srt_loss.specs.declared.reading.LossFault.TheVariants.{Ragged, Dangling, Backward}
 use Rattle.srt_loss.specs.Reading.{then_those, alone, ended, ranges_in}

@@ -1,20 +1,20 @@
 -- Replies of a route that is closed, computed from bytes to bytes.
 use Rattle.std.proofs.Common.{◌≡◌, ℕ, false, Bool, List, [], ◌∷◌, map, refl}
-use Rattle.srt_seq.specs.declared.shared.Mode.TheVariants.{Live}
-use Rattle.srt_seq.specs.Access.{anyone}
-use Rattle.srt_seq.specs.Entries.{draft_rules}
-use Rattle.srt_seq.specs.Terms.{Terms}
-use Rattle.srt_seq.specs.Items.{Item, Received, Tick, Close, Datagram}
-use Rattle.srt_seq.specs.Words.{words}
+use Rattle.srt_types.specs.declared.shared.Mode.TheVariants.{Live}
+use Rattle.srt_types.specs.Access.{anyone}
+use Rattle.srt_types.specs.Entries.{draft_rules}
+use Rattle.srt_types.specs.Terms.{Terms}
+use Rattle.srt_types.specs.Items.{Item, Received, Tick, Close, Datagram}
+use Rattle.srt_types.specs.Words.{words}
 use Rattle.srt_hs.specs.Reading.{handshake_in, blocks_in, with_first, with_block}
 use Rattle.srt_hs.specs.Text.{answer_text}
 use Rattle.srt_streamid.specs.Reading.{ask_in, list_in, with_part}
 use Rattle.std.specs.Str.{is_utf8, chars}
 use lib.Utf8.{encode}
-use Rattle.srt_seq.specs.Window.{in_window}
+use Rattle.srt_types.specs.Window.{in_window}
 use Rattle.srt_pub.specs.Publishing.{confirmed_by, is_full_due, acks_at, naks, reports, deliveries}
 use Rattle.srt_pub.specs.Says.{says, body_bytes}
-use Rattle.srt_seq.specs.Lift.{lift}
+use Rattle.srt_types.specs.Lift.{lift}
 use Rattle.srt_route.specs.Conclusions.{conclusion_in, conclusion_of}
 use Rattle.srt_route.specs.Sessions.{Session}
 use Rattle.srt_route.specs.Route.{reply, after}
@@ -45,10 +45,10 @@ is_closed = Close 1_500_000 ∷ publisher_opens 1_000_000 ∷ []
 abbrev are_open : List Item → List Bool
 are_open items = map (λ (s : Session). s.is_open) (after studio 0 items).sessions
 
-publisher_is_told : (reply studio 0 is_closed ≡ from 5000 (words (0x80050000 ∷ 0 ∷ 0x7a120 ∷ 1 ∷ [])) ∷ []) × (are_open is_closed ≡ false ∷ [])
+publisher_is_notified : (reply studio 0 is_closed ≡ from 5000 (words (0x80050000 ∷ 0 ∷ 0x7a120 ∷ 1 ∷ [])) ∷ []) × (are_open is_closed ≡ false ∷ [])
 unfolding handshake_in blocks_in with_first with_block answer_text ask_in list_in with_part conclusion_in conclusion_of is_utf8 chars encode
     in_window lift confirmed_by is_full_due acks_at naks reports deliveries says body_bytes
-publisher_is_told = (refl, refl)
+publisher_is_notified = (refl, refl)
 
 -- afterwards only the clock advances: no conclusion is answered, no SHUTDOWN is sent again, nothing opens
 abbrev later : List Item
@@ -67,11 +67,11 @@ unfolding handshake_in blocks_in with_first with_block answer_text ask_in list_i
 at_the_clock = refl
 
 -- a session that is idle at the clock of the Close has ended before it, and is sent no SHUTDOWN
-idle_one_is_not_told : (reply studio 0 (Close 6_000_000 ∷ publisher_opens 1_000_000 ∷ []) ≡ []) ×
+idle_one_is_not_reported : (reply studio 0 (Close 6_000_000 ∷ publisher_opens 1_000_000 ∷ []) ≡ []) ×
     (reply studio 0 (Close 5_999_999 ∷ publisher_opens 1_000_000 ∷ []) ≡ from 5000 (words (0x80050000 ∷ 0 ∷ 0x4c4b3f ∷ 1 ∷ [])) ∷ [])
 unfolding handshake_in blocks_in with_first with_block answer_text ask_in list_in with_part conclusion_in conclusion_of is_utf8 chars encode
     in_window lift confirmed_by is_full_due acks_at naks reports deliveries says body_bytes
-idle_one_is_not_told = (refl, refl)
+idle_one_is_not_reported = (refl, refl)
 
 -- ascending slots: the subscriber, which opened first, has slot 0
 slots_upwards : reply studio 0 (Close 1_500_000 ∷ publisher_opens 1_400_000 ∷ subscriber_opens 1_000_000 ∷ [])

@@ -1,21 +1,21 @@
 -- Replies of routes, computed from bytes to bytes.
 use Rattle.std.proofs.Common.{◌≡◌, ℕ, zero, suc, ◌+◌, Bool, true, false, List, [], ◌∷◌, ◌++◌, map, refl}
-use Rattle.srt_seq.specs.declared.shared.Peer.{Peer}
-use Rattle.srt_seq.specs.declared.shared.Mode.TheVariants.{Live, Buffer}
-use Rattle.srt_seq.specs.Access.{anyone}
-use Rattle.srt_seq.specs.Entries.{draft_rules}
-use Rattle.srt_seq.specs.Terms.{Terms}
-use Rattle.srt_seq.specs.Items.{Item, Received, Tick, Datagram}
-use Rattle.srt_seq.specs.Words.{words}
+use Rattle.srt_types.specs.declared.shared.Peer.{Peer}
+use Rattle.srt_types.specs.declared.shared.Mode.TheVariants.{Live, Buffer}
+use Rattle.srt_types.specs.Access.{anyone}
+use Rattle.srt_types.specs.Entries.{draft_rules}
+use Rattle.srt_types.specs.Terms.{Terms}
+use Rattle.srt_types.specs.Items.{Item, Received, Tick, Datagram}
+use Rattle.srt_types.specs.Words.{words}
 use Rattle.srt_hs.specs.Reading.{handshake_in, blocks_in, with_first, with_block}
 use Rattle.srt_hs.specs.Text.{answer_text}
 use Rattle.srt_streamid.specs.Reading.{ask_in, list_in, with_part}
 use Rattle.std.specs.Str.{is_utf8, chars}
 use lib.Utf8.{encode}
-use Rattle.srt_seq.specs.Window.{in_window}
+use Rattle.srt_types.specs.Window.{in_window}
 use Rattle.srt_pub.specs.Publishing.{confirmed_by, is_full_due, acks_at, naks, reports, deliveries}
 use Rattle.srt_pub.specs.Says.{says, body_bytes}
-use Rattle.srt_seq.specs.Lift.{lift}
+use Rattle.srt_types.specs.Lift.{lift}
 use Rattle.srt_route.specs.Conclusions.{conclusion_in, conclusion_of}
 use Rattle.srt_route.specs.Sessions.{Session, id_of}
 use Rattle.srt_route.specs.Route.{reply, after}
@@ -30,8 +30,8 @@ peer port = record { ip = 0 ∷ 0 ∷ 0 ∷ 0 ∷ 0 ∷ 0 ∷ 0 ∷ 0 ∷ 0 ∷ 
 abbrev from : ℕ → List ℕ → Datagram
 from port bytes = record { peer = peer port; bytes = bytes }
 
-abbrev came : (port moment : ℕ) → List ℕ → Item
-came port moment bytes = Received (from port bytes) moment
+abbrev arrived : (port moment : ℕ) → List ℕ → Item
+arrived port moment bytes = Received (from port bytes) moment
 
 -- a conclusion: the caller's socket ID, its initial number, flow window, flags and delays, and its Stream ID
 abbrev conclusion : (caller initial window flags delays : ℕ) → List ℕ → List ℕ
@@ -47,10 +47,10 @@ abbrev request_studio : List ℕ
 request_studio = 0x50003 ∷ 0x3a3a2123 ∷ 0x74733d72 ∷ 0x6f696475 ∷ []
 
 abbrev opens_publisher : (moment initial : ℕ) → Item
-opens_publisher moment initial = came 5000 moment (conclusion 1 initial 0x2000 0xbf 0x780078 publish_studio)
+opens_publisher moment initial = arrived 5000 moment (conclusion 1 initial 0x2000 0xbf 0x780078 publish_studio)
 
 abbrev opens_subscriber : (moment initial delays : ℕ) → Item
-opens_subscriber moment initial delays = came 5001 moment (conclusion 2 initial 0x2000 0xbf delays request_studio)
+opens_subscriber moment initial delays = arrived 5001 moment (conclusion 2 initial 0x2000 0xbf delays request_studio)
 
 abbrev answer : (port caller initial id delays : ℕ) → Datagram
 answer port caller initial id delays =
@@ -69,7 +69,7 @@ first_answer = refl
 
 -- a second publisher is the standby, with the session 00100001
 abbrev standby_opens : (moment : ℕ) → Item
-standby_opens moment = came 5001 moment (conclusion 2 9 0x2000 0xbf 0x780078 publish_studio)
+standby_opens moment = arrived 5001 moment (conclusion 2 9 0x2000 0xbf 0x780078 publish_studio)
 
 second_answer : reply studio 0 (standby_opens 1_000_000 ∷ publisher_opens ∷ []) ≡ answer 5001 2 9 0x100001 0x780078 ∷ []
 unfolding handshake_in blocks_in with_first with_block answer_text ask_in list_in with_part conclusion_in conclusion_of is_utf8 chars encode
@@ -78,7 +78,7 @@ second_answer = refl
 
 -- a third publisher is refused with 1002
 abbrev third_opens : (moment : ℕ) → Item
-third_opens moment = came 5003 moment (conclusion 4 7 0x2000 0xbf 0x780078 publish_studio)
+third_opens moment = arrived 5003 moment (conclusion 4 7 0x2000 0xbf 0x780078 publish_studio)
 
 third_answer : reply studio 0 (third_opens 1_000_000 ∷ standby_opens 1_000_000 ∷ publisher_opens ∷ [])
     ≡ from 5003 (words (0x80000000 ∷ 0 ∷ 0 ∷ 4 ∷ 5 ∷ 0 ∷ 7 ∷ 0x5dc ∷ 0x2000 ∷ 0x3ea ∷ 1 ∷ 0 ∷ 0 ∷ 0 ∷ 0 ∷ 0 ∷ [])) ∷ []
@@ -93,7 +93,7 @@ unfolding handshake_in blocks_in with_first with_block answer_text ask_in list_i
 same_answer = refl
 
 -- after a shutdown the next session of the slot is 00100100
-next_answer : reply studio 0 (publisher_opens ∷ came 5000 1_003_000 (words (0x80050000 ∷ 0 ∷ 0 ∷ 0x100000 ∷ [])) ∷ publisher_opens ∷ [])
+next_answer : reply studio 0 (publisher_opens ∷ arrived 5000 1_003_000 (words (0x80050000 ∷ 0 ∷ 0 ∷ 0x100000 ∷ [])) ∷ publisher_opens ∷ [])
     ≡ answer 5000 1 5 0x100100 0x780078 ∷ []
 unfolding handshake_in blocks_in with_first with_block answer_text ask_in list_in with_part conclusion_in conclusion_of is_utf8 chars encode
     in_window lift confirmed_by is_full_due acks_at naks reports deliveries says body_bytes
@@ -101,7 +101,7 @@ next_answer = refl
 
 -- a packet is forwarded from the publisher to a subscriber that opens before it is due
 abbrev packet_comes : List Item
-packet_comes = came 5000 1_002_000 (words (5 ∷ 0xe0000001 ∷ 0x3e8 ∷ 0x100000 ∷ []) ++ 0x68 ∷ 0x69 ∷ []) ∷ publisher_opens ∷ []
+packet_comes = arrived 5000 1_002_000 (words (5 ∷ 0xe0000001 ∷ 0x3e8 ∷ 0x100000 ∷ []) ++ 0x68 ∷ 0x69 ∷ []) ∷ publisher_opens ∷ []
 
 abbrev subscriber_comes : List Item
 subscriber_comes = opens_subscriber 1_010_000 9 0x780078 ∷ packet_comes
@@ -127,7 +127,7 @@ packet_is_delivered = refl
 
 -- the same with numbers that wrap
 abbrev numbers_end : List Item
-numbers_end = came 5000 1_002_000 (words (0x7fffffff ∷ 0xe0000001 ∷ 0x3e8 ∷ 0x100000 ∷ []) ++ 0x68 ∷ 0x69 ∷ []) ∷ opens_publisher 1_000_000 0x7fffffff ∷ []
+numbers_end = arrived 5000 1_002_000 (words (0x7fffffff ∷ 0xe0000001 ∷ 0x3e8 ∷ 0x100000 ∷ []) ++ 0x68 ∷ 0x69 ∷ []) ∷ opens_publisher 1_000_000 0x7fffffff ∷ []
 
 abbrev subscriber_at_the_end : List Item
 subscriber_at_the_end = opens_subscriber 1_010_000 3 0x780078 ∷ numbers_end
@@ -152,7 +152,7 @@ unfolding handshake_in blocks_in with_first with_block renumbered shifted_handsh
 numbers_are_shifted = refl
 
 -- the clock never decreases
-clock_stays : (after studio 0 (Tick 4_990_000 ∷ came 5001 5_000_000 (words (0x80010000 ∷ 0 ∷ 0 ∷ 0x100000 ∷ [])) ∷ [])).clock ≡ 5_000_000
+clock_stays : (after studio 0 (Tick 4_990_000 ∷ arrived 5001 5_000_000 (words (0x80010000 ∷ 0 ∷ 0 ∷ 0x100000 ∷ [])) ∷ [])).clock ≡ 5_000_000
 unfolding handshake_in blocks_in with_first with_block answer_text ask_in list_in with_part conclusion_in conclusion_of is_utf8 chars encode
     in_window lift confirmed_by is_full_due acks_at naks reports deliveries says body_bytes
 clock_stays = refl
@@ -160,8 +160,8 @@ clock_stays = refl
 -- numbers 7 and 9 arrive; 8 is reported lost, and given up when 9 is due
 abbrev gap_opens : List Item
 gap_opens =
-    came 5000 1_002_000 (words (9 ∷ 0xe0000001 ∷ 0x7d0 ∷ 0x100000 ∷ []) ++ 0x39 ∷ [])
-    ∷ came 5000 1_001_500 (words (7 ∷ 0xe0000001 ∷ 0x3e8 ∷ 0x100000 ∷ []) ++ 0x37 ∷ []) ∷ opens_subscriber 1_001_000 9 0x780078
+    arrived 5000 1_002_000 (words (9 ∷ 0xe0000001 ∷ 0x7d0 ∷ 0x100000 ∷ []) ++ 0x39 ∷ [])
+    ∷ arrived 5000 1_001_500 (words (7 ∷ 0xe0000001 ∷ 0x3e8 ∷ 0x100000 ∷ []) ++ 0x37 ∷ []) ∷ opens_subscriber 1_001_000 9 0x780078
     ∷ opens_publisher 1_000_000 7 ∷ []
 
 gap_is_reported : reply studio 0 gap_opens ≡ from 5000 (words (0x80030000 ∷ 0 ∷ 0x7d0 ∷ 1 ∷ 8 ∷ [])) ∷ []
@@ -180,11 +180,11 @@ gap_is_passed = refl
 -- a subscriber that opened at 4000000 is fed at 5000000
 abbrev fed : (delays : ℕ) → List Item
 fed delays =
-    came 5000 5_000_000 (words (5 ∷ 0xe0000001 ∷ 0xd6d80 ∷ 0x100000 ∷ []) ++ 0x61 ∷ []) ∷ opens_subscriber 4_000_000 9 delays
+    arrived 5000 5_000_000 (words (5 ∷ 0xe0000001 ∷ 0xd6d80 ∷ 0x100000 ∷ []) ++ 0x61 ∷ []) ∷ opens_subscriber 4_000_000 9 delays
     ∷ opens_publisher 4_000_000 5 ∷ []
 
 abbrev asks_again : (moment : ℕ) → Item
-asks_again moment = came 5001 moment (words (0x80030000 ∷ 0 ∷ 0 ∷ 0x100001 ∷ 9 ∷ []))
+asks_again moment = arrived 5001 moment (words (0x80030000 ∷ 0 ∷ 0 ∷ 0x100001 ∷ 9 ∷ []))
 
 is_fed : reply studio 0 (fed 0x780078)
     ≡ from 5000 (words (0x80020000 ∷ 1 ∷ 0xf4240 ∷ 1 ∷ 6 ∷ 0x186a0 ∷ 0xc350 ∷ 0x400 ∷ 0 ∷ 0 ∷ 0 ∷ []))
@@ -223,7 +223,7 @@ is_gone_later = refl
 -- 64 data packets are answered with a Light ACK
 abbrev row_of : (count : ℕ) → List Item
 row_of zero = opens_publisher 1_000_000 0 ∷ []
-row_of (suc n) = came 5000 1_009_000 (words (n ∷ 0xe0000001 ∷ 0 ∷ 0x100000 ∷ []) ++ 0x61 ∷ []) ∷ row_of n
+row_of (suc n) = arrived 5000 1_009_000 (words (n ∷ 0xe0000001 ∷ 0 ∷ 0x100000 ∷ []) ++ 0x61 ∷ []) ∷ row_of n
 
 sixty_three_packets : reply studio 0 (row_of 63) ≡ []
 unfolding handshake_in blocks_in with_first with_block answer_text ask_in list_in with_part conclusion_in conclusion_of is_utf8 chars encode
@@ -238,7 +238,7 @@ sixty_four_packets = refl
 -- a packet is in flight since 1000000, and no acknowledgement arrives
 abbrev in_flight : List Item
 in_flight =
-    came 5000 1_000_000 (words (5 ∷ 0xe0000001 ∷ 0x13880 ∷ 0x100000 ∷ []) ++ 0x61 ∷ []) ∷ opens_subscriber 900_000 9 0x780078
+    arrived 5000 1_000_000 (words (5 ∷ 0xe0000001 ∷ 0x13880 ∷ 0x100000 ∷ []) ++ 0x61 ∷ []) ∷ opens_subscriber 900_000 9 0x780078
     ∷ opens_publisher 800_000 5 ∷ []
 
 is_in_flight : reply studio 0 in_flight
@@ -290,7 +290,7 @@ abbrev request_files : List ℕ
 request_files = 0x50003 ∷ 0x3a3a2123 ∷ 0x69663d72 ∷ 0x73656c ∷ []
 
 congestion_is_repeated : reply files 1
-    (came 5000 1_000_000 (conclusion 1 5 0x6400 0x74 0 (publish_files ++ 0x60001 ∷ 0x656c6966 ∷ [])) ∷ [])
+    (arrived 5000 1_000_000 (conclusion 1 5 0x6400 0x74 0 (publish_files ++ 0x60001 ∷ 0x656c6966 ∷ [])) ∷ [])
     ≡ from 5000
     (words (0x80000000 ∷ 0 ∷ 0 ∷ 1 ∷ 5 ∷ 5 ∷ 5 ∷ 0x5dc ∷ 0x20 ∷ 0xffffffff ∷ 0x200000 ∷ 0 ∷ 0 ∷ 0 ∷ 0 ∷ 0 ∷ 0x20003 ∷ 0x10500 ∷ 0x74 ∷ 0
     ∷ 0x60001 ∷ 0x656c6966 ∷ []))
@@ -301,8 +301,8 @@ congestion_is_repeated = refl
 
 -- 32 packets arrive before there is a subscriber
 abbrev filled : (count : ℕ) → List Item
-filled zero = came 5000 1_000_000 (conclusion 1 100 0x6400 0x74 0 publish_files) ∷ []
-filled (suc n) = came 5000 1_001_000 (words ((100 + n) ∷ 0xe0000001 ∷ 0 ∷ 0x200000 ∷ []) ++ n ∷ []) ∷ filled n
+filled zero = arrived 5000 1_000_000 (conclusion 1 100 0x6400 0x74 0 publish_files) ∷ []
+filled (suc n) = arrived 5000 1_001_000 (words ((100 + n) ∷ 0xe0000001 ∷ 0 ∷ 0x200000 ∷ []) ++ n ∷ []) ∷ filled n
 
 abbrev sent_from : (from_number count : ℕ) → List Datagram
 sent_from number zero = []
@@ -314,7 +314,7 @@ unfolding handshake_in blocks_in with_first with_block answer_text ask_in list_i
     in_window lift confirmed_by is_full_due acks_at naks reports deliveries says body_bytes
 window_is_full = refl
 
-all_are_delivered : reply files 1 (came 5001 1_020_000 (conclusion 2 0 0x6400 0x74 0 request_files) ∷ Tick 1_010_000 ∷ filled 32)
+all_are_delivered : reply files 1 (arrived 5001 1_020_000 (conclusion 2 0 0x6400 0x74 0 request_files) ∷ Tick 1_010_000 ∷ filled 32)
     ≡ from 5001
     (words (0x80000000 ∷ 0 ∷ 0 ∷ 2 ∷ 5 ∷ 1 ∷ 0 ∷ 0x5dc ∷ 0x20 ∷ 0xffffffff ∷ 0x200001 ∷ 0 ∷ 0 ∷ 0 ∷ 0 ∷ 0 ∷ 0x20003 ∷ 0x10500 ∷ 0x74 ∷ 0
     ∷ []))
@@ -334,7 +334,7 @@ narrow_answer id =
     ∷ []))
 
 abbrev number_comes : (number : ℕ) → Item
-number_comes number = came 5000 1_001_000 (words (number ∷ 0xe0000001 ∷ 0 ∷ 0x100000 ∷ []) ++ 0x61 ∷ [])
+number_comes number = arrived 5000 1_001_000 (words (number ∷ 0xe0000001 ∷ 0 ∷ 0x100000 ∷ []) ++ 0x61 ∷ [])
 
 window_is_lost : reply narrow 0 (publisher_opens ∷ number_comes 37 ∷ publisher_opens ∷ []) ≡ narrow_answer 0x100100 ∷ []
 unfolding handshake_in blocks_in with_first with_block answer_text ask_in list_in with_part conclusion_in conclusion_of is_utf8 chars encode
@@ -353,7 +353,7 @@ ids_go_round = (refl, refl, refl, refl, refl, refl)
 
 -- a handshake to a session's ID is a sign of life
 abbrev greets : (moment : ℕ) → Item
-greets moment = came 5000 moment (words (0x80000000 ∷ 0 ∷ 0 ∷ 0x100000 ∷ 5 ∷ 5 ∷ 5 ∷ 0x5dc ∷ 0x2000 ∷ 0xffffffff ∷ 1 ∷ 0 ∷ 0 ∷ 0 ∷ 0 ∷ 0 ∷ []))
+greets moment = arrived 5000 moment (words (0x80000000 ∷ 0 ∷ 0 ∷ 0x100000 ∷ 5 ∷ 5 ∷ 5 ∷ 0x5dc ∷ 0x2000 ∷ 0xffffffff ∷ 1 ∷ 0 ∷ 0 ∷ 0 ∷ 0 ∷ 0 ∷ []))
 
 abbrev are_open : List Item → List Bool
 are_open items = map (λ (s : Session). s.is_open) (after studio 0 items).sessions
@@ -365,11 +365,11 @@ greeted = (refl, refl)
 
 -- a publisher is the standby of another one, and acknowledges what it receives
 abbrev viewer_opens : (moment delays : ℕ) → Item
-viewer_opens moment delays = came 5002 moment (conclusion 3 20 0x2000 0xbf delays request_studio)
+viewer_opens moment delays = arrived 5002 moment (conclusion 3 20 0x2000 0xbf delays request_studio)
 
 abbrev stands_by : List Item
 stands_by =
-    came 5001 1_021_000 (words (9 ∷ 0xe0000001 ∷ 0x3e8 ∷ 0x100001 ∷ []) ++ 0x68 ∷ 0x69 ∷ []) ∷ viewer_opens 1_020_000 0x780078
+    arrived 5001 1_021_000 (words (9 ∷ 0xe0000001 ∷ 0x3e8 ∷ 0x100001 ∷ []) ++ 0x68 ∷ 0x69 ∷ []) ∷ viewer_opens 1_020_000 0x780078
     ∷ standby_opens 1_010_000 ∷ publisher_opens ∷ []
 
 standby_is_acknowledged : reply studio 0 stands_by ≡ from 5001 (words (0x80020000 ∷ 1 ∷ 0x2af8 ∷ 2 ∷ 0xa ∷ 0x186a0 ∷ 0xc350 ∷ 0x3ff ∷ 0 ∷ 0 ∷ 0 ∷ [])) ∷ []
@@ -379,7 +379,7 @@ standby_is_acknowledged = refl
 
 -- the active one ends before the packet is due, so the standby takes over
 abbrev shuts_down : (moment : ℕ) → Item
-shuts_down moment = came 5000 moment (words (0x80050000 ∷ 0 ∷ 0 ∷ 0x100000 ∷ []))
+shuts_down moment = arrived 5000 moment (words (0x80050000 ∷ 0 ∷ 0 ∷ 0x100000 ∷ []))
 
 shutdown_delivers_nothing : reply studio 0 (shuts_down 1_100_000 ∷ stands_by)
     ≡ from 5001 (words (0x80020000 ∷ 2 ∷ 0x15f90 ∷ 2 ∷ 0xa ∷ 0x186a0 ∷ 0xc350 ∷ 0x3ff ∷ 0 ∷ 0 ∷ 0 ∷ [])) ∷ []
@@ -417,7 +417,7 @@ nothing_is_left = refl
 
 -- a publisher that reconnects is the standby, whatever its slot is
 abbrev comes_back : List Item
-comes_back = came 5000 1_024_000 (words (5 ∷ 0xe0000001 ∷ 0 ∷ 0x100100 ∷ []) ++ 0x61 ∷ []) ∷ opens_publisher 1_023_000 5 ∷ shuts_down 1_022_000 ∷ stands_by
+comes_back = arrived 5000 1_024_000 (words (5 ∷ 0xe0000001 ∷ 0 ∷ 0x100100 ∷ []) ++ 0x61 ∷ []) ∷ opens_publisher 1_023_000 5 ∷ shuts_down 1_022_000 ∷ stands_by
 
 other_one_is_active : reply studio 0 (Tick 1_131_000 ∷ comes_back)
     ≡ from 5000 (words (0x80020000 ∷ 1 ∷ 0x1a5e0 ∷ 1 ∷ 0x6 ∷ 0x186a0 ∷ 0xc350 ∷ 0x3ff ∷ 0 ∷ 0 ∷ 0 ∷ []))
@@ -437,7 +437,7 @@ that_one_stands_by = refl
 -- an active publisher that sends nothing ends, and the standby takes over, also if a third one opens then
 abbrev goes_silent : List Item
 goes_silent =
-    came 5001 5_900_000 (words (9 ∷ 0xe0000001 ∷ 0x4a4f70 ∷ 0x100001 ∷ []) ++ 0x68 ∷ 0x69 ∷ []) ∷ viewer_opens 1_020_000 0x780078
+    arrived 5001 5_900_000 (words (9 ∷ 0xe0000001 ∷ 0x4a4f70 ∷ 0x100001 ∷ []) ++ 0x68 ∷ 0x69 ∷ []) ∷ viewer_opens 1_020_000 0x780078
     ∷ standby_opens 1_010_000 ∷ publisher_opens ∷ []
 
 third_opens_for_it : reply studio 0 (third_opens 6_000_000 ∷ goes_silent)
@@ -451,16 +451,16 @@ third_opens_for_it = refl
 -- in buffer mode what a standby received waits
 abbrev file_stands_by : List Item
 file_stands_by =
-    Tick 1_013_000 ∷ came 5001 1_003_000 (words (0xc8 ∷ 0xe0000001 ∷ 0 ∷ 0x200001 ∷ []) ++ 0x61 ∷ [])
-    ∷ came 5002 1_002_000 (conclusion 3 0 0x6400 0x74 0 request_files) ∷ came 5001 1_001_000 (conclusion 2 0xc8 0x6400 0x74 0 publish_files)
-    ∷ came 5000 1_000_000 (conclusion 1 0x64 0x6400 0x74 0 publish_files) ∷ []
+    Tick 1_013_000 ∷ arrived 5001 1_003_000 (words (0xc8 ∷ 0xe0000001 ∷ 0 ∷ 0x200001 ∷ []) ++ 0x61 ∷ [])
+    ∷ arrived 5002 1_002_000 (conclusion 3 0 0x6400 0x74 0 request_files) ∷ arrived 5001 1_001_000 (conclusion 2 0xc8 0x6400 0x74 0 publish_files)
+    ∷ arrived 5000 1_000_000 (conclusion 1 0x64 0x6400 0x74 0 publish_files) ∷ []
 
 file_waits : reply files 1 file_stands_by ≡ from 5001 (words (0x80020000 ∷ 1 ∷ 0x2ee0 ∷ 2 ∷ 0xc9 ∷ 0x186a0 ∷ 0xc350 ∷ 0x1f ∷ 0 ∷ 0 ∷ 0 ∷ [])) ∷ []
 unfolding handshake_in blocks_in with_first with_block answer_text ask_in list_in with_part conclusion_in conclusion_of is_utf8 chars encode
     in_window lift confirmed_by is_full_due acks_at naks reports deliveries says body_bytes
 file_waits = refl
 
-file_goes_on : reply files 1 (came 5000 1_014_000 (words (0x80050000 ∷ 0 ∷ 0 ∷ 0x200000 ∷ [])) ∷ file_stands_by)
+file_goes_on : reply files 1 (arrived 5000 1_014_000 (words (0x80050000 ∷ 0 ∷ 0 ∷ 0x200000 ∷ [])) ∷ file_stands_by)
     ≡ from 5002 (words (0 ∷ 0xe0000001 ∷ 0x2ee0 ∷ 3 ∷ []) ++ 0x61 ∷ []) ∷ []
 unfolding handshake_in blocks_in with_first with_block answer_text ask_in list_in with_part conclusion_in conclusion_of is_utf8 chars encode
     in_window lift confirmed_by is_full_due acks_at naks reports deliveries says body_bytes

@@ -1,7 +1,7 @@
 -- Computed examples of renumbered and restamped bytes.
 use Rattle.std.proofs.Common.{◌≡◌, [], ◌∷◌, ◌++◌, refl}
 use Rattle.std.specs.Prelude.{replicate}
-use Rattle.srt_seq.specs.Words.{words}
+use Rattle.srt_types.specs.Words.{words}
 use Rattle.srt_hs.specs.Reading.{handshake_in}
 use Rattle.srt_route.specs.Shifted.{shifted_handshake, renumbered, restamped}
 

@@ -1,14 +1,15 @@
 -- A publisher's session that drains.
-use Rattle.std.proofs.Common.{◌≡◌, ℕ, ◌+◌, ◌<◌, ◌≤◌, Bool, true, false, ◌&&◌, not, cond, Option, None, Some, List, [], ◌∷◌, length, map, find, get_or}
+use Rattle.std.proofs.Common.{◌≡◌, ℕ, ◌+◌, ◌<◌, ◌≤◌, Bool, true, false, ◌&&◌, not, cond, Option, None, Some, List, [], ◌∷◌, length, map, find, get_or, suc}
 use Rattle.std.proofs.Common.{Bor, is_some, refl, sym, ap, subst, ◌∙◌, inl, inr, arith}
-use Rattle.std.specs.Prelude.{option_copied, unwrap_or}
+use Rattle.std.specs.Prelude.{count_by, nat_lt, option_copied, unwrap_or}
 use Rattle.std.specs.Option.{option_map}
 use Rattle.std.proofs.lemmas.Bool.{and_parts, cases_eq, cases_lt}
+use Rattle.std.proofs.lemmas.Bool.Decides.{nat_tests}
 use Rattle.std.proofs.lemmas.List.{get_or_default}
-use Rattle.srt_seq.specs.declared.shared.Mode.{Mode}
-use Rattle.srt_seq.specs.declared.shared.Mode.TheVariants.{Live, Buffer}
-use Rattle.srt_seq.specs.declared.shared.Callers.TheVariants.{Libsrt}
-use Rattle.srt_seq.specs.Terms.{Terms}
+use Rattle.srt_types.specs.declared.shared.Mode.{Mode}
+use Rattle.srt_types.specs.declared.shared.Mode.TheVariants.{Live, Buffer}
+use Rattle.srt_types.specs.declared.shared.Callers.TheVariants.{Libsrt}
+use Rattle.srt_types.specs.Terms.{Terms}
 use Rattle.srt_packet.specs.View.{body_of}
 use Rattle.srt_packet.specs.declared.reading.Kind.{Kind}
 use Rattle.srt_packet.specs.declared.reading.Kind.TheVariants as kinds
@@ -24,31 +25,36 @@ use Rattle.srt_route.specs.declared.publisher_buffers.PublisherBuffers.{Publishe
 use Rattle.srt_route.specs.declared.seat.Session.{Session as TheSession}
 use Rattle.srt_route.specs.declared.seat.Seat.{Seat}
 use Rattle.srt_route.specs.declared.table.Table.{Table}
-use Rattle.srt_route.specs.declared.ledger.EndCause.{EndCause}
 use Rattle.srt_route.specs.declared.ledger.EndedSession.{EndedSession}
 use Rattle.srt_route.specs.declared.ledger.Ledger.{Ledger}
 use Rattle.srt_route.specs.Past.{Past, Publishes, Subscribes, has_left, is_shutdown, payload_of, payloads_of}
-use Rattle.srt_route.specs.Sessions.{Session, active, is_active, is_open_in, is_publisher, publishes, renewed}
+use Rattle.srt_route.specs.Sessions.{Session, active, drains_open, is_active, is_draining, is_open_in, open_publishers, passed, passed_at, with_end}
+use Rattle.srt_route.specs.Sessions.{is_publisher, publishes, renewed}
 use Rattle.srt_route.specs.Sessions.{settled, settled_at, terms_of, time_in}
+use Rattle.srt_route.specs.Route.{delivered, delivery, drain_end, room_if, settled_by}
 use Rattle.srt_route.specs.Route.{delivery_of, drain_if, gives_some, is_some_payload, least_room}
 use Rattle.srt_route.specs.Buffers.{IsPast, IsSeated}
 use Rattle.srt_route.specs.PublisherBuffers.{place_of}
-use Rattle.srt_route.specs.Tables.{AreWide, IsSeat, IsSession, IsStored, IsTable, buffers_of, buffers_by, seat_settled, stored_settled}
-use Rattle.srt_route.specs.Ends.{EndsAre, EndsFor, EndsIn, drained_end}
-use Rattle.srt_route.specs.Ledgers.{CountsStay, Notes, NotesAt, Tells, drained_cause, entry_of}
-use Rattle.srt_route.specs.Totals.{SumsGrow}
+use Rattle.srt_route.specs.Tables.{AreWide, has_draining, IsSeat, IsSession, IsStored, IsTable, buffers_of, buffers_by, seat_settled, stored_settled}
+use Rattle.srt_route.specs.Ends.{EndsAre, EndsIn, Kept, cause_in, cause_of_slot, kept_of, settled_end, settled_ending}
+use Rattle.srt_route.specs.Ledgers.{CountsStay, drained_cause, entry_of}
+use Rattle.srt_route.specs.Totals.{SumsGrow, sums_to}
+use Rattle.srt_route.specs.inside.Notes.{NotesAt, cause_if}
+use Rattle.srt_route.specs.inside.Standby.{active_in}
 use Rattle.srt_route.specs.inside.Drains.{TellsOf, drained_in, left_in}
 use Rattle.srt_route.specs.inside.Standby.{HasActive, HasNone, IsActiveOf, NonePublishes, is_active_by}
 use Rattle.srt_route.proofs.model.Changes.{is_there}
 use Rattle.srt_route.proofs.model.FileEnds.{settles, settles_marks}
-use Rattle.srt_route.proofs.model.Found.{changed, while_open}
-use Rattle.srt_route.proofs.stored.Kept.{Becomes, KeepsBuffers, UpTo, below_seats, seat_at, some_buffers, table_kept}
-use Rattle.srt_route.proofs.steps.Noting.{grow_both, sums_told}
+use Rattle.srt_route.proofs.model.Found.{changed, open_parts, while_open}
+use Rattle.srt_route.proofs.model.Lists.{how_many, one_more}
+use Rattle.srt_route.proofs.stored.Kept.{Becomes, KeepsBuffers, UpTo, below_seats, seat_at, seat_stays, some_buffers, table_kept}
+use Rattle.srt_route.proofs.steps.Noting.{end_grows, grow_both, one_summed}
 use Rattle.srt_route.proofs.steps.Passing.{publisher_at}
-use Rattle.srt_route.proofs.steps.Told.{end_for}
-use Rattle.srt_route.proofs.steps.Views.{active_is as active_by_buffers}
+use Rattle.srt_route.proofs.steps.Notified.{none_notified, same_role, slot_notified}
+use Rattle.srt_route.proofs.steps.Views.{active_is as active_by_buffers, active_stored}
 use Rattle.srt_route.proofs.model.TakeOver.{active_in_slot, active_publishes}
-use Rattle.srt_route.proofs.stored.Stored.{alone_apart}
+use Rattle.srt_route.proofs.stored.Stored.{alone_apart, draining_among, publishers_among}
+use Rattle.srt_route.proofs.steps.Noted.{none_kept}
 
 -- packets that aren't a SHUTDOWN
 pub no_shutdown : (kind : Kind) → (kind ≡ kinds.Shutdown → ⊥) → is_shutdown (body_of kind) ≡ false
@@ -336,69 +342,174 @@ all_settled e index clock at given old new ss is h all =
     (subst (λ (m : Mode). Settles old.publishers.items m given clock (get_or old.seats.items k d) (get_or new.seats.items k d)) is.mode_is
     (h.seats.done k d (omega (arith, below, all)) below))))
 
+-- while no session drains
+drains_through : (e : Terms) (clock : ℕ) (room : Session → Option ℕ) (fed : List (List ℕ)) (ss : List Session)
+    → how_many drains_open (map (λ s. passed e clock (room s) fed s) ss) ≡ how_many drains_open ss
+drains_through e clock room fed [] = refl
+drains_through e clock room fed (s ∷ ss) = by (drains_open s) refl (drains_through e clock room fed ss)
+  where
+    f : Session → Session
+    f u = passed e clock (room u) fed u
+
+    same : (b : Bool) → s.is_open ≡ b → drains_open (passed_at e b (time_in s clock) (room s) fed s) ≡ drains_open s
+    same true h = refl
+    same false h = refl
+
+    by : (b : Bool) → drains_open s ≡ b → how_many drains_open (map f ss) ≡ how_many drains_open ss
+        → how_many drains_open (f s ∷ map f ss) ≡ how_many drains_open (s ∷ ss)
+    by true h rest = one_more drains_open (f s) (map f ss) true (same s.is_open refl ∙ h) ∙ (ap suc rest ∙ sym (one_more drains_open s ss true h))
+    by false h rest = one_more drains_open (f s) (map f ss) false (same s.is_open refl ∙ h) ∙ (rest ∙ sym (one_more drains_open s ss false h))
+
+some_session : (x y : Session) → Some x ≡ Some y → x ≡ y
+some_session x y h = cc
+
+none_draining : (ss : List Session) (at : ℕ) (s : Session) → how_many drains_open ss ≡ 0 → find (is_open_in at) ss ≡ Some s → is_draining s ≡ false
+none_draining [] at s none found = absurd (let bad : None ≡ Some s = found in cc)
+none_draining (t ∷ ss) at s none found = by (drains_open t) (is_open_in at t) refl refl (λ fewer later. none_draining ss at s fewer later)
+  where
+    by : (b c : Bool) → drains_open t ≡ b → is_open_in at t ≡ c
+        → (how_many drains_open ss ≡ 0 → find (is_open_in at) ss ≡ Some s → is_draining s ≡ false)
+        → is_draining s ≡ false
+    by true c h there rest = absurd (let more = one_more drains_open t ss true h in omega (arith, more, none))
+    by false true h there rest =
+        let it : t ≡ s = some_session t s (rw there at found) in
+        let opens : t.is_open ≡ true = (open_parts at t there).0 in
+        let not_it : is_draining t ≡ false = rw opens at h in
+        ap is_draining (sym it) ∙ not_it
+    by false false h there rest = rest (sym (one_more drains_open t ss false h) ∙ none) (rw there at found)
+
+settled_same : (e : Terms) (given : Bool) (clock : ℕ) (s : Session) (d : Option ℕ) → is_some d ≡ false → settled_at d e given clock s ≡ s
+settled_same e given clock s None h = refl
+settled_same e given clock s (Some until) h = absurd (let bad : true ≡ false = h in cc)
+
+pub still_settled : (e : Terms) (index clock : ℕ) (given : Bool) (table : Table) (ss : List Session) → IsTable e index clock table ss
+    → how_many drains_open ss ≡ 0 → IsTable e index clock table (settled_by Libsrt e clock given ss)
+still_settled e index clock given table ss is none =
+    subst (λ (x : Option Bool). IsTable e index clock table (map (with_end x) later)) (sym no_end)
+    (none_kept e index clock table later later_is)
+  where
+    later : List Session
+    later = map (settled e given clock) ss
+
+    later_is : IsTable e index clock table later
+    later_is =
+        table_kept (settled e given clock) (settles e given clock) (settles_marks e given clock) e index clock clock table table ss is is.early
+        (refl, refl, refl, refl, refl, refl) is.publishers_wide refl
+        (λ at d p below. seat_stays (settled e given clock) e index clock at (buffers_of table.publishers.items (get_or table.seats.items at d) p)
+        (buffers_of table.publishers.items (get_or table.seats.items at d) p) (get_or table.seats.items at d) ss (is.seats_are at d p below)
+        (λ s found. settled_same e given clock s s.drains (none_draining ss at s none found)) (λ s found h. h))
+
+    as_many : open_publishers later ≡ open_publishers ss
+    as_many = sym (publishers_among e index clock table later later_is) ∙ publishers_among e index clock table ss is
+
+    no_more : (n m : ℕ) → m ≡ n → drain_end n m ≡ None
+    no_more n m same = let e : nat_lt m n ≡ false = grind (arith, nat_tests, same) in rw e refl
+
+    no_end : drain_end (open_publishers ss) (open_publishers later) ≡ None
+    no_end = no_more (open_publishers ss) (open_publishers later) as_many
+
+pub none_drained : (e : Terms) (index clock : ℕ) (ss : List Session) (kept : Kept)
+    → how_many drains_open ss ≡ 0 → EndsAre e index (settled_ending Libsrt e) clock ss kept kept
+none_drained e index clock ss kept none =
+    none_notified e index (settled_ending Libsrt e) clock ss kept kept
+    (λ at s found. ap (λ (b : Bool). drained_cause (b && not (has_left (terms_of e s) s.past))) (none_draining ss at s none found)) (λ at. refl) refl
+
+-- none drains after the deliveries if none did before
+pub still_none : (e : Terms) (index clock : ℕ) (table : Table) (ss : List Session) → IsTable e index clock table ss
+    → count_by has_draining table.seats.items ≡ 0 → how_many drains_open (delivered e clock ss) ≡ 0
+still_none e index clock table ss is none =
+    drains_through e clock (λ s. room_if (is_active ss s) (least_room e ss)) (delivery e clock (least_room e ss) ss) ss
+    ∙ (sym (draining_among e index clock table ss is) ∙ none)
+
 -- the ends of the slots below `at` are recorded
 pub record EndsUpTo (clock at : ℕ) (table : Table) (old new : Ledger) : Type 0 where
   pub done : (e : Terms) (index : ℕ) (ss : List Session) → IsTable e index clock table ss → (k : ℕ) → k < at
-      → EndsIn index (drained_end e) clock (find (is_open_in k) ss) (entry_of old k) (entry_of new k)
+      → EndsIn e index ss (settled_ending Libsrt e) clock (find (is_open_in k) ss) (entry_of old k) (entry_of new k)
   pub ahead : (k : ℕ) → at ≤ k → entry_of new k ≡ entry_of old k
   pub counts : CountsStay old new
-  pub sums : SumsGrow old.totals new.totals
+  pub grow : SumsGrow old.totals new.totals
+  pub sums : (e : Terms) (index : ℕ) (ss : List Session) → IsTable e index clock table ss
+      → new.totals ≡ sums_to (cause_of_slot (settled_end Libsrt e) ss) (entry_of new) at old.totals
 
 pub none_ended : (clock : ℕ) (table : Table) (ledger : Ledger) → EndsUpTo clock 0 table ledger ledger
 none_ended clock table ledger =
-    record { done = λ e index ss is k lt. absurd (omega (arith, lt)); ahead = λ k le. refl; counts = (refl, refl); sums = ([], refl) }
+    record {
+      done = λ e index ss is k lt. absurd (omega (arith, lt));
+      ahead = λ k le. refl;
+      counts = (refl, refl);
+      grow = ([], refl);
+      sums = λ e index ss is. refl;
+    }
 
-untold : (cause : Option EndCause) (moment : ℕ) (old new : Option EndedSession) → Tells cause moment None old new → new ≡ old
-untold None moment old new h = h
-untold (Some cause) moment old new h = h
-
-slot_ended : (e : Terms) (index moment : ℕ) (ends : Bool) (o : Option TheSession) (f : Option Session) (old new : Option EndedSession)
-    → IsStored e index o f → ends ≡ drained_in e f → Tells (drained_cause ends) moment o old new → EndsIn index (drained_end e) moment f old new
-slot_ended e index moment ends None None old new is same h = untold (drained_cause ends) moment old new h
-slot_ended e index moment ends None (Some s) old new is same h = absurd is
-slot_ended e index moment ends (Some t) None old new is same h = absurd is
-slot_ended e index moment ends (Some t) (Some s) old new is same h =
-    subst (λ (b : Bool). EndsFor index (drained_cause b) moment s old new) same (end_for e index (drained_cause ends) moment t s old new is h)
+drained_alike : (e : Terms) (index : ℕ) (ends : Bool) (o : Option TheSession) (f : Option Session) → IsStored e index o f → ends ≡ drained_in e f
+    → cause_if (drained_cause ends) o ≡ cause_in (settled_end Libsrt e) f
+drained_alike e index ends None None is same = refl
+drained_alike e index ends None (Some s) is same = absurd is
+drained_alike e index ends (Some t) None is same = absurd is
+drained_alike e index ends (Some t) (Some s) is same = ap drained_cause same
 
 pub one_ended : (clock at : ℕ) (table now : Table) (old new later : Ledger) (x : Seat) (ends : Bool)
     → EndsUpTo clock at table old new → at < length table.seats.items → x ≡ get_or table.seats.items at x → x ≡ get_or now.seats.items at x
-    → TellsOf table.publishers.items x (λ e o. ends ≡ drained_in e o) → Notes at (drained_cause ends) clock now new later
+    → TellsOf table.publishers.items x (λ e o. ends ≡ drained_in e o)
+    → ((d : Seat) → NotesAt (active_in table) table.publishers.items at (drained_cause ends) clock (get_or now.seats.items at d) new later)
     → EndsUpTo clock (at + 1) table old later
 one_ended clock at table now old new later x ends h inside there still tells notes =
     record {
       done = λ e index ss is k lt. one e index ss is k lt;
       ahead = λ k le. it.others k (λ same. omega (arith, le, same)) ∙ h.ahead k (omega (arith, le));
       counts = (it.counts.0 ∙ h.counts.0, it.counts.1 ∙ h.counts.1);
-      sums = grow_both old.totals new.totals later.totals h.sums
-          (sums_told (drained_cause ends) x.session (entry_of later at) new.totals later.totals it.sums);
+      grow = grow_both old.totals new.totals later.totals h.grow
+          (end_grows (cause_if (drained_cause ends) x.session) (entry_of later at) new.totals later.totals it.sums);
+      sums = λ e index ss is.
+          one_summed (cause_of_slot (settled_end Libsrt e) ss) (cause_if (drained_cause ends) x.session) at old new later (sym (alike e index ss is)) it.others
+          (h.sums e index ss is) it.sums;
     }
   where
-    it : NotesAt at (drained_cause ends) clock x.session new later
-    it = subst (λ (z : Seat). NotesAt at (drained_cause ends) clock z.session new later) (sym still) (notes x)
+    it : NotesAt (active_in table) table.publishers.items at (drained_cause ends) clock x new later
+    it = subst (λ (z : Seat). NotesAt (active_in table) table.publishers.items at (drained_cause ends) clock z new later) (sym still) (notes x)
+
+    seat_is : (e : Terms) (index : ℕ) (ss : List Session) → IsTable e index clock table ss
+        → IsSeat e index clock at (buffers_of table.publishers.items x (some_buffers table)) x ss
+    seat_is e index ss is = seat_at e index clock table ss at x (some_buffers table) is inside there
+
+    alike : (e : Terms) (index : ℕ) (ss : List Session) → IsTable e index clock table ss
+        → cause_if (drained_cause ends) x.session ≡ cause_of_slot (settled_end Libsrt e) ss at
+    alike e index ss is =
+        drained_alike e index ends x.session (find (is_open_in at) ss) (seat_is e index ss is).session_is
+        (tells e index clock at (some_buffers table) ss (seat_is e index ss is))
 
     one : (e : Terms) (index : ℕ) (ss : List Session) → IsTable e index clock table ss → (k : ℕ) → k < at + 1
-        → EndsIn index (drained_end e) clock (find (is_open_in k) ss) (entry_of old k) (entry_of later k)
+        → EndsIn e index ss (settled_ending Libsrt e) clock (find (is_open_in k) ss) (entry_of old k) (entry_of later k)
     one e index ss is k lt = elim (cases_eq k at) [
       | inl here ↦
-          let seat = seat_at e index clock table ss at x (some_buffers table) is inside there in
-          subst (λ (n : ℕ). EndsIn index (drained_end e) clock (find (is_open_in n) ss) (entry_of old n) (entry_of later n)) (sym here)
-          (subst (λ (y : Option EndedSession). EndsIn index (drained_end e) clock (find (is_open_in at) ss) y (entry_of later at))
+          let seat = seat_is e index ss is in
+          subst (λ (n : ℕ). EndsIn e index ss (settled_ending Libsrt e) clock (find (is_open_in n) ss) (entry_of old n) (entry_of later n)) (sym here)
+          (subst (λ (y : Option EndedSession). EndsIn e index ss (settled_ending Libsrt e) clock (find (is_open_in at) ss) y (entry_of later at))
           (h.ahead at (omega arith))
-          (slot_ended e index clock ends x.session (find (is_open_in at) ss) (entry_of new at) (entry_of later at) seat.session_is
-          (tells e index clock at (some_buffers table) ss seat) it.told))
+          (slot_notified e index clock ss (active_in table) table.publishers.items x (settled_ending Libsrt e) (drained_cause ends) clock
+          (some_buffers table) x.session (find (is_open_in at) ss) (entry_of new at) (entry_of later at) (λ s. refl) seat.session_is (alike e index ss is)
+          (λ t s stored found. active_stored e index clock table ss at x s t is found (ap (λ (z : Seat). z.session) (sym there) ∙ stored)
+          (same_role e index x.session (find (is_open_in at) ss) t s seat.session_is stored found))
+          (λ s found. seat.seated s found) it.notified))
       | inr apart ↦
-          subst (λ (y : Option EndedSession). EndsIn index (drained_end e) clock (find (is_open_in k) ss) (entry_of old k) y)
+          subst (λ (y : Option EndedSession). EndsIn e index ss (settled_ending Libsrt e) clock (find (is_open_in k) ss) (entry_of old k) y)
           (sym (it.others k apart)) (h.done e index ss is k (omega (arith, lt, apart)))
     ]
 
-pub all_ends : (clock at : ℕ) (table : Table) (old new : Ledger) → EndsUpTo clock at table old new → length table.seats.items ≤ at
+pub all_ends : (clock at : ℕ) (table : Table) (old new : Ledger) → EndsUpTo clock at table old new → length table.seats.items ≡ at
     → (e : Terms) (index : ℕ) (ss : List Session) → IsTable e index clock table ss
-    → EndsAre index (drained_end e) clock ss (entry_of old) (entry_of new)
-all_ends clock at table old new h all e index ss is k = elim (cases_lt k at) [
-  | inl low ↦ h.done e index ss is k low
-  | inr high ↦ by (find (is_open_in k) ss) refl high
-]
+    → EndsAre e index (settled_ending Libsrt e) clock ss (kept_of old) (kept_of new)
+all_ends clock at table old new h all e index ss is =
+    record {
+      entries = λ k. elim (cases_lt k at) [
+        | inl low ↦ h.done e index ss is k low
+        | inr high ↦ by k (find (is_open_in k) ss) refl high
+      ];
+      sums = h.sums e index ss is
+          ∙ ap (λ (n : ℕ). sums_to (cause_of_slot (settled_end Libsrt e) ss) (entry_of new) n old.totals) (sym all ∙ is.places_are);
+    }
   where
-    by : (f : Option Session) → find (is_open_in k) ss ≡ f → at ≤ k → EndsIn index (drained_end e) clock f (entry_of old k) (entry_of new k)
-    by None found high = h.ahead k high
-    by (Some s) found high = absurd (omega (arith, high, all, below_seats e index clock table ss k s is found))
+    by : (k : ℕ) (f : Option Session) → find (is_open_in k) ss ≡ f → at ≤ k
+        → EndsIn e index ss (settled_ending Libsrt e) clock f (entry_of old k) (entry_of new k)
+    by k None found high = h.ahead k high
+    by k (Some s) found high = absurd (omega (arith, high, all, below_seats e index clock table ss k s is found))

@@ -2,9 +2,9 @@
 use Rattle.std.proofs.Common.{◌≡◌, ℕ, suc, ◌+◌, ◌-◌, ◌<◌, ◌≤◌, Bool, true, false, not, cond, Option, None, Some, List, length, find, get_or}
 use Rattle.std.proofs.Common.{refl, sym, ap, subst, ◌∙◌, arith}
 use Rattle.std.specs.Prelude.{filter_map, fold}
-use Rattle.srt_seq.specs.declared.shared.Mode.TheVariants.{Buffer}
-use Rattle.srt_seq.specs.Runs.{numbers_from}
-use Rattle.srt_seq.specs.Terms.{Terms}
+use Rattle.srt_types.specs.declared.shared.Mode.TheVariants.{Buffer}
+use Rattle.srt_types.specs.Runs.{numbers_from}
+use Rattle.srt_types.specs.Terms.{Terms}
 use Rattle.srt_sendbuf.specs.Sending.{room}
 use Rattle.srt_pub.specs.declared.session.Publisher.{Publisher}
 use Rattle.srt_sub.specs.Subscribing as subscribing

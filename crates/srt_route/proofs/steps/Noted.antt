@@ -1,7 +1,7 @@
 -- What sessions record of a publisher's end, and which have the whole file.
 use Rattle.std.proofs.Common.{◌≡◌, ℕ, Bool, true, false, ◌&&◌, not, cond, Option, None, Some, List, [], ◌∷◌, map, find, refl, sym, ap, subst, ◌∙◌}
 use Rattle.std.specs.Option.{option_map}
-use Rattle.srt_seq.specs.Terms.{Terms}
+use Rattle.srt_types.specs.Terms.{Terms}
 use Rattle.srt_pub.specs.declared.session.Publisher.{Publisher}
 use Rattle.srt_sub.specs.declared.session.Subscriber.{Subscriber}
 use Rattle.srt_route.specs.declared.seat.Session.{Session as TheSession}

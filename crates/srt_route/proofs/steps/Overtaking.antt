@@ -5,9 +5,9 @@ use Rattle.std.specs.Option.{is_some}
 use Rattle.std.specs.List.{list_any}
 use Rattle.std.proofs.lemmas.Bool.{and_from, and_parts, false_from_ne_true}
 use Rattle.std.proofs.lemmas.Bool.Decides.{nat_tests}
-use Rattle.srt_seq.specs.Terms.{Terms}
+use Rattle.srt_types.specs.Terms.{Terms}
 use Rattle.srt_pub.specs.Changes.{HoldsOfAt}
-use Rattle.srt_pub.specs.Publishing.{last_came}
+use Rattle.srt_pub.specs.Publishing.{last_arrival}
 use Rattle.srt_pub.specs.declared.session.Publisher.{Publisher}
 use Rattle.srt_sub.specs.declared.session.Subscriber.{Subscriber}
 use Rattle.srt_route.specs.declared.publisher_buffers.PublisherBuffers.{PublisherBuffers}
@@ -142,7 +142,7 @@ none_failed e index clock limit table ss b is none = by (active ss) refl (standb
 pub silent_is : (e : Terms) (index clock : ℕ) (table : Table) (ss : List Session) (at : ℕ) (s : Session) (b : PublisherBuffers) (place : ℕ)
     (p : Publisher) (silence : ℕ)
     → IsTable e index clock table ss → IsPublishing ss at s → Uses table at b → place ≡ place_of b → p ≡ get_or table.publishers.items place p
-    → HoldsOfAt clock p (λ terms time m. silence ≡ time - last_came m.notes)
+    → HoldsOfAt clock p (λ terms time m. silence ≡ time - last_arrival m.notes)
     → silence ≡ silence_of (time_in s clock) s.past
 silent_is e index clock table ss at s b place p silence is here uses place_is there holds =
     let past = has_past e index clock table ss at s is here in

@@ -4,9 +4,9 @@ use Rattle.std.proofs.Common.{length, map, find, get_or, set, inl, inr, refl, sy
 use Rattle.std.specs.Option.{is_some, option_map}
 use Rattle.std.proofs.lemmas.Bool.{cases_eq, and_parts, eq-eqb, eqb-true, false_from_ne_true}
 use Rattle.std.proofs.lemmas.List.{get_or_past}
-use Rattle.srt_seq.specs.declared.shared.Mode.{Mode}
-use Rattle.srt_seq.specs.declared.shared.Mode.TheVariants.{Live, Buffer}
-use Rattle.srt_seq.specs.Terms.{Terms}
+use Rattle.srt_types.specs.declared.shared.Mode.{Mode}
+use Rattle.srt_types.specs.declared.shared.Mode.TheVariants.{Live, Buffer}
+use Rattle.srt_types.specs.Terms.{Terms}
 use Rattle.srt_recvbuf.specs.Receiving.{Arrival}
 use Rattle.srt_sendbuf.specs.Sending.{room}
 use Rattle.srt_pub.specs.Publishing as publishing

@@ -8,11 +8,11 @@ use Rattle.std.specs.List.{cons_option, flat_map}
 use Rattle.std.proofs.lemmas.Bool.{and_parts, cases_eq, eq-eqb, eqb-true, false_from_ne_true}
 use Rattle.std.proofs.lemmas.Bool.Decides.{nat_tests}
 use Rattle.std.proofs.lemmas.List.{length-map, length-append, map-append, get_or_default}
-use Rattle.srt_seq.specs.declared.shared.Mode.{Mode}
-use Rattle.srt_seq.specs.declared.shared.Mode.TheVariants.{Live, Buffer}
-use Rattle.srt_seq.specs.declared.shared.Peer.{Peer}
-use Rattle.srt_seq.specs.Terms.{Terms}
-use Rattle.srt_seq.specs.Items.{Datagram}
+use Rattle.srt_types.specs.declared.shared.Mode.{Mode}
+use Rattle.srt_types.specs.declared.shared.Mode.TheVariants.{Live, Buffer}
+use Rattle.srt_types.specs.declared.shared.Peer.{Peer}
+use Rattle.srt_types.specs.Terms.{Terms}
+use Rattle.srt_types.specs.Items.{Datagram}
 use Rattle.srt_packet.specs.declared.encoded.EncodedPacket.{EncodedPacket}
 use Rattle.srt_packet.specs.Encoded.{bytes_of}
 use Rattle.srt_sendbuf.specs.Sending.{Sending, Mark, sent as marked_sent, all_lost}
@@ -25,6 +25,7 @@ use Rattle.srt_sub.specs.Subscribing as subscribing
 use Rattle.srt_sub.specs.Says as subscriber_text
 use Rattle.srt_sub.specs.Stands as subscribers
 use Rattle.srt_sub.specs.Emission.{Emitting, IsNext}
+use Rattle.srt_sub.proofs.Freshness.{none_given_up}
 use Rattle.srt_sub.proofs.Sound.{begins}
 use Rattle.srt_sub.specs.declared.session.Subscriber.{Subscriber}
 use Rattle.srt_route.specs.declared.publisher_buffers.PublisherBuffers.{PublisherBuffers}
@@ -34,10 +35,11 @@ use Rattle.srt_route.specs.declared.seat.Seat.{Seat}
 use Rattle.srt_route.specs.declared.table.Table.{Table}
 use Rattle.srt_route.specs.Written.{written}
 use Rattle.srt_route.specs.Past.{Past, Publishes, Subscribes, Agreed, ToPublisher, ToSubscriber, reports_of, reported_past}
-use Rattle.srt_route.specs.Sessions.{Session, is_draining, is_open_in, is_publisher, is_subscriber, publishes, speaks, terms_of, time_in}
+use Rattle.srt_route.specs.Sessions.{Session, is_draining, is_open_in, is_publisher, is_recent, is_subscriber, publishes, speaks, terms_of, time_in}
 use Rattle.srt_route.specs.Route.{Reply as Answer, sent, said_by, packets_at, packets_where}
 use Rattle.srt_route.specs.Buffers.{IsPast, IsSeated, datagrams_to}
 use Rattle.srt_route.specs.Tables.{IsStored, IsSeat, IsTable, IsPublishing, Uses, session_passes, buffers_by, used_buffers, has_speaker}
+use Rattle.srt_route.specs.Tables.{is_heard_recently}
 use Rattle.srt_route.specs.inside.Delivery.{PublisherStands, IsPublisherOf, changed, amid}
 use Rattle.srt_route.specs.inside.Delivery.{IsPublisherAt, after_publisher, publisher_reported, reported_in, after_publisher_in}
 use Rattle.srt_route.specs.inside.Delivery.{packets_of, packets_in, after_subscriber, subscriber_reported}
@@ -91,20 +93,20 @@ three_said a b c d p q r s peer xs ys zs all is h k l =
 
 -- packets of a range of slots
 abbrev pub said_from : Terms → (clock : ℕ) → (Session → Bool) → List Session → (from count : ℕ) → List Datagram
-said_from e clock test ss from count = map sent (flat_map (λ s. packets_at e (test s) (time_in s clock) s) (from_places ss from count))
+said_from e clock test ss from count = map sent (flat_map (λ s. packets_at e (test s) clock s) (from_places ss from count))
 
 said_more : (e : Terms) (clock : ℕ) (test : Session → Bool) (ss : List Session) (from count : ℕ) (s : Session)
     → find (is_open_in from) ss ≡ Some s
     → said_from e clock test ss from (suc count)
-    ≡ map sent (packets_at e (test s) (time_in s clock) s) ++ said_from e clock test ss (from + 1) count
+    ≡ map sent (packets_at e (test s) clock s) ++ said_from e clock test ss (from + 1) count
 said_more e clock test ss from count s is =
-    ap (λ (o : Option Session). map sent (flat_map (λ s. packets_at e (test s) (time_in s clock) s) (cons_option o (from_places ss (from + 1) count)))) is
-    ∙ map-append sent (packets_at e (test s) (time_in s clock) s) (flat_map (λ s. packets_at e (test s) (time_in s clock) s) (from_places ss (from + 1) count))
+    ap (λ (o : Option Session). map sent (flat_map (λ s. packets_at e (test s) clock s) (cons_option o (from_places ss (from + 1) count)))) is
+    ∙ map-append sent (packets_at e (test s) clock s) (flat_map (λ s. packets_at e (test s) clock s) (from_places ss (from + 1) count))
 
 said_vacant : (e : Terms) (clock : ℕ) (test : Session → Bool) (ss : List Session) (from count : ℕ)
     → find (is_open_in from) ss ≡ None → said_from e clock test ss from (suc count) ≡ said_from e clock test ss (from + 1) count
 said_vacant e clock test ss from count is =
-    ap (λ (o : Option Session). map sent (flat_map (λ s. packets_at e (test s) (time_in s clock) s) (cons_option o (from_places ss (from + 1) count)))) is
+    ap (λ (o : Option Session). map sent (flat_map (λ s. packets_at e (test s) clock s) (cons_option o (from_places ss (from + 1) count)))) is
 
 -- the publisher's packets
 publisher_bytes : (clock : ℕ) (s : Session) (rs : List publishing.Report)
@@ -121,10 +123,10 @@ pub publisher_said : (e : Terms) (clock : ℕ) (s : Session) (q : Publishing) �
     → datagrams_to s.peer
     (map (publisher_text.says s.conclusion.caller s.conclusion.initial (time_in s clock))
     (publishing.reports (terms_of e s).publisher (time_in s clock) q))
-    ≡ map sent (packets_at e true (time_in s clock) s)
+    ≡ map sent (packets_at e true clock s)
 publisher_said e clock s q past =
     publisher_bytes clock s (publishing.reports (terms_of e s).publisher (time_in s clock) q)
-    ∙ ap (λ (p : Past). map sent (map (said_by (time_in s clock) s) (reports_of (terms_of e s) (time_in s clock) p))) (sym past)
+    ∙ ap (λ (p : Past). map sent (map (said_by (time_in s clock) s) (reports_of (terms_of e s) (time_in s clock) (is_recent s clock) p))) (sym past)
 
 -- a publisher's seat has a session with its peer
 seat_session : (e : Terms) (index clock : ℕ) (table : Table) (ss : List Session) (at : ℕ) (x : Seat) (s : Session)
@@ -211,7 +213,7 @@ pub publisher_packets : (e : Terms) (clock : ℕ) (ss : List Session) (at : ℕ)
 publisher_packets e clock ss at s q here speaking =
     publisher_said e clock s q here.past_is
     ∙ sym (ap (λ (o : Option Session). map sent (packets_of e clock speaks o)) here.found
-    ∙ ap (λ (b : Bool). map sent (packets_at e b (time_in s clock) s))
+    ∙ ap (λ (b : Bool). map sent (packets_at e b clock s))
     (ap (λ (b : Bool). b && not (is_draining s)) here.publishes ∙ ap not speaking))
 
 pub publisher_queued : (e : Terms) (clock : ℕ) (ss : List Session) (at : ℕ) (s : Session) (q : Publishing) (peer : Peer)
@@ -237,7 +239,7 @@ no_publisher_says e clock ss at none = by (find (is_open_in at) ss) refl
   where
     by : (o : Option Session) → find (is_open_in at) ss ≡ o → map sent (packets_of e clock speaks o) ≡ []
     by None is = refl
-    by (Some s) is = ap (λ (b : Bool). map sent (packets_at e b (time_in s clock) s)) (none s is)
+    by (Some s) is = ap (λ (b : Bool). map sent (packets_at e b clock s)) (none s is)
 
 -- the packets of a seat, by its session
 pub seat_without : (e : Terms) (index clock : ℕ) (table : Table) (ss : List Session) (at : ℕ) (x : Seat) → IsTable e index clock table ss
@@ -310,13 +312,13 @@ has_none x y same none some =
     sym (ap (session_passes (λ (t : TheSession). publishes t.role && not (is_some t.drains))) none) ∙ (ap has_speaker same ∙ some) in cc
 
 -- the publishers of the slots below `at` have sent their packets
-abbrev pub below_told : Terms → (clock at : ℕ) → Session → Past
-below_told e clock at s = reported_in (is_draining s) (terms_of e s) (time_in s clock) (nat_lt s.slot at) s.past
+abbrev pub below_notified : Terms → (clock at : ℕ) → Session → Past
+below_notified e clock at s = reported_in (is_draining s) (terms_of e s) (time_in s clock) (nat_lt s.slot at) s.past
 
-told_once : (draining : Bool) (terms : Agreed) (time slot at : ℕ) (past : Past)
+notified_once : (draining : Bool) (terms : Agreed) (time slot at : ℕ) (past : Past)
     → reported_in draining terms time (slot == at) (reported_in draining terms time (nat_lt slot at) past)
     ≡ reported_in draining terms time (nat_lt slot (at + 1)) past
-told_once draining terms time slot at past = elim (cases_eq slot at) [
+notified_once draining terms time slot at past = elim (cases_eq slot at) [
   | inl same ↦
       let here : slot == at ≡ true = eq-eqb slot at same in
       let first : nat_lt slot at ≡ false = grind (arith, nat_tests, same) in
@@ -344,45 +346,45 @@ told_once draining terms time slot at past = elim (cases_eq slot at) [
         let bad : true ≡ false = sym m ∙ h in
         cc)
 
-pub told_below : (e : Terms) (clock at : ℕ) (ss : List Session)
-    → map (changed (after_publisher_in e clock at)) (map (changed (below_told e clock at)) ss)
-    ≡ map (changed (below_told e clock (at + 1))) ss
-told_below e clock at ss =
-    compose_all (after_publisher_in e clock at) (below_told e clock at) (below_told e clock (at + 1))
-    (λ s. told_once (is_draining s) (terms_of e s) (time_in s clock) s.slot at s.past) ss
+pub notified_below : (e : Terms) (clock at : ℕ) (ss : List Session)
+    → map (changed (after_publisher_in e clock at)) (map (changed (below_notified e clock at)) ss)
+    ≡ map (changed (below_notified e clock (at + 1))) ss
+notified_below e clock at ss =
+    compose_all (after_publisher_in e clock at) (below_notified e clock at) (below_notified e clock (at + 1))
+    (λ s. notified_once (is_draining s) (terms_of e s) (time_in s clock) s.slot at s.past) ss
 
-pub none_below : (e : Terms) (clock : ℕ) (ss : List Session) → map (changed (below_told e clock 0)) ss ≡ ss
+pub none_below : (e : Terms) (clock : ℕ) (ss : List Session) → map (changed (below_notified e clock 0)) ss ≡ ss
 none_below e clock ss = same_all ss ∙ unchanged ss
   where
-    same_all : (ts : List Session) → map (changed (below_told e clock 0)) ts ≡ map (changed (λ s. s.past)) ts
+    same_all : (ts : List Session) → map (changed (below_notified e clock 0)) ts ≡ map (changed (λ s. s.past)) ts
     same_all [] = refl
     same_all (t ∷ ts) =
         let test : nat_lt t.slot 0 ≡ false = grind (arith, nat_tests) in
-        ap (λ (b : Bool). changed (λ s. reported_in (is_draining t) (terms_of e t) (time_in t clock) b t.past) t ∷ map (changed (below_told e clock 0)) ts)
+        ap (λ (b : Bool). changed (λ s. reported_in (is_draining t) (terms_of e t) (time_in t clock) b t.past) t ∷ map (changed (below_notified e clock 0)) ts)
         test
         ∙ ap (λ (us : List Session). changed (λ s. s.past) t ∷ us) (same_all ts)
 
 pub all_below : (e : Terms) (index clock at : ℕ) (table : Table) (ss : List Session) → IsTable e index clock table ss → e.sessions ≤ at
-    → map (changed (below_told e clock at)) ss ≡ map (changed (after_publisher e clock)) ss
+    → map (changed (below_notified e clock at)) ss ≡ map (changed (after_publisher e clock)) ss
 all_below e index clock at table ss body all =
-    same_everywhere (below_told e clock at) (after_publisher e clock) e.sessions ss body.alone (λ k t is.
+    same_everywhere (below_notified e clock at) (after_publisher e clock) e.sessions ss body.alone (λ k t is.
     let low : t.slot < at = omega (arith, all, inside e index clock table ss body k t is, (is_there k ss t is).1) in
     let test : nat_lt t.slot at ≡ true = grind (arith, nat_tests, low) in
     ap (λ (b : Bool). reported_in (is_draining t) (terms_of e t) (time_in t clock) b t.past) test)
 
 -- the packets of a slot that hasn't sent any yet are those of before
 pub same_in_slot : (e : Terms) (clock at : ℕ) (ss : List Session)
-    → packets_in e clock speaks at (map (changed (below_told e clock at)) ss) ≡ packets_in e clock speaks at ss
-same_in_slot e clock at ss = ap (packets_of e clock speaks) (find_changed (below_told e clock at) at ss) ∙ by (find (is_open_in at) ss) refl
+    → packets_in e clock speaks at (map (changed (below_notified e clock at)) ss) ≡ packets_in e clock speaks at ss
+same_in_slot e clock at ss = ap (packets_of e clock speaks) (find_changed (below_notified e clock at) at ss) ∙ by (find (is_open_in at) ss) refl
   where
     by : (o : Option Session) → find (is_open_in at) ss ≡ o
-        → packets_of e clock speaks (option_map (changed (below_told e clock at)) o) ≡ packets_of e clock speaks o
+        → packets_of e clock speaks (option_map (changed (below_notified e clock at)) o) ≡ packets_of e clock speaks o
     by None is = refl
     by (Some t) is =
         let there = is_there at ss t is in
         let test : nat_lt t.slot at ≡ false = let same = there.1 in grind (arith, nat_tests, same) in
-        ap (λ (u : Session). packets_at e (speaks u) (time_in u clock) u)
-        (changed_is t (below_told e clock at) t.past there.0
+        ap (λ (u : Session). packets_at e (speaks u) clock u)
+        (changed_is t (below_notified e clock at) t.past there.0
         (ap (λ (b : Bool). reported_in (is_draining t) (terms_of e t) (time_in t clock) b t.past) test))
 
 -- sending only adds marks of numbers, so nothing more is too old
@@ -391,20 +393,21 @@ marks_alone [] s = (s.marks, refl)
 marks_alone (n ∷ ns) s = let later = marks_alone ns (marked_sent n s) in (later.0, later.1)
 
 presumed_marks : (b : Bool) (m : subscribing.Subscribing)
-    → (marks : List Mark) × ((cond b (record m { sending = all_lost m.sending }) m).sending ≡ record m.sending { marks = marks })
+    → (marks : List Mark)
+    × ((cond b (record m { sending = all_lost m.sending; notes = subscribing.Presumed ∷ m.notes }) m).sending ≡ record m.sending { marks = marks })
 presumed_marks true m = ((all_lost m.sending).marks, refl)
 presumed_marks false m = (m.sending.marks, refl)
 
-reported_marks : (terms : subscribing.Terms) (time : ℕ) (m : subscribing.Subscribing)
-    → (marks : List Mark) × ((subscribing.reported terms time m).sending ≡ record m.sending { marks = marks })
-reported_marks terms time m =
+reported_marks : (terms : subscribing.Terms) (time : ℕ) (recent : Bool) (m : subscribing.Subscribing)
+    → (marks : List Mark) × ((subscribing.reported terms time recent m).sending ≡ record m.sending { marks = marks })
+reported_marks terms time recent m =
     let t = subscribing.renewed terms time m in
-    let n = subscribing.prepared terms time m in
+    let n = subscribing.prepared terms time recent m in
     let count = subscribing.resends terms.resend_percent subscribing.most n.notes in
     let sent_numbers = subscribing.again_of count n.sending
     ++ subscribing.new_of subscribing.most count (subscribing.flow_window terms.window n.notes) n.sending in
     let all = marks_alone sent_numbers n.sending in
-    let before = presumed_marks (subscribing.resend_due time t) t in
+    let before = presumed_marks (subscribing.resend_due terms time recent t) t in
     (all.0, all.1 ∙ ap (λ (s : Sending). record s { marks = all.0 }) before.1)
 
 fresh_marks : (mode : Mode) (terms : subscribing.Terms) (time : ℕ) (s : Sending) (marks : List Mark)
@@ -413,12 +416,13 @@ fresh_marks : (mode : Mode) (terms : subscribing.Terms) (time : ℕ) (s : Sendin
 fresh_marks Live terms time s marks e1 = ap (λ (x : Sending). record s { expired = x.expired; marks = marks }) e1
 fresh_marks Buffer terms time s marks e1 = refl
 
-pub reported_fresh : (terms : subscribing.Terms) (time : ℕ) (m : subscribing.Subscribing) → subscribing.expired terms time m ≡ m
-    → subscribing.expired terms time (subscribing.reported terms time m) ≡ subscribing.reported terms time m
-reported_fresh terms time m e1 =
-    let is = reported_marks terms time m in
+pub reported_fresh : (terms : subscribing.Terms) (time : ℕ) (recent : Bool) (m : subscribing.Subscribing)
+    → subscribing.expired terms time m ≡ m
+    → subscribing.expired terms time (subscribing.reported terms time recent m) ≡ subscribing.reported terms time recent m
+reported_fresh terms time recent m e1 =
+    let is = reported_marks terms time recent m in
     let fresh = fresh_marks terms.mode terms time m.sending is.0 (ap (λ (x : subscribing.Subscribing). x.sending) e1) in
-    ap (λ (x : Sending). record (subscribing.reported terms time m) { sending = x })
+    none_given_up (subscribing.reported terms time recent m) (subscribing.expired_in terms.mode terms time (subscribing.reported terms time recent m).sending)
     (ap (subscribing.expired_in terms.mode terms time) is.1 ∙ (fresh ∙ sym is.1))
 
 -- the effect of a call on a slot's subscriber at the end of an event
@@ -426,20 +430,28 @@ abbrev pub Tells : (clock : ℕ) → Option TheSession → (x y : Subscriber) �
 Tells clock o x y =
     subscribes o ≡ true → (terms : subscribing.Terms) (initial opening caller : ℕ) (m : subscribing.Subscribing)
     → subscribers.StandsFor terms initial opening caller clock x m → subscribing.expired terms (clock - opening) m ≡ m
-    → subscribers.StandsFor terms initial opening caller clock y (subscribing.reported terms (clock - opening) m)
+    → subscribers.StandsFor terms initial opening caller clock y
+    (subscribing.reported terms (clock - opening) (session_passes (is_heard_recently clock) o) m)
 
 abbrev pub Says : (clock : ℕ) → Option TheSession → (x : Subscriber) → (before later : List Reply) (places more : ℕ) → Type 0
 Says clock o x before later places more =
     subscribes o ≡ true → (t : TheSession) (terms : subscribing.Terms) (initial opening caller : ℕ) (m : subscribing.Subscribing)
     → o ≡ Some t → subscribers.StandsFor terms initial opening caller clock x m → subscribing.expired terms (clock - opening) m ≡ m
     → AreSaid before later places more
-    (datagrams_to t.peer (map (subscriber_text.says caller initial (clock - opening)) (subscribing.reports terms (clock - opening) m)))
+    (datagrams_to t.peer
+    (map (subscriber_text.says caller initial (clock - opening))
+    (subscribing.reports terms (clock - opening) (session_passes (is_heard_recently clock) o) m)))
 
-told_seat : (e : Terms) (index clock : ℕ) (p : Publisher) (x y : Subscriber) (o : Option TheSession) (s : Session)
+-- when its peer was heard last
+heard_recently : (e : Terms) (index clock : ℕ) (t : TheSession) (s : Session) → IsStored e index (Some t) (Some s)
+    → is_heard_recently clock t ≡ is_recent s clock
+heard_recently e index clock t s is = ap (λ (n : ℕ). nat_lt (clock - n) 1_000_000) is.heard_is
+
+notified_seat : (e : Terms) (index clock : ℕ) (p : Publisher) (x y : Subscriber) (o : Option TheSession) (s : Session)
     → IsStored e index o (Some s) → IsSeated e clock p x s → s.is_open ≡ true → subscribers.IsWide e.buffer x → Stays o x y → Tells clock o x y
     → IsFed e clock p y (changed (after_subscriber e clock) s)
-told_seat e index clock p x y None s is seat opens wide stays tells = absurd is
-told_seat e index clock p x y (Some t) s is seat opens wide stays tells = by s.past refl seat.past_is
+notified_seat e index clock p x y None s is seat opens wide stays tells = absurd is
+notified_seat e index clock p x y (Some t) s is seat opens wide stays tells = by s.past refl seat.past_is
   where
     by : (past : Past) → s.past ≡ past → IsPast e clock p x s past → IsFed e clock p y (changed (after_subscriber e clock) s)
     by (Publishes m) q h =
@@ -448,16 +460,23 @@ told_seat e index clock p x y (Some t) s is seat opens wide stays tells = by s.p
         (record {
           wide = wide;
           seated = seated_with e clock p x s (after_subscriber e clock) (Publishes m) opens
-              (ap (subscriber_reported (terms_of e s) (time_in s clock)) q) h seat.opened;
+              (ap (subscriber_reported (terms_of e s) (time_in s clock) (is_recent s clock)) q) h seat.opened;
         })
     by (Subscribes m) q h =
         let terms = (terms_of e s).subscriber in
-        let now = tells (subscriber_subscribes e index t s is h.0) terms s.conclusion.initial s.opening s.conclusion.caller m h.1 h.2 in
+        let recent = is_recent s clock in
+        let now : subscribers.StandsFor terms s.conclusion.initial s.opening s.conclusion.caller clock y
+        (subscribing.reported terms (time_in s clock) recent m) =
+        subst
+        (λ (b : Bool). subscribers.StandsFor terms s.conclusion.initial s.opening s.conclusion.caller clock y
+        (subscribing.reported terms (time_in s clock) b m))
+        (heard_recently e index clock t s is)
+        (tells (subscriber_subscribes e index t s is h.0) terms s.conclusion.initial s.opening s.conclusion.caller m h.1 h.2) in
         record {
-          wide = wide_by e clock y s (subscribing.reported terms (time_in s clock) m) now;
-          seated = seated_with e clock p y s (after_subscriber e clock) (Subscribes (subscribing.reported terms (time_in s clock) m)) opens
-              (ap (subscriber_reported (terms_of e s) (time_in s clock)) q)
-              (h.0, now, reported_fresh terms (time_in s clock) m h.2) seat.opened;
+          wide = wide_by e clock y s (subscribing.reported terms (time_in s clock) recent m) now;
+          seated = seated_with e clock p y s (after_subscriber e clock) (Subscribes (subscribing.reported terms (time_in s clock) recent m)) opens
+              (ap (subscriber_reported (terms_of e s) (time_in s clock) recent) q)
+              (h.0, now, reported_fresh terms (time_in s clock) recent m h.2) seat.opened;
         }
 
 subscriber_bytes : (clock : ℕ) (s : Session) (rs : List subscribing.Report)
@@ -475,7 +494,7 @@ pub place_said : (e : Terms) (index clock : ℕ) (p : Publisher) (x : Subscriber
     (before later : List Reply) (places more : ℕ)
     → IsStored e index o (Some s) → IsSeated e clock p x s → s.is_open ≡ true → (subscribes o ≡ false → AreSaid before later places more [])
     → Says clock o x before later places more
-    → AreSaid before later places more (map sent (packets_at e (is_subscriber s) (time_in s clock) s))
+    → AreSaid before later places more (map sent (packets_at e (is_subscriber s) clock s))
 place_said e index clock p x None s before later places more is seat opens silent says = absurd is
 place_said e index clock p x (Some t) s before later places more is seat opens silent says = by s.past refl seat.past_is
   where
@@ -483,49 +502,60 @@ place_said e index clock p x (Some t) s before later places more is seat opens s
     test b r = ap (λ (d : Bool). d && not (publishes s.conclusion.role)) opens ∙ ap not r
 
     by : (past : Past) → s.past ≡ past → IsPast e clock p x s past
-        → AreSaid before later places more (map sent (packets_at e (is_subscriber s) (time_in s clock) s))
+        → AreSaid before later places more (map sent (packets_at e (is_subscriber s) clock s))
     by (Publishes m) q h =
-        subst (λ (b : Bool). AreSaid before later places more (map sent (packets_at e b (time_in s clock) s))) (sym (test true h.0))
+        subst (λ (b : Bool). AreSaid before later places more (map sent (packets_at e b clock s))) (sym (test true h.0))
         (silent (publisher_subscribes e index t s is h.0))
     by (Subscribes m) q h =
         let terms = (terms_of e s).subscriber in
-        let said = says (subscriber_subscribes e index t s is h.0) t terms s.conclusion.initial s.opening s.conclusion.caller m refl h.1 h.2 in
-        subst (λ (b : Bool). AreSaid before later places more (map sent (packets_at e b (time_in s clock) s))) (sym (test false h.0))
+        let recent = is_recent s clock in
+        let said : AreSaid before later places more
+        (datagrams_to t.peer
+        (map (subscriber_text.says s.conclusion.caller s.conclusion.initial (time_in s clock))
+        (subscribing.reports terms (time_in s clock) recent m))) =
+        subst
+        (λ (b : Bool). AreSaid before later places more
+        (datagrams_to t.peer
+        (map (subscriber_text.says s.conclusion.caller s.conclusion.initial (time_in s clock))
+        (subscribing.reports terms (time_in s clock) b m))))
+        (heard_recently e index clock t s is)
+        (says (subscriber_subscribes e index t s is h.0) t terms s.conclusion.initial s.opening s.conclusion.caller m refl h.1 h.2) in
+        subst (λ (b : Bool). AreSaid before later places more (map sent (packets_at e b clock s))) (sym (test false h.0))
         (subst (λ (ds : List Datagram). AreSaid before later places more ds)
         (ap
         (λ (x : Peer). datagrams_to x
         (map (subscriber_text.says s.conclusion.caller s.conclusion.initial (time_in s clock))
-        (subscribing.reports terms (time_in s clock) m)))
+        (subscribing.reports terms (time_in s clock) recent m)))
         is.peer_is
-        ∙ (subscriber_bytes clock s (subscribing.reports terms (time_in s clock) m)
-        ∙ ap (λ (past : Past). map sent (map (said_by (time_in s clock) s) (reports_of (terms_of e s) (time_in s clock) past))) (sym q)))
+        ∙ (subscriber_bytes clock s (subscribing.reports terms (time_in s clock) recent m)
+        ∙ ap (λ (past : Past). map sent (map (said_by (time_in s clock) s) (reports_of (terms_of e s) (time_in s clock) recent past))) (sym q)))
         said)
 
-pub told_becomes : (e : Terms) (index clock at : ℕ) (p : Publisher) (x y : Seat) (ss : List Session)
+pub notified_becomes : (e : Terms) (index clock at : ℕ) (p : Publisher) (x y : Seat) (ss : List Session)
     → IsSeat e index clock at p x ss → Changes (Tells clock) x y → Becomes (changed (after_subscriber e clock)) e index clock at p x y ss
-told_becomes e index clock at p x y ss is h =
+notified_becomes e index clock at p x y ss is h =
     seat_becomes (Tells clock) (after_subscriber e clock) e index clock at p x y ss is h
-    (λ s found opens stored. told_seat e index clock p x.subscriber y.subscriber x.session s stored (is.seated s found) opens is.wide h.stays h.changes)
+    (λ s found opens stored. notified_seat e index clock p x.subscriber y.subscriber x.session s stored (is.seated s found) opens is.wide h.stays h.changes)
 
 -- the packets that the slots below `at` sent with those of the remaining slots are the packets of all
-pub record IsTold (e : Terms) (clock : ℕ) (test : Session → Bool) (at : ℕ) (ss : List Session) (before now : List Reply) (places more : ℕ) : Type 0 where
-  pub told : List Datagram
-  pub said : AreSaid before now places more told
-  pub whole : told ++ said_from e clock test ss at (e.sessions - at) ≡ map sent (packets_where e clock test ss)
+pub record IsReported (e : Terms) (clock : ℕ) (test : Session → Bool) (at : ℕ) (ss : List Session) (before now : List Reply) (places more : ℕ) : Type 0 where
+  pub notified : List Datagram
+  pub said : AreSaid before now places more notified
+  pub whole : notified ++ said_from e clock test ss at (e.sessions - at) ≡ map sent (packets_where e clock test ss)
 
 -- one more slot
 pub tell_slot : (e : Terms) (clock : ℕ) (test : Session → Bool) (ss : List Session) (at : ℕ) (before now then_ : List Reply)
     (places more most : ℕ)
     → at < e.sessions → AreSaid now then_ more most (map sent (packets_in e clock test at ss))
-    → IsTold e clock test at ss before now places more
-    → IsTold e clock test (at + 1) ss before then_ places most
+    → IsReported e clock test at ss before now places more
+    → IsReported e clock test (at + 1) ss before then_ places most
 tell_slot e clock test ss at before now then_ places more most below says h =
     record {
-      told = h.told ++ map sent (packets_in e clock test at ss);
-      said = said_then before now then_ places more most h.told (map sent (packets_in e clock test at ss)) h.said says;
-      whole = append_assoc h.told (map sent (packets_in e clock test at ss)) (said_from e clock test ss (at + 1) (e.sessions - (at + 1)))
-          ∙ (ap (λ (ds : List Datagram). h.told ++ ds) (sym (next (find (is_open_in at) ss) refl))
-          ∙ (ap (λ (n : ℕ). h.told ++ said_from e clock test ss at n) (sym count) ∙ h.whole));
+      notified = h.notified ++ map sent (packets_in e clock test at ss);
+      said = said_then before now then_ places more most h.notified (map sent (packets_in e clock test at ss)) h.said says;
+      whole = append_assoc h.notified (map sent (packets_in e clock test at ss)) (said_from e clock test ss (at + 1) (e.sessions - (at + 1)))
+          ∙ (ap (λ (ds : List Datagram). h.notified ++ ds) (sym (next (find (is_open_in at) ss) refl))
+          ∙ (ap (λ (n : ℕ). h.notified ++ said_from e clock test ss at n) (sym count) ∙ h.whole));
     }
   where
     count : e.sessions - at ≡ suc (e.sessions - (at + 1))
@@ -540,8 +570,8 @@ tell_slot e clock test ss at before now then_ places more most below says h =
 pub tell_step : (e : Terms) (index clock : ℕ) (p : Publisher) (ss : List Session) (at : ℕ) (x : Seat) (before now then_ : List Reply)
     (places more most : ℕ)
     → at < e.sessions → IsSeat e index clock at p x ss → (subscribes x.session ≡ false → AreSaid now then_ more most [])
-    → Says clock x.session x.subscriber now then_ more most → IsTold e clock is_subscriber at ss before now places more
-    → IsTold e clock is_subscriber (at + 1) ss before then_ places most
+    → Says clock x.session x.subscriber now then_ more most → IsReported e clock is_subscriber at ss before now places more
+    → IsReported e clock is_subscriber (at + 1) ss before then_ places most
 tell_step e index clock p ss at x before now then_ places more most below is silent says h =
     tell_slot e clock is_subscriber ss at before now then_ places more most below (place (find (is_open_in at) ss) refl) h
   where
@@ -554,39 +584,39 @@ tell_step e index clock p ss at x before now then_ places more most below is sil
         (is.seated s found) (is_there at ss s found).0 silent says
 
 -- `turn` packets of a subscriber were queued, and these remain
-pub record IsTelling (terms : subscribing.Terms) (initial opening caller clock : ℕ) (peer : Peer) (x : Subscriber)
+pub record IsTelling (terms : subscribing.Terms) (initial opening caller clock : ℕ) (recent : Bool) (peer : Peer) (x : Subscriber)
     (m : subscribing.Subscribing) (before now : List Reply) (places more turn : ℕ) : Type 0 where
   pub gone : List subscribing.Report
   pub left : List subscribing.Report
-  pub emitting : Emitting terms initial opening caller clock x m left
-  pub whole : gone ++ left ≡ subscribing.reports terms (clock - opening) m
+  pub emitting : Emitting terms initial opening caller clock recent x m left
+  pub whole : gone ++ left ≡ subscribing.reports terms (clock - opening) recent m
   pub count : length gone ≡ turn
   pub said : AreSaid before now places more (datagrams_to peer (map (subscriber_text.says caller initial (clock - opening)) gone))
 
-pub telling_begins : (terms : subscribing.Terms) (initial opening caller clock : ℕ) (peer : Peer) (x : Subscriber)
+pub telling_begins : (terms : subscribing.Terms) (initial opening caller clock : ℕ) (recent : Bool) (peer : Peer) (x : Subscriber)
     (m : subscribing.Subscribing) (waiting : List Reply) (places : ℕ)
     → subscribers.StandsFor terms initial opening caller clock x m → subscribing.expired terms (clock - opening) m ≡ m
-    → IsTelling terms initial opening caller clock peer x m waiting waiting places places 0
-telling_begins terms initial opening caller clock peer x m waiting places stands fresh =
+    → IsTelling terms initial opening caller clock recent peer x m waiting waiting places places 0
+telling_begins terms initial opening caller clock recent peer x m waiting places stands fresh =
     record {
       gone = [];
-      left = subscribing.reports terms (clock - opening) m;
+      left = subscribing.reports terms (clock - opening) recent m;
       emitting = subst
-          (λ (k : subscribing.Subscribing). Emitting terms initial opening caller clock x m (subscribing.reports terms (clock - opening) k)) fresh
-          (begins terms initial opening caller clock clock x m stands (omega arith));
+          (λ (k : subscribing.Subscribing). Emitting terms initial opening caller clock recent x m (subscribing.reports terms (clock - opening) recent k)) fresh
+          (begins terms initial opening caller clock clock recent x m stands (omega arith));
       whole = refl;
       count = refl;
       said = nothing_said waiting places;
     }
 
-pub telling_more : (terms : subscribing.Terms) (initial opening caller clock : ℕ) (peer : Peer) (y : Subscriber)
+pub telling_more : (terms : subscribing.Terms) (initial opening caller clock : ℕ) (recent : Bool) (peer : Peer) (y : Subscriber)
     (m : subscribing.Subscribing) (before now then_ : List Reply) (places more most turn : ℕ) (gone left : List subscribing.Report)
     (packet : EncodedPacket)
-    → gone ++ left ≡ subscribing.reports terms (clock - opening) m → length gone ≡ turn
+    → gone ++ left ≡ subscribing.reports terms (clock - opening) recent m → length gone ≡ turn
     → AreSaid before now places more (datagrams_to peer (map (subscriber_text.says caller initial (clock - opening)) gone))
-    → IsNext terms initial opening caller clock packet y m left → AreSaid now then_ more most (datagrams_to peer (bytes_of packet ∷ []))
-    → IsTelling terms initial opening caller clock peer y m before then_ places most (turn + 1)
-telling_more terms initial opening caller clock peer y m before now then_ places more most turn gone left packet whole count said next one =
+    → IsNext terms initial opening caller clock recent packet y m left → AreSaid now then_ more most (datagrams_to peer (bytes_of packet ∷ []))
+    → IsTelling terms initial opening caller clock recent peer y m before then_ places most (turn + 1)
+telling_more terms initial opening caller clock recent peer y m before now then_ places more most turn gone left packet whole count said next one =
     let r = next.report in
     let says = subscriber_text.says caller initial (clock - opening) in
     record {
@@ -600,48 +630,48 @@ telling_more terms initial opening caller clock peer y m before now then_ places
           (same_said (ap (λ (bytes : List ℕ). datagrams_to peer (bytes ∷ [])) next.text_is) one));
     }
 
-pub telling_ends : (terms : subscribing.Terms) (initial opening caller clock : ℕ) (peer : Peer) (m : subscribing.Subscribing)
+pub telling_ends : (terms : subscribing.Terms) (initial opening caller clock : ℕ) (recent : Bool) (peer : Peer) (m : subscribing.Subscribing)
     (before now : List Reply) (places more : ℕ) (gone left : List subscribing.Report)
-    → gone ++ left ≡ subscribing.reports terms (clock - opening) m → left ≡ []
+    → gone ++ left ≡ subscribing.reports terms (clock - opening) recent m → left ≡ []
     → AreSaid before now places more (datagrams_to peer (map (subscriber_text.says caller initial (clock - opening)) gone))
     → AreSaid before now places more
-    (datagrams_to peer (map (subscriber_text.says caller initial (clock - opening)) (subscribing.reports terms (clock - opening) m)))
-telling_ends terms initial opening caller clock peer m before now places more gone left whole none said =
+    (datagrams_to peer (map (subscriber_text.says caller initial (clock - opening)) (subscribing.reports terms (clock - opening) recent m)))
+telling_ends terms initial opening caller clock recent peer m before now places more gone left whole none said =
     same_said
     (ap (λ (rs : List subscribing.Report). datagrams_to peer (map (subscriber_text.says caller initial (clock - opening)) rs))
     (sym (append-nil gone) ∙ (ap (λ (rs : List subscribing.Report). gone ++ rs) (sym none) ∙ whole)))
     said
 
-pub never_so_many : (terms : subscribing.Terms) (initial opening caller clock : ℕ) (peer : Peer) (x : Subscriber)
+pub never_so_many : (terms : subscribing.Terms) (initial opening caller clock : ℕ) (recent : Bool) (peer : Peer) (x : Subscriber)
     (m : subscribing.Subscribing) (before now : List Reply) (places more turn : ℕ)
-    → IsTelling terms initial opening caller clock peer x m before now places more turn → 66 ≤ turn
+    → IsTelling terms initial opening caller clock recent peer x m before now places more turn → 66 ≤ turn
     → ⊥
-never_so_many terms initial opening caller clock peer x m before now places more turn h many =
-    let all : length (h.gone ++ h.left) ≤ 65 = omega (arith, ap length h.whole, subscriber_few terms (clock - opening) m) in
+never_so_many terms initial opening caller clock recent peer x m before now places more turn h many =
+    let all : length (h.gone ++ h.left) ≤ 65 = omega (arith, ap length h.whole, subscriber_few terms (clock - opening) recent m) in
     absurd (omega (arith, all, length-append h.gone h.left, h.count, many))
 
 -- the publishers' packets, and then the subscribers'
-pub both_reported : (draining : Bool) (terms : Agreed) (time : ℕ) (past : Past)
-    → subscriber_reported terms time (publisher_reported draining terms time past) ≡ reported_past draining terms time past
-both_reported draining terms time (Publishes p) = refl
-both_reported draining terms time (Subscribes m) = refl
+pub both_reported : (draining : Bool) (terms : Agreed) (time : ℕ) (recent : Bool) (past : Past)
+    → subscriber_reported terms time recent (publisher_reported draining terms time past) ≡ reported_past draining terms time recent past
+both_reported draining terms time recent (Publishes p) = refl
+both_reported draining terms time recent (Subscribes m) = refl
 
 -- the publishers' packets don't change what the subscribers are sent
-abbrev pub told_of : Terms → (clock : ℕ) → Session → List Answer
-told_of e clock s = packets_at e (is_subscriber s) (time_in s clock) s
+abbrev pub notified_of : Terms → (clock : ℕ) → Session → List Answer
+notified_of e clock s = packets_at e (is_subscriber s) clock s
 
 pub later_packets : (e : Terms) (clock : ℕ) (p : Publisher) (x : Subscriber) (s : Session)
-    → s.is_open ≡ true → IsSeated e clock p x s → told_of e clock (changed (after_publisher e clock) s) ≡ told_of e clock s
+    → s.is_open ≡ true → IsSeated e clock p x s → notified_of e clock (changed (after_publisher e clock) s) ≡ notified_of e clock s
 later_packets e clock p x s opens seat = by s.past refl seat.past_is
   where
-    by : (past : Past) → s.past ≡ past → IsPast e clock p x s past → told_of e clock (changed (after_publisher e clock) s) ≡ told_of e clock s
+    by : (past : Past) → s.past ≡ past → IsPast e clock p x s past → notified_of e clock (changed (after_publisher e clock) s) ≡ notified_of e clock s
     by (Publishes m) q h =
         let silent : is_subscriber s ≡ false = ap (λ (b : Bool). b && not (publishes s.conclusion.role)) opens ∙ ap not h.0 in
-        ap (told_of e clock) (changed_is s (after_publisher e clock) (after_publisher e clock s) opens refl)
-        ∙ (ap (λ (b : Bool). packets_at e b (time_in s clock) (record s { past = after_publisher e clock s })) silent
-        ∙ sym (ap (λ (b : Bool). packets_at e b (time_in s clock) s) silent))
+        ap (notified_of e clock) (changed_is s (after_publisher e clock) (after_publisher e clock s) opens refl)
+        ∙ (ap (λ (b : Bool). packets_at e b clock (record s { past = after_publisher e clock s })) silent
+        ∙ sym (ap (λ (b : Bool). packets_at e b clock s) silent))
     by (Subscribes m) q h =
-        ap (told_of e clock) (changed_is s (after_publisher e clock) s.past opens (ap (publisher_reported (is_draining s) (terms_of e s)
+        ap (notified_of e clock) (changed_is s (after_publisher e clock) s.past opens (ap (publisher_reported (is_draining s) (terms_of e s)
         (time_in s clock)) q ∙ sym q))
 
 pub same_from : (e : Terms) (clock : ℕ) (f : Session → List Answer) (ss : List Session) (from count : ℕ)

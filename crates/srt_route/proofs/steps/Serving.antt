@@ -1,8 +1,8 @@
 -- Step 6: the subscribers' packets, and the sessions that end with a file.
-use Rattle.std.proofs.Common.{◌≡◌, ℕ, ◌+◌, ◌<◌, ◌≤◌, ◌&&◌, Bool, true, false, cond, Option, None, Some, List, [], ◌∷◌, map, find, length, refl}
+use Rattle.std.proofs.Common.{◌≡◌, ℕ, ◌+◌, ◌<◌, ◌≤◌, ◌&&◌, Bool, true, false, cond, Option, None, Some, List, [], ◌∷◌, map, find, length, not, refl}
 use Rattle.std.proofs.Common.{sym, ap, subst, ◌∙◌, inl, inr, arith}
-use Rattle.std.proofs.lemmas.Bool.{cases_lt, cases_eq}
-use Rattle.srt_seq.specs.Terms.{Terms}
+use Rattle.std.proofs.lemmas.Bool.{and_parts, cases_lt, cases_eq}
+use Rattle.srt_types.specs.Terms.{Terms}
 use Rattle.srt_pub.specs.declared.session.Publisher.{Publisher}
 use Rattle.srt_sub.specs.declared.session.Subscriber.{Subscriber}
 use Rattle.srt_route.specs.declared.ledger.EndedSession.{EndedSession}
@@ -13,14 +13,19 @@ use Rattle.srt_route.specs.declared.seat.Session.{Session as TheSession}
 use Rattle.srt_route.specs.declared.seat.Seat.{Seat}
 use Rattle.srt_route.specs.declared.table.Table.{Table}
 use Rattle.srt_route.specs.Past.{Past, Publishes, Subscribes, Agreed, has_all}
-use Rattle.srt_route.specs.Sessions.{Session, is_draining, is_open_in, is_subscriber, reported, reported_at, terms_of}
+use Rattle.srt_route.specs.Sessions.{Session, is_active, is_draining, is_open_in, publishes, is_recent, is_subscriber, reported, reported_at, terms_of}
 use Rattle.srt_route.specs.Sessions.{time_in}
 use Rattle.srt_route.specs.Route.{Reply as Answer, ended, finished, finished_at, has_whole_file, is_file_over, sent, served}
 use Rattle.srt_route.specs.Route.{served_at, shutdown_to}
-use Rattle.srt_route.specs.Ends.{EndsAre, EndsIn, file_end}
-use Rattle.srt_route.specs.Ledgers.{NotesAt, Tells as TellsOf, entry_of, file_cause}
+use Rattle.srt_route.specs.Ends.{EndsAre, EndsFor, EndsIn, cause_in, cause_of_slot, file_ending, kept_of}
+use Rattle.srt_route.specs.Ledgers.{entry_of, file_cause}
+use Rattle.srt_route.specs.Totals.{sums_to}
+use Rattle.srt_route.specs.declared.publisher_buffers.PublisherBuffers.{PublisherBuffers}
+use Rattle.srt_route.specs.inside.Notes.{NotesAt, cause_if}
+use Rattle.srt_route.specs.inside.Notes.{TellsOf as TellsEndOf}
+use Rattle.srt_route.specs.inside.Standby.{is_active_by}
 use Rattle.srt_route.specs.Buffers.{IsSeated}
-use Rattle.srt_route.specs.Tables.{IsStored, IsSeat, IsTable, with_stored}
+use Rattle.srt_route.specs.Tables.{buffers_of, IsStored, IsSeat, IsTable, with_stored}
 use Rattle.srt_route.specs.Waits.{replies_of, places_of}
 use Rattle.srt_route.specs.inside.Delivery.{changed, after_publisher, after_subscriber, publisher_reported}
 use Rattle.srt_route.specs.inside.Files.{HasWhole, SeatEnds, SeatServed, finished_subscriber, finished_subscriber_at, whole_in}
@@ -28,16 +33,17 @@ use Rattle.srt_route.specs.inside.OneSession.{shutdowns_to}
 use Rattle.srt_route.specs.inside.Reports.{AreSaid}
 use Rattle.srt_route.proofs.model.Changes.{is_there, keeps_changed, marks_changed}
 use Rattle.srt_route.proofs.model.Ending.{stored_shutdown}
-use Rattle.srt_route.proofs.model.FileEnds.{over_after, whole_after}
+use Rattle.srt_route.proofs.model.FileEnds.{over_after, whole_after, whole_subscribes}
 use Rattle.srt_route.proofs.model.Found.{Keeps, changed as becomes, while_open}
 use Rattle.srt_route.proofs.model.Lists.{map_twice}
 use Rattle.srt_route.proofs.model.TakeOver.{KeepsMarks}
 use Rattle.srt_route.proofs.stored.Kept.{Becomes, below_seats}
 use Rattle.srt_route.proofs.steps.Feeding.{Changes, changed_is, vacant_subscribes}
 use Rattle.srt_route.proofs.steps.Passing.{seat_of}
-use Rattle.srt_route.proofs.steps.Saying.{Tells, both_reported, later_packets, place_said, same_from, same_said, told_becomes}
+use Rattle.srt_route.proofs.steps.Saying.{Tells, both_reported, later_packets, place_said, same_from, same_said, notified_becomes}
 use Rattle.srt_route.proofs.steps.Slots.{IsSaying, said_of, saying_more}
-use Rattle.srt_route.proofs.steps.Told.{end_for}
+use Rattle.srt_route.proofs.steps.Noting.{one_summed}
+use Rattle.srt_route.proofs.steps.Notified.{end_for, nothing_notified}
 
 -- the packets of a session
 abbrev pub serving : Terms → (clock : ℕ) → (over : Bool) → Session → List Answer
@@ -93,13 +99,13 @@ one_finished e clock over s =
         let t : Session = record s { past = after_publisher e clock s } in
         ap (changed (after_subscriber e clock)) first
         ∙ changed_is t (after_subscriber e clock) (after_subscriber e clock t) o refl
-        ∙ ap (λ (p : Past). record s { past = p }) (both_reported (is_draining s) (terms_of e s) (time_in s clock) s.past)
-        ∙ sym (ap (λ (b : Bool). reported_at e b (time_in s clock) s) o)
+        ∙ ap (λ (p : Past). record s { past = p }) (both_reported (is_draining s) (terms_of e s) (time_in s clock) (is_recent s clock) s.past)
+        ∙ sym (ap (λ (b : Bool). reported_at e b clock s) o)
     both false o =
         let first : changed (after_publisher e clock) s ≡ s = ap (λ (b : Bool). cond b (record s { past = after_publisher e clock s }) s) o in
         ap (changed (after_subscriber e clock)) first
         ∙ ap (λ (b : Bool). cond b (record s { past = after_subscriber e clock s }) s) o
-        ∙ sym (ap (λ (b : Bool). reported_at e b (time_in s clock) s) o)
+        ∙ sym (ap (λ (b : Bool). reported_at e b clock s) o)
 
     by : (b : Bool) → has_whole_file over s ≡ b
         → finished_subscriber_at b e clock (changed (after_publisher e clock) s) ≡ finished_at b e clock s
@@ -216,7 +222,7 @@ served_becomes e index clock over at p x y ss is h = by h.whole (h.whole_is e in
         })
     by false whole ends stays =
         same_becomes (finished_subscriber e clock over) (changed (after_subscriber e clock)) e index clock at p x y ss
-        (λ s found. in_slot false whole s found) (told_becomes e index clock at p x y ss is (stays refl))
+        (λ s found. in_slot false whole s found) (notified_becomes e index clock at p x y ss is (stays refl))
 
 pub stays_served : (clock : ℕ) (x y : Seat) (before later : ReplyQueue) → SeatServed clock x y before later → Changes (Tells clock) x y
 stays_served clock x y before later h = record { count_is = h.generation; session_is = h.session; stays = h.none; changes = h.stands }
@@ -256,50 +262,81 @@ serve_slot e index clock over p ss at x y whole before places now then_ below is
         (λ b t terms initial opening caller m is. k.said b t is terms initial opening caller m))
 
 -- the ends that are recorded
-pub record EndsUpTo (index : ℕ) (over : Bool) (moment at : ℕ) (ss : List Session) (old new : (slot : ℕ) → Option EndedSession) : Type 0 where
-  pub done : (k : ℕ) → k < at → EndsIn index (file_end over) moment (find (is_open_in k) ss) (old k) (new k)
-  pub ahead : (k : ℕ) → at ≤ k → new k ≡ old k
+pub record EndsUpTo (e : Terms) (index : ℕ) (over : Bool) (moment at : ℕ) (ss : List Session) (old new : Ledger) : Type 0 where
+  pub done : (k : ℕ) → k < at → EndsIn e index ss (file_ending over) moment (find (is_open_in k) ss) (entry_of old k) (entry_of new k)
+  pub ahead : (k : ℕ) → at ≤ k → entry_of new k ≡ entry_of old k
+  pub sums : new.totals ≡ sums_to (cause_of_slot (file_ending over).cause ss) (entry_of new) at old.totals
 
-pub no_ends : (index : ℕ) (over : Bool) (moment : ℕ) (ss : List Session) (entries : (slot : ℕ) → Option EndedSession)
-    → EndsUpTo index over moment 0 ss entries entries
-no_ends index over moment ss entries = record { done = λ k lt. absurd (omega (arith, lt)); ahead = λ k le. refl }
+pub no_ends : (e : Terms) (index : ℕ) (over : Bool) (moment : ℕ) (ss : List Session) (ledger : Ledger) → EndsUpTo e index over moment 0 ss ledger ledger
+no_ends e index over moment ss ledger = record { done = λ k lt. absurd (omega (arith, lt)); ahead = λ k le. refl; sums = refl }
 
-slot_ends : (e : Terms) (index clock : ℕ) (over whole : Bool) (o : Option TheSession) (f : Option Session) (old new : Option EndedSession)
-    → IsStored e index o f → whole ≡ whole_in over f → TellsOf (file_cause whole) clock o old new
-    → EndsIn index (file_end over) clock f old new
-slot_ends e index clock over whole None None old new is it h = same whole h
+-- a subscriber is never the active publisher
+reader_flag : (active : Option PublisherBuffers) (t : TheSession) (s : Session) (flag : Bool) → t.role ≡ s.conclusion.role
+    → not (publishes s.conclusion.role) ≡ true → is_active_by active t ≡ (publishes s.conclusion.role && flag)
+reader_flag active t s flag role reads = by active (publishes s.conclusion.role) (ap publishes role) reads
   where
-    same : (b : Bool) → TellsOf (file_cause b) clock None old new → new ≡ old
-    same true k = k
-    same false k = k
-slot_ends e index clock over whole None (Some s) old new is it h = absurd is
-slot_ends e index clock over whole (Some t) None old new is it h = absurd is
-slot_ends e index clock over whole (Some t) (Some s) old new is it h =
-    end_for e index (file_end over s) clock t s old new is
-    (subst (λ (b : Bool). TellsOf (file_cause b) clock (Some t) old new) it h)
+    by : (o : Option PublisherBuffers) (b : Bool) → publishes t.role ≡ b → not b ≡ true → is_active_by o t ≡ (b && flag)
+    by o true same k = absurd (let bad : false ≡ true = k in cc)
+    by None false same k = refl
+    by (Some which) false same k = rw same refl
 
-pub one_ends : (e : Terms) (index clock : ℕ) (over whole : Bool) (p : Publisher) (ss : List Session) (at : ℕ) (x : Seat)
-    (first old new : Ledger)
-    → IsSeat e index clock at p x ss → HasWhole over x whole → NotesAt at (file_cause whole) clock x.session old new
-    → EndsUpTo index over clock at ss (entry_of first) (entry_of old)
-    → EndsUpTo index over clock (at + 1) ss (entry_of first) (entry_of new)
-one_ends e index clock over whole p ss at x first old new is has notes h =
+slot_ends : (e : Terms) (index clock : ℕ) (ss : List Session) (over whole : Bool) (active : Option PublisherBuffers) (publishers : List Publisher)
+    (seat : Seat) (b : Publisher) (o : Option TheSession) (f : Option Session) (old new : Option EndedSession)
+    → IsStored e index o f → whole ≡ whole_in over f
+    → ((s : Session) → f ≡ Some s → IsSeated e clock (buffers_of publishers seat b) seat.subscriber s)
+    → TellsEndOf active publishers (file_cause whole) clock seat o old new
+    → EndsIn e index ss (file_ending over) clock f old new
+slot_ends e index clock ss over whole active publishers seat b None None old new is it seated h =
+    nothing_notified active publishers (file_cause whole) clock seat old new h
+slot_ends e index clock ss over whole active publishers seat b None (Some s) old new is it seated h = absurd is
+slot_ends e index clock ss over whole active publishers seat b (Some t) None old new is it seated h = absurd is
+slot_ends e index clock ss over whole active publishers seat b (Some t) (Some s) old new is it seated h =
+    subst (λ (w : Bool). EndsFor e index ss (file_cause w) clock s old new) it (by whole it h)
+  where
+    by : (w : Bool) → w ≡ has_whole_file over s → TellsEndOf active publishers (file_cause w) clock seat (Some t) old new
+        → EndsFor e index ss (file_cause w) clock s old new
+    by false same k = k
+    by true same k =
+        end_for e index clock ss (file_cause true) clock active publishers seat t s s.past b old new is
+        (reader_flag active t s (is_active ss s) is.role_is
+        (and_parts s.is_open (not (publishes s.conclusion.role)) (whole_subscribes over s (sym same))).1) (seated s refl) k
+
+whole_alike : (e : Terms) (index : ℕ) (over whole : Bool) (o : Option TheSession) (f : Option Session) → IsStored e index o f → whole ≡ whole_in over f
+    → cause_if (file_cause whole) o ≡ cause_in (file_ending over).cause f
+whole_alike e index over whole None None is same = refl
+whole_alike e index over whole None (Some s) is same = absurd is
+whole_alike e index over whole (Some t) None is same = absurd is
+whole_alike e index over whole (Some t) (Some s) is same = ap file_cause same
+
+pub one_ends : (e : Terms) (index clock : ℕ) (over whole : Bool) (active : Option PublisherBuffers) (publishers : List Publisher) (b : Publisher)
+    (ss : List Session) (at : ℕ) (x : Seat) (first old new : Ledger)
+    → IsSeat e index clock at (buffers_of publishers x b) x ss → HasWhole over x whole
+    → NotesAt active publishers at (file_cause whole) clock x old new
+    → EndsUpTo e index over clock at ss first old
+    → EndsUpTo e index over clock (at + 1) ss first new
+one_ends e index clock over whole active publishers b ss at x first old new is has notes h =
     record {
       done = λ k lt. one k lt;
       ahead = λ k le. notes.others k (λ same. omega (arith, le, same)) ∙ h.ahead k (omega (arith, le));
+      sums = one_summed (cause_of_slot (file_ending over).cause ss) (cause_if (file_cause whole) x.session) at first old new
+          (sym (whole_alike e index over whole x.session (find (is_open_in at) ss) is.session_is whole_is)) notes.others h.sums notes.sums;
     }
   where
-    here : EndsIn index (file_end over) clock (find (is_open_in at) ss) (entry_of first at) (entry_of new at)
-    here =
-        slot_ends e index clock over whole x.session (find (is_open_in at) ss) (entry_of first at) (entry_of new at) is.session_is
-        (has e index clock at p ss is)
-        (subst (λ (o : Option EndedSession). TellsOf (file_cause whole) clock x.session o (entry_of new at)) (h.ahead at (omega arith)) notes.told)
+    whole_is : whole ≡ whole_in over (find (is_open_in at) ss)
+    whole_is = has e index clock at (buffers_of publishers x b) ss is
 
-    one : (k : ℕ) → k < at + 1 → EndsIn index (file_end over) clock (find (is_open_in k) ss) (entry_of first k) (entry_of new k)
+    here : EndsIn e index ss (file_ending over) clock (find (is_open_in at) ss) (entry_of first at) (entry_of new at)
+    here =
+        slot_ends e index clock ss over whole active publishers x b x.session (find (is_open_in at) ss) (entry_of first at) (entry_of new at) is.session_is
+        whole_is (λ s found. is.seated s found)
+        (subst (λ (o : Option EndedSession). TellsEndOf active publishers (file_cause whole) clock x x.session o (entry_of new at)) (h.ahead at (omega arith))
+        notes.notified)
+
+    one : (k : ℕ) → k < at + 1 → EndsIn e index ss (file_ending over) clock (find (is_open_in k) ss) (entry_of first k) (entry_of new k)
     one k lt = elim (cases_eq k at) [
       | inl it ↦
-          subst (λ (n : ℕ). EndsIn index (file_end over) clock (find (is_open_in n) ss) (entry_of first n) (entry_of new n)) (sym it) here
-      | inr apart ↦ subst (λ (o : Option EndedSession). EndsIn index (file_end over) clock (find (is_open_in k) ss) (entry_of first k) o)
+          subst (λ (n : ℕ). EndsIn e index ss (file_ending over) clock (find (is_open_in n) ss) (entry_of first n) (entry_of new n)) (sym it) here
+      | inr apart ↦ subst (λ (o : Option EndedSession). EndsIn e index ss (file_ending over) clock (find (is_open_in k) ss) (entry_of first k) o)
           (sym (notes.others k apart)) (h.done k (omega (arith, lt, apart)))
     ]
 
@@ -313,11 +350,16 @@ none_beyond e index clock table ss is k beyond = by (find (is_open_in k) ss) ref
     by (Some s) found = absurd (omega (arith, beyond, below_seats e index clock table ss k s is found))
 
 pub all_ends : (e : Terms) (index clock : ℕ) (over : Bool) (table : Table) (ss : List Session) (at : ℕ) (old new : Ledger)
-    → IsTable e index clock table ss → length table.seats.items ≤ at → ((k : ℕ) → length table.seats.items ≤ k → find (is_open_in k) ss ≡ None)
-    → EndsUpTo index over clock at ss (entry_of old) (entry_of new)
-    → EndsAre index (file_end over) clock ss (entry_of old) (entry_of new)
-all_ends e index clock over table ss at old new is all none h k = elim (cases_lt k at) [
-  | inl below ↦ h.done k below
-  | inr above ↦ subst (λ (f : Option Session). EndsIn index (file_end over) clock f (entry_of old k) (entry_of new k))
-      (sym (none k (omega (arith, all, above)))) (h.ahead k above)
-]
+    → IsTable e index clock table ss → length table.seats.items ≡ at
+    → EndsUpTo e index over clock at ss old new
+    → EndsAre e index (file_ending over) clock ss (kept_of old) (kept_of new)
+all_ends e index clock over table ss at old new is all h =
+    record {
+      entries = λ k. elim (cases_lt k at) [
+        | inl below ↦ h.done k below
+        | inr above ↦ subst (λ (f : Option Session). EndsIn e index ss (file_ending over) clock f (entry_of old k) (entry_of new k))
+            (sym (none_beyond e index clock table ss is k (omega (arith, all, above)))) (h.ahead k above)
+      ];
+      sums = h.sums
+          ∙ ap (λ (n : ℕ). sums_to (cause_of_slot (file_ending over).cause ss) (entry_of new) n old.totals) (sym all ∙ is.places_are);
+    }

@@ -4,17 +4,18 @@ use Rattle.std.proofs.Common.{Some, List, [], ◌∷◌, ◌++◌, length, find,
 use Rattle.std.proofs.lemmas.Bool.{cases_Bool, cases_eq, cases_lt, and_parts, eqb-true, eq-eqb, false_from_ne_true}
 use Rattle.std.proofs.lemmas.Bool.Decides.{nat_tests}
 use Rattle.std.proofs.lemmas.List.{get_or-set_same, get_or-set_other, get_or_default, get_or_append_left, get_or_at, length-set, length-append}
-use Rattle.srt_seq.specs.declared.shared.Peer.{Peer}
-use Rattle.srt_seq.specs.declared.shared.Mode.{Mode}
-use Rattle.srt_seq.specs.declared.shared.Rules.{Rules}
-use Rattle.srt_seq.specs.declared.shared.Role.{Role}
-use Rattle.srt_seq.specs.declared.shared.Role.TheVariants.{Publish, Request}
-use Rattle.srt_seq.specs.Terms.{Terms}
+use Rattle.srt_types.specs.declared.shared.Peer.{Peer}
+use Rattle.srt_types.specs.declared.shared.Mode.{Mode}
+use Rattle.srt_types.specs.declared.shared.Rules.{Rules}
+use Rattle.srt_types.specs.declared.shared.Role.{Role}
+use Rattle.srt_types.specs.declared.shared.Role.TheVariants.{Publish, Request}
+use Rattle.srt_types.specs.Terms.{Terms}
 use Rattle.srt_pub.specs.Publishing as publishing
 use Rattle.srt_pub.specs.Stands as publisher
 use Rattle.srt_pub.specs.declared.session.Publisher.{Publisher}
 use Rattle.srt_sub.specs.Stands as subscriber
 use Rattle.srt_sub.specs.Subscribing as subscribing
+use Rattle.srt_sub.specs.declared.resend_all.Resending.{Resending}
 use Rattle.srt_sub.specs.declared.session.Subscriber.{Subscriber}
 use Rattle.srt_route.specs.declared.agreement.Agreement.{Agreement}
 use Rattle.srt_route.specs.declared.conclusion.Conclusion.{Conclusion}
@@ -22,9 +23,9 @@ use Rattle.srt_route.specs.declared.seat.Session.{Session as TheSession}
 use Rattle.srt_route.specs.declared.seat.Seat.{Seat}
 use Rattle.srt_route.specs.declared.table.Table.{Table}
 use Rattle.srt_route.specs.Past.{past_of}
-use Rattle.srt_route.specs.Sessions.{Session, is_open_in, is_publisher, leads, publishes, active, agreed_terms, generation_of}
-use Rattle.srt_seq.specs.Entries.{in_limits, is_name}
-use Rattle.srt_seq.specs.declared.shared.OpenFault.TheVariants.{Names, Limits}
+use Rattle.srt_route.specs.Sessions.{Session, is_open_in, is_publisher, leads, publishes, active, agreed_terms, generation_of, resending_of}
+use Rattle.srt_types.specs.Entries.{in_limits, is_name}
+use Rattle.srt_types.specs.declared.shared.OpenFault.TheVariants.{Names, Limits}
 use Rattle.srt_route.specs.Opening.{fault_of}
 use Rattle.srt_route.specs.Route.{is_of, session_opened}
 use Rattle.srt_route.specs.Admission.{agreement_of}
@@ -328,15 +329,28 @@ session_stored e index clock peer stamp c old new ss at which q x w v y t h insi
     )
 
 -- the parameters of a subscriber's session
-abbrev pub made : Mode → (width delay mtu window : ℕ) → Rules → subscribing.Terms
-made mode width delay mtu window rules =
-    record { mode = mode; width = width; delay = delay; mtu = mtu; window = window; resend_percent = rules.resend_percent }
+abbrev pub made : Mode → (width delay mtu window : ℕ) → Rules → Resending → subscribing.Terms
+made mode width delay mtu window rules resending =
+    record {
+      mode = mode;
+      width = width;
+      delay = delay;
+      mtu = mtu;
+      window = window;
+      resend_percent = rules.resend_percent;
+      resending = resending;
+    }
 
-pub subscriber_terms : (e : Terms) (c : Conclusion) (a : Agreement) (delay : ℕ)
-    → a ≡ agreement_of e c → delay ≡ a.sender_ms * 1000 → made a.mode e.buffer delay a.mtu c.window a.rules ≡ (agreed_terms e c).subscriber
-subscriber_terms e c a delay same delay_is =
-    ap (λ (n : ℕ). made a.mode e.buffer n a.mtu c.window a.rules) (delay_is ∙ turned a.sender_ms)
-    ∙ ap (λ (b : Agreement). made b.mode e.buffer (1000 * b.sender_ms) b.mtu c.window b.rules) same
+abbrev pub agreed_resending : Agreement → Conclusion → Resending
+agreed_resending a c = resending_of a.rules.callers a.mode c.periodic_nak
+
+pub subscriber_terms : (e : Terms) (c : Conclusion) (a : Agreement) (delay : ℕ) (resending : Resending)
+    → a ≡ agreement_of e c → delay ≡ a.sender_ms * 1000 → resending ≡ agreed_resending a c
+    → made a.mode e.buffer delay a.mtu c.window a.rules resending ≡ (agreed_terms e c).subscriber
+subscriber_terms e c a delay resending same delay_is resending_is =
+    ap (λ (n : ℕ). made a.mode e.buffer n a.mtu c.window a.rules resending) (delay_is ∙ turned a.sender_ms)
+    ∙ ap (λ (x : Resending). made a.mode e.buffer (1000 * a.sender_ms) a.mtu c.window a.rules x) resending_is
+    ∙ ap (λ (b : Agreement). made b.mode e.buffer (1000 * b.sender_ms) b.mtu c.window b.rules (agreed_resending b c)) same
   where
     turned : (n : ℕ) → n * 1000 ≡ 1000 * n
     turned n = omega arith

@@ -1,14 +1,14 @@
 -- One more item.
 use Rattle.std.proofs.Common.{◌≡◌, ℕ, ◌<◌, ◌≤◌, ◌^◌, true, false, ◌||◌, List, [], ◌∷◌, ◌++◌, length, map, max, sym, ap, subst, ◌∙◌, append_assoc, arith}
 use Rattle.std.proofs.lemmas.List.{length-map, map-append}
-use Rattle.srt_seq.specs.Terms.{Terms}
-use Rattle.srt_seq.specs.Items.{Item, Datagram, moment_of}
+use Rattle.srt_types.specs.Terms.{Terms}
+use Rattle.srt_types.specs.Items.{Item, Datagram, moment_of}
 use Rattle.srt_route.specs.declared.route.Route.{Route as TheRoute}
 use Rattle.srt_route.specs.declared.reply_queue.ReplyQueue.{ReplyQueue}
 use Rattle.srt_route.specs.declared.table.Table.{Table}
 use Rattle.srt_route.specs.Written.{written}
 use Rattle.srt_route.specs.Sessions.{Session, speaks, advanced}
-use Rattle.srt_route.specs.Route.{Reply, idle_told, sent, after, clock_after, taken, taken_by, passed_by}
+use Rattle.srt_route.specs.Route.{Reply, idle_notified, sent, after, clock_after, taken, taken_by, passed_by}
 use Rattle.srt_route.specs.Route.{after_delivery, finished, is_file_over, packets_where, served, replies_at, sessions_at, closes, reply}
 use Rattle.srt_route.specs.Tables.{IsTable}
 use Rattle.srt_route.specs.inside.Reports.{AreSaid, Queues}
@@ -30,7 +30,7 @@ said_at e clock ss =
 
 -- the output of an event before its end, at a clock
 abbrev pub answered_at : Terms → (index clock : ℕ) → Item → List Session → List Datagram
-answered_at e index clock item ss = map sent (idle_told e clock ss) ++ map sent (taken e index clock item (advanced e clock ss)).answers
+answered_at e index clock item ss = map sent (idle_notified e clock ss) ++ map sent (taken e index clock item (advanced e clock ss)).answers
 
 -- the sessions after its end
 abbrev pub ended_at : Terms → (clock : ℕ) → List Session → List Session
@@ -44,14 +44,14 @@ pub record IsStepped (e : Terms) (index clock : ℕ) (item : Item) (sessions : L
 
 -- the steps, by the tables and queues between them
 pub stepped : (e : Terms) (index before clock : ℕ) (item : Item) (sessions : List Session) (first aged_to second third fourth last : Table)
-    (queue told answered middle end : ReplyQueue)
-    → IsTable e index before first sessions → before ≤ clock → clock < 2 ^ 62 → AdvancesTo clock first aged_to → TellsIdle clock first queue told
-    → TakesItem clock item aged_to second → AnswersItem clock item aged_to told answered → TableBecomes clock second third (λ d. after_delivery d clock)
+    (queue notified answered middle end : ReplyQueue)
+    → IsTable e index before first sessions → before ≤ clock → clock < 2 ^ 62 → AdvancesTo clock first aged_to → TellsIdle clock first queue notified
+    → TakesItem clock item aged_to second → AnswersItem clock item aged_to notified answered → TableBecomes clock second third (λ d. after_delivery d clock)
     → TableBecomes clock third fourth (λ d. map (changed (after_publisher d clock)))
     → Transmits clock third answered middle (λ d. packets_where d clock speaks)
     → FinishesSubscribers clock fourth last → ServesSubscribers clock fourth middle end
     → IsStepped e index clock item sessions last queue end
-stepped e index before clock item sessions first aged_to second third fourth last queue told answered middle end body later early ages tells takes
+stepped e index before clock item sessions first aged_to second third fourth last queue notified answered middle end body later early ages tells takes
     answers delivers publishers published subscribers subscribed =
     let old = advanced e clock sessions in
     let old_is = ages e index before sessions body later early in
@@ -72,7 +72,7 @@ stepped e index before clock item sessions first aged_to second third fourth las
           (subscribers e index (map (changed (after_publisher e clock)) ss) fourth_is);
       said = said_then (replies_of queue) (replies_of answered) (replies_of end) _ _ _ (answered_at e index clock item sessions)
           (said_at e clock took.sessions)
-          (said_then (replies_of queue) (replies_of told) (replies_of answered) _ _ _ (map sent (idle_told e clock sessions)) (map sent took.answers)
+          (said_then (replies_of queue) (replies_of notified) (replies_of answered) _ _ _ (map sent (idle_notified e clock sessions)) (map sent took.answers)
           (tells e index before sessions body) (answers e index old old_is))
           both;
     }
@@ -144,7 +144,7 @@ replies_more e index items item old time queue h lives moment none both =
     let answers = (taken_by e index item m).answers in
     let first = packets_where e (clock_after item m) speaks (passed_by e index item m) in
     let second = served e (clock_after item m) (is_file_over e (passed_by e index item m)) (passed_by e index item m) in
-    let idle = idle_told e (clock_after item m) m.sessions in
+    let idle = idle_notified e (clock_after item m) m.sessions in
     let all : map sent idle ++ map sent answers ++ map sent (first ++ second) ≡ reply e index (item ∷ items) =
     ap (λ (ds : List Datagram). ds ++ map sent (first ++ second)) (sym (map-append sent idle answers))
     ∙ sym (map-append sent (idle ++ answers) (first ++ second))

@@ -4,14 +4,14 @@ use Rattle.std.proofs.Common.{None, Some, List, [], ◌∷◌, ◌++◌, length,
 use Rattle.std.proofs.Common.{sym, ap, subst, ◌∙◌, append-nil, arith}
 use Rattle.std.specs.Option.{is_some}
 use Rattle.std.proofs.lemmas.List.{get_or_default}
-use Rattle.srt_seq.specs.declared.shared.Callers.{Callers}
-use Rattle.srt_seq.specs.declared.shared.Callers.TheVariants.{Draft, Libsrt}
-use Rattle.srt_seq.specs.declared.shared.Mode.{Mode}
-use Rattle.srt_seq.specs.declared.shared.Mode.TheVariants.{Live, Buffer}
-use Rattle.srt_seq.specs.declared.shared.Peer.{Peer}
-use Rattle.srt_seq.specs.declared.shared.Rules.{Rules}
-use Rattle.srt_seq.specs.Items.{Datagram}
-use Rattle.srt_seq.specs.Terms.{Terms}
+use Rattle.srt_types.specs.declared.shared.Callers.{Callers}
+use Rattle.srt_types.specs.declared.shared.Callers.TheVariants.{Draft, Libsrt}
+use Rattle.srt_types.specs.declared.shared.Mode.{Mode}
+use Rattle.srt_types.specs.declared.shared.Mode.TheVariants.{Live, Buffer}
+use Rattle.srt_types.specs.declared.shared.Peer.{Peer}
+use Rattle.srt_types.specs.declared.shared.Rules.{Rules}
+use Rattle.srt_types.specs.Items.{Datagram}
+use Rattle.srt_types.specs.Terms.{Terms}
 use Rattle.srt_packet.specs.Grammar.{Packet, Body, Data, Handshake, KeepAlive, Ack, Nak, CongestionWarning, Shutdown, AckAck, DropRequest}
 use Rattle.srt_packet.specs.Grammar.{PeerError, UserDefined}
 use Rattle.srt_packet.specs.View.{body_of}
@@ -41,21 +41,21 @@ use Rattle.srt_route.specs.Route.{drain_if, drain_of, packet_end, took_packet}
 use Rattle.srt_route.specs.Sessions.{of_libsrt, with_end}
 use Rattle.srt_route.specs.inside.Calls.{TableBecomes}
 use Rattle.srt_route.specs.inside.Files.{shutdown_end}
-use Rattle.srt_route.specs.Route.{Reply, is_for, took_if, told_if, lost_told, said_by, sent, answered_by, arrived, concludes}
+use Rattle.srt_route.specs.Route.{Reply, is_for, took_if, notified_if, lost_notified, said_by, sent, answered_by, arrived, concludes}
 use Rattle.srt_route.specs.Buffers.{IsPast, IsSeated, datagrams_to}
 use Rattle.srt_route.specs.PublisherBuffers.{place_of}
 use Rattle.srt_route.specs.Tables.{IsSeat, IsTable, IsTaken, IsPublishing, AreWide, Uses, used_buffers, buffers_of, has_publisher}
 use Rattle.srt_route.specs.Tables.{session_passes, stored_after, with_stored}
 use Rattle.srt_route.specs.inside.OneSession.{PublisherTook, PublisherEnds, PublisherEndsFor, SubscriberTook, SubscriberAnswers}
 use Rattle.srt_route.specs.inside.OneSession.{end_unless, is_lost, shutdowns_if}
-use Rattle.srt_route.proofs.model.Ending.{told_alike}
+use Rattle.srt_route.proofs.model.Ending.{notified_alike}
 use Rattle.srt_route.proofs.model.Found.{for_parts, same_peer_is}
 use Rattle.srt_route.proofs.model.Lists.{map_twice}
 use Rattle.srt_route.proofs.stored.Stored.{IsHere, IsForNone, takes, takes_marks, took_becomes, none_changes, none_found_for}
 use Rattle.srt_route.proofs.stored.Kept.{Alike, Becomes, some_buffers, table_kept, table_same, table_put, seat_at, seat_put, seat_stays}
 use Rattle.srt_route.proofs.stored.Publishers.{set_here, wide_set, others_stay}
 use Rattle.srt_route.proofs.stored.Seats.{took_kept}
-use Rattle.srt_route.proofs.steps.Told.{subscriber_goes_on}
+use Rattle.srt_route.proofs.steps.Notified.{subscriber_goes_on}
 
 -- how a publisher's session ends
 lost_is : (b : Bool) → is_some (lost_if b) ≡ b
@@ -88,42 +88,42 @@ not_lost : (mode : Mode) (terms : publishing.Terms) (m : publishing.Publishing) 
 not_lost Live terms m = refl
 not_lost Buffer terms m = refl
 
-pub lost_is_told : (terms : publishing.Terms) (initial : ℕ) (body : Body) (m : publishing.Publishing)
+pub lost_is_notified : (terms : publishing.Terms) (initial : ℕ) (body : Body) (m : publishing.Publishing)
     → is_lost (ended terms initial body m) ≡ publishing.loses_window terms.mode terms (to_publisher.heard_from initial body) m
-lost_is_told terms initial Shutdown m = not_lost terms.mode terms m
-lost_is_told terms initial (Data number encryption payload) m =
+lost_is_notified terms initial Shutdown m = not_lost terms.mode terms m
+lost_is_notified terms initial (Data number encryption payload) m =
     lost_only (publishing.loses_window terms.mode terms (to_publisher.heard_from initial (Data number encryption payload)) m)
-lost_is_told terms initial (Handshake info) m = lost_only (publishing.loses_window terms.mode terms (to_publisher.heard_from initial (Handshake info)) m)
-lost_is_told terms initial KeepAlive m = lost_only (publishing.loses_window terms.mode terms (to_publisher.heard_from initial KeepAlive) m)
-lost_is_told terms initial (Ack number info) m = lost_only (publishing.loses_window terms.mode terms (to_publisher.heard_from initial (Ack number info)) m)
-lost_is_told terms initial (Nak info) m = lost_only (publishing.loses_window terms.mode terms (to_publisher.heard_from initial (Nak info)) m)
-lost_is_told terms initial CongestionWarning m =
+lost_is_notified terms initial (Handshake info) m = lost_only (publishing.loses_window terms.mode terms (to_publisher.heard_from initial (Handshake info)) m)
+lost_is_notified terms initial KeepAlive m = lost_only (publishing.loses_window terms.mode terms (to_publisher.heard_from initial KeepAlive) m)
+lost_is_notified terms initial (Ack number info) m = lost_only (publishing.loses_window terms.mode terms (to_publisher.heard_from initial (Ack number info)) m)
+lost_is_notified terms initial (Nak info) m = lost_only (publishing.loses_window terms.mode terms (to_publisher.heard_from initial (Nak info)) m)
+lost_is_notified terms initial CongestionWarning m =
     lost_only (publishing.loses_window terms.mode terms (to_publisher.heard_from initial CongestionWarning) m)
-lost_is_told terms initial (AckAck number) m = lost_only (publishing.loses_window terms.mode terms (to_publisher.heard_from initial (AckAck number)) m)
-lost_is_told terms initial (DropRequest message first last) m =
+lost_is_notified terms initial (AckAck number) m = lost_only (publishing.loses_window terms.mode terms (to_publisher.heard_from initial (AckAck number)) m)
+lost_is_notified terms initial (DropRequest message first last) m =
     lost_only (publishing.loses_window terms.mode terms (to_publisher.heard_from initial (DropRequest message first last)) m)
-lost_is_told terms initial PeerError m = lost_only (publishing.loses_window terms.mode terms (to_publisher.heard_from initial PeerError) m)
-lost_is_told terms initial UserDefined m = lost_only (publishing.loses_window terms.mode terms (to_publisher.heard_from initial UserDefined) m)
+lost_is_notified terms initial PeerError m = lost_only (publishing.loses_window terms.mode terms (to_publisher.heard_from initial PeerError) m)
+lost_is_notified terms initial UserDefined m = lost_only (publishing.loses_window terms.mode terms (to_publisher.heard_from initial UserDefined) m)
 
 -- whether it ended by its own SHUTDOWN
 end_only : (b : Bool) → shutdown_end (lost_if b) ≡ cond b (Some false) None
 end_only true = refl
 end_only false = refl
 
-pub end_is_told : (terms : Agreed) (initial : ℕ) (body : Body) (m : publishing.Publishing)
+pub end_is_notified : (terms : Agreed) (initial : ℕ) (body : Body) (m : publishing.Publishing)
     → shutdown_end (ended terms.publisher initial body m) ≡ publisher_end terms initial body (Publishes m)
-end_is_told terms initial Shutdown m = refl
-end_is_told terms initial (Data number encryption payload) m =
+end_is_notified terms initial Shutdown m = refl
+end_is_notified terms initial (Data number encryption payload) m =
     end_only (loses_window terms initial (Data number encryption payload) (Publishes m))
-end_is_told terms initial (Handshake info) m = end_only (loses_window terms initial (Handshake info) (Publishes m))
-end_is_told terms initial KeepAlive m = end_only (loses_window terms initial KeepAlive (Publishes m))
-end_is_told terms initial (Ack number info) m = end_only (loses_window terms initial (Ack number info) (Publishes m))
-end_is_told terms initial (Nak info) m = end_only (loses_window terms initial (Nak info) (Publishes m))
-end_is_told terms initial CongestionWarning m = end_only (loses_window terms initial CongestionWarning (Publishes m))
-end_is_told terms initial (AckAck number) m = end_only (loses_window terms initial (AckAck number) (Publishes m))
-end_is_told terms initial (DropRequest message first last) m = end_only (loses_window terms initial (DropRequest message first last) (Publishes m))
-end_is_told terms initial PeerError m = end_only (loses_window terms initial PeerError (Publishes m))
-end_is_told terms initial UserDefined m = end_only (loses_window terms initial UserDefined (Publishes m))
+end_is_notified terms initial (Handshake info) m = end_only (loses_window terms initial (Handshake info) (Publishes m))
+end_is_notified terms initial KeepAlive m = end_only (loses_window terms initial KeepAlive (Publishes m))
+end_is_notified terms initial (Ack number info) m = end_only (loses_window terms initial (Ack number info) (Publishes m))
+end_is_notified terms initial (Nak info) m = end_only (loses_window terms initial (Nak info) (Publishes m))
+end_is_notified terms initial CongestionWarning m = end_only (loses_window terms initial CongestionWarning (Publishes m))
+end_is_notified terms initial (AckAck number) m = end_only (loses_window terms initial (AckAck number) (Publishes m))
+end_is_notified terms initial (DropRequest message first last) m = end_only (loses_window terms initial (DropRequest message first last) (Publishes m))
+end_is_notified terms initial PeerError m = end_only (loses_window terms initial PeerError (Publishes m))
+end_is_notified terms initial UserDefined m = end_only (loses_window terms initial UserDefined (Publishes m))
 
 -- how a subscriber's session ends
 shutdown_is : (body : Body) → endings.is_shutdown body ≡ is_shutdown body || false
@@ -223,11 +223,11 @@ publisher_is drains e clock packet old new x y end s role by_shutdown took_it en
           silent = ap (answers_to s.conclusion.initial packet.body) same;
           lost = lost_unless drains end (terms_of e s) s.conclusion.initial packet.body s.past by_shutdown
               (ap is_lost (end_is (terms_of e s).publisher s.conclusion.initial s.opening s.stamp s.conclusion.caller m h.1)
-              ∙ lost_is_told (terms_of e s).publisher s.conclusion.initial packet.body m
+              ∙ lost_is_notified (terms_of e s).publisher s.conclusion.initial packet.body m
               ∙ ap (loses_window (terms_of e s) s.conclusion.initial packet.body) (sym same));
           end_is = end_of drains e packet.body s end
               (ap shutdown_end (end_is (terms_of e s).publisher s.conclusion.initial s.opening s.stamp s.conclusion.caller m h.1)
-              ∙ end_is_told (terms_of e s) s.conclusion.initial packet.body m
+              ∙ end_is_notified (terms_of e s) s.conclusion.initial packet.body m
               ∙ ap (publisher_end (terms_of e s) s.conclusion.initial packet.body) (sym same));
         }
 
@@ -237,16 +237,16 @@ record SubscriberIs (e : Terms) (clock : ℕ) (peer : Peer) (packet : Packet) (p
   seated : IsSeated e clock p y.subscriber (took None e clock packet.stamp packet.body s)
   stored : y.session ≡ stored_after (ends_with (terms_of e s) s.conclusion.initial packet.body s.past) None clock x.session
   answered : replies ≡ map sent (map (said_by (time_in s clock) s) (answered_at_once packet.body s))
-  lost : lost_told e clock packet.body s ≡ []
+  lost : lost_notified e clock packet.body s ≡ []
   endless : packet_end None e packet.body (Some s) ≡ None
 
 no_end : (callers : Callers) → of_libsrt callers None ≡ None
 no_end Draft = refl
 no_end Libsrt = refl
 
-none_told : (callers : Callers) (clock : ℕ) (s : Session) → told_if callers false clock s ≡ []
-none_told Draft clock s = refl
-none_told Libsrt clock s = refl
+none_notified : (callers : Callers) (clock : ℕ) (s : Session) → notified_if callers false clock s ≡ []
+none_notified Draft clock s = refl
+none_notified Libsrt clock s = refl
 
 -- bytes of reports
 said_to : (peer : Peer) (time : ℕ) (s : Session) → s.peer ≡ peer → (reports : List subscribing.Report)
@@ -292,8 +292,8 @@ subscriber_is e clock peer packet p x y replies s role same_peer took_it end ans
           answered = answers terms s.conclusion.initial s.opening s.conclusion.caller clock m h.1 (omega arith)
               ∙ (said_to peer (clock - s.opening) s same_peer (subscribing.answers heard)
               ∙ ap (λ (q : Past). map sent (map (said_by (time_in s clock) s) (answers_to s.conclusion.initial packet.body q))) (sym same));
-          lost = ap (λ (q : Past). told_if e.rules.callers (loses_window (terms_of e s) s.conclusion.initial packet.body q) clock s) same
-              ∙ none_told e.rules.callers clock s;
+          lost = ap (λ (q : Past). notified_if e.rules.callers (loses_window (terms_of e s) s.conclusion.initial packet.body q) clock s) same
+              ∙ none_notified e.rules.callers clock s;
           endless = ap (λ (q : Past). of_libsrt e.rules.callers (publisher_end (terms_of e s) s.conclusion.initial packet.body q)) same
               ∙ no_end e.rules.callers;
         }
@@ -363,7 +363,7 @@ pub publisher_arrived : (e : Terms) (index clock : ℕ) (peer : Peer) (packet : 
     → ((n : ℕ) → TableBecomes n new last (λ d. map (with_end noted)))
     → IsTaken e index clock last replies (arrived e index clock peer packet ss)
 publisher_arrived e index clock peer packet old new last drains noted ss at which p q x y end replies t s is there here role which_is p_is
-    drains_is took_them ends end_is told alike put turned noted_is notes =
+    drains_is took_them ends end_is notified alike put turned noted_is notes =
     record {
       table_is = by_end e index clock peer packet last ss (Some s) drains noted here.found_for drains_is
           (sym now.end_is
@@ -372,13 +372,13 @@ publisher_arrived e index clock peer packet old new last drains noted ss at whic
           (subst (λ (ts : List Session). IsTable e index clock last ts)
           (map_twice (λ u. took_if drains (is_for index peer packet.dest u) e clock packet u) (with_end noted) ss)
           (notes clock e index (map (λ u. took_if drains (is_for index peer packet.dest u) e clock packet u) ss) mid));
-      replies_are = told
+      replies_are = notified
           ∙ ap (λ (c : Callers). shutdowns_if c (is_lost (end_unless drains end)) clock x.session) (ap (λ (r : Rules). r.callers) is.rules_are)
           ∙ ap (λ (b : Bool). shutdowns_if e.rules.callers b clock x.session) now.lost
           ∙ ap (shutdowns_if e.rules.callers (loses_window (terms_of e s) s.conclusion.initial packet.body s.past) clock) here.stored_is
-          ∙ told_alike e index clock e.rules.callers (loses_window (terms_of e s) s.conclusion.initial packet.body s.past) t s here.session_is
-          ∙ ap (λ (rs : List Reply). map sent rs) (sym (append-nil (lost_told e clock packet.body s)))
-          ∙ ap (λ (rs : List Report). map sent (lost_told e clock packet.body s ++ map (said_by (time_in s clock) s) rs)) (sym now.silent)
+          ∙ notified_alike e index clock e.rules.callers (loses_window (terms_of e s) s.conclusion.initial packet.body s.past) t s here.session_is
+          ∙ ap (λ (rs : List Reply). map sent rs) (sym (append-nil (lost_notified e clock packet.body s)))
+          ∙ ap (λ (rs : List Report). map sent (lost_notified e clock packet.body s ++ map (said_by (time_in s clock) s) rs)) (sym now.silent)
           ∙ sym (ap (λ (o : Option Session). map sent (answered_by e clock packet.body o)) here.found_for);
     }
   where

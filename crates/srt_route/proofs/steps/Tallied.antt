@@ -1,20 +1,22 @@
 -- The counts of openings and refusals.
-use Rattle.std.proofs.Common.{◌≡◌, ℕ, ◌≢◌, ◌<◌, ◌≤◌, ◌^◌, nat_eq, Bool, true, false, cond, Option, None, Some, refl, sym, ap, subst, ◌∙◌}
+use Rattle.std.proofs.Common.{◌≡◌, ℕ, ◌≢◌, ◌<◌, ◌≤◌, ◌^◌, nat_eq, Bool, true, false, cond, Option, None, List, get_or, refl, sym, ap, subst, ◌∙◌}
 use Rattle.std.proofs.lemmas.Bool.{ne_eqb}
-use Rattle.srt_seq.specs.declared.shared.Peer.{Peer}
-use Rattle.srt_seq.specs.Terms.{Terms}
-use Rattle.srt_seq.specs.Items.{Item}
+use Rattle.srt_types.specs.declared.shared.Peer.{Peer}
+use Rattle.srt_types.specs.Terms.{Terms}
+use Rattle.srt_types.specs.Items.{Item}
 use Rattle.srt_packet.specs.Grammar.{Packet}
 use Rattle.srt_route.specs.declared.ledger.Ledger.{Ledger}
 use Rattle.srt_route.specs.declared.ledger.Refusals.{Refusals}
 use Rattle.srt_route.specs.declared.table.Table.{Table}
 use Rattle.srt_route.specs.inside.Calls.{AdvancesTo}
-use Rattle.srt_route.specs.Sessions.{Session, advanced}
+use Rattle.srt_route.specs.Sessions.{advanced}
 use Rattle.srt_route.specs.Route.{Route, clock_after, concludes}
 use Rattle.srt_route.specs.Tables.{IsTable}
-use Rattle.srt_route.specs.Ledgers.{CountsStay, idle_cause, NotesEach}
+use Rattle.srt_route.specs.Ledgers.{CountsStay, idle_cause}
+use Rattle.srt_route.specs.inside.Notes.{NotesEach}
+use Rattle.srt_route.proofs.steps.Notified.{none_notified}
 use Rattle.srt_route.specs.declared.ledger.EndedSession.{EndedSession}
-use Rattle.srt_route.specs.Ends.{Ends, EndsIn, arrived_end, destined_end}
+use Rattle.srt_route.specs.Ends.{Ends, after_packet, arrived_end, arrived_ending, destined_ending, kept_of}
 use Rattle.srt_route.specs.Tallies.{Tally, Tallies, conclusion_tally, item_tally, packet_tally, tally_after, tally_of}
 
 -- counts that stay
@@ -28,15 +30,22 @@ pub has_destination : (packet : Packet) → packet.dest ≢ 0 → false ≡ nat_
 has_destination packet h = sym (ne_eqb packet.dest 0 h)
 
 pub destined : (clock : ℕ) (peer : Peer) (packet : Packet) (table : Table) (old new : Ledger) → packet.dest ≢ 0
-    → Ends clock (λ e index. arrived_end e index clock peer packet) table old new
-    → Ends clock (λ e index. destined_end e index clock peer packet) table old new
+    → Ends clock (λ e index. arrived_ending e index clock peer packet) table old new
+    → Ends clock (λ e index. destined_ending e index clock peer packet) table old new
 destined clock peer packet table old new h ends =
-    subst (λ (b : Bool). Ends clock (λ e index ss s. cond b None (arrived_end e index clock peer packet ss s)) table old new) (has_destination packet h) ends
+    subst
+    (λ (b : Bool).
+    Ends clock (λ e index ss. record { cause = λ s. cond b None (arrived_end e index clock peer packet ss s); last = after_packet e clock packet }) table old
+    new)
+    (has_destination packet h) ends
 
--- nothing ends without a cause
-pub nothing_ends : (index moment : ℕ) (f : Option Session) (x : Option EndedSession) → EndsIn index (λ s. None) moment f x x
-nothing_ends index moment None x = refl
-nothing_ends index moment (Some s) x = refl
+-- a packet without a destination ends no session
+pub undestined : (clock : ℕ) (peer : Peer) (packet : Packet) (table : Table) (old new : Ledger) → packet.dest ≡ 0
+    → (new.ended ≡ old.ended) × (new.totals ≡ old.totals)
+    → Ends clock (λ e index. destined_ending e index clock peer packet) table old new
+undestined clock peer packet table old new h stays e index ss is =
+    none_notified e index (destined_ending e index clock peer packet ss) clock ss (kept_of old) (kept_of new)
+    (λ at s found. rw (h) refl) (λ at. ap (λ (xs : List (Option EndedSession)). get_or xs at None) stays.0) stays.1
 
 pub destined_tally : (clock : ℕ) (peer : Peer) (packet : Packet) (table : Table) (old new : Ledger)
     → packet.dest ≢ 0 → CountsStay old new → Tallies clock (λ e ss. packet_tally e peer packet ss) table old new

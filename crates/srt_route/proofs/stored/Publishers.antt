@@ -5,7 +5,7 @@ use Rattle.std.specs.List.{list_any}
 use Rattle.std.proofs.lemmas.Bool.{cases_Bool, and_parts}
 use Rattle.std.proofs.lemmas.List.{get_or-set_same, get_or-set_other, get_or_default}
 use Rattle.std.proofs.lemmas.List.Folds.{list_any_at, Any-from_list_any}
-use Rattle.srt_seq.specs.Terms.{Terms}
+use Rattle.srt_types.specs.Terms.{Terms}
 use Rattle.srt_pub.specs.Stands as publisher
 use Rattle.srt_pub.specs.declared.session.Publisher.{Publisher}
 use Rattle.srt_sub.specs.declared.session.Subscriber.{Subscriber}

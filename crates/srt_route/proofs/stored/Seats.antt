@@ -1,14 +1,15 @@
 -- The buffers of sessions that change.
 use Rattle.std.proofs.Common.{◌≡◌, ℕ, ◌-◌, ◌≤◌, Bool, true, false, not, ◌&&◌, Option, None, Some, List, refl, sym, ap, ◌∙◌, arith}
-use Rattle.srt_seq.specs.declared.shared.Mode.{Mode}
-use Rattle.srt_seq.specs.declared.shared.Mode.TheVariants.{Live, Buffer}
-use Rattle.srt_seq.specs.Terms.{Terms}
+use Rattle.srt_types.specs.declared.shared.Mode.{Mode}
+use Rattle.srt_types.specs.declared.shared.Mode.TheVariants.{Live, Buffer}
+use Rattle.srt_types.specs.Terms.{Terms}
 use Rattle.srt_sendbuf.specs.Sending.{Queued, Sending, acknowledged_by}
 use Rattle.srt_pub.specs.declared.session.Publisher.{Publisher}
 use Rattle.srt_sub.specs.Heard.{Heard, Ack, Nak, Data, Other}
 use Rattle.srt_sub.specs.Stands as subscriber
 use Rattle.srt_sub.specs.Subscribing as subscribing
 use Rattle.srt_sub.specs.declared.session.Subscriber.{Subscriber}
+use Rattle.srt_sub.proofs.Freshness.{none_given_up}
 use Rattle.srt_route.specs.Past.{Past, Publishes, Subscribes, expired_past}
 use Rattle.srt_route.specs.Sessions.{Session, publishes, terms_of, time_in, aged, aged_at, is_over}
 use Rattle.srt_route.specs.Buffers.{IsPast, IsSeated, ExpiresTo}
@@ -21,7 +22,9 @@ expired_twice Buffer terms time s = refl
 
 pub gives_up_once : (terms : subscribing.Terms) (time : ℕ) (m : subscribing.Subscribing)
     → subscribing.expired terms time (subscribing.expired terms time m) ≡ subscribing.expired terms time m
-gives_up_once terms time m = ap (λ (s : Sending). record m { sending = s }) (expired_twice terms.mode terms time m.sending)
+gives_up_once terms time m =
+    none_given_up (subscribing.expired terms time m) (subscribing.expired_in terms.mode terms time (subscribing.expired terms time m).sending)
+    (expired_twice terms.mode terms time m.sending)
 
 -- nothing more is given up if the queue and the front stay
 still_kept : (mode : Mode) (terms : subscribing.Terms) (time : ℕ) (s r : Sending) → r.queue ≡ s.queue → r.expired ≡ s.expired
@@ -37,7 +40,7 @@ keeps_up : (terms : subscribing.Terms) (time : ℕ) (m n : subscribing.Subscribi
     → n.sending.expired ≡ m.sending.expired → subscribing.expired terms time m ≡ m
     → subscribing.expired terms time n ≡ n
 keeps_up terms time m n queue expired h =
-    ap (λ (s : Sending). record n { sending = s })
+    none_given_up n (subscribing.expired_in terms.mode terms time n.sending)
     (still_kept terms.mode terms time m.sending n.sending queue expired (ap (λ (x : subscribing.Subscribing). x.sending) h))
 
 pub took_queue : (time : ℕ) (heard : Heard) (m : subscribing.Subscribing) → (subscribing.took time heard m).sending.queue ≡ m.sending.queue
@@ -72,7 +75,8 @@ opened_in Live terms time = refl
 opened_in Buffer terms time = refl
 
 pub opened_kept : (terms : subscribing.Terms) (time : ℕ) → subscribing.expired terms time subscribing.opened ≡ subscribing.opened
-opened_kept terms time = ap (λ (s : Sending). record subscribing.opened { sending = s }) (opened_in terms.mode terms time)
+opened_kept terms time =
+    none_given_up subscribing.opened (subscribing.expired_in terms.mode terms time subscribing.opened.sending) (opened_in terms.mode terms time)
 
 -- a session's past as time advances
 aged_past : (e : Terms) (before clock : ℕ) (p : Publisher) (x y : Subscriber) (s : Session) → before ≤ clock

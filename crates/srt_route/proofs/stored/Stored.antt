@@ -1,5 +1,5 @@
 -- The sessions that seats store, and their changes.
-use Rattle.std.proofs.Common.{◌≡◌, ℕ, zero, suc, ◌+◌, ◌%◌, ◌<◌, ◌≤◌, Bool, true, false, not, ◌||◌, cond, Option, None, Some}
+use Rattle.std.proofs.Common.{◌≡◌, ℕ, zero, suc, ◌+◌, ◌%◌, ◌<◌, ◌≤◌, Bool, true, false, not, ◌||◌, cond, Option, None, Some, ◌&&◌}
 use Rattle.std.proofs.Common.{List, [], ◌∷◌, length, find, take, get_or, refl, sym, ap, subst, ◌∙◌, ◌≢◌, inl, inr, add-zero, arith}
 use Rattle.std.specs.Prelude.{count_by}
 use Rattle.std.specs.Option.{option_map, is_some}
@@ -9,9 +9,9 @@ use Rattle.std.proofs.lemmas.Bool.{cases_lt, and_parts, false_from_ne_true, lt-l
 use Rattle.std.proofs.lemmas.List.{get_or_default, take_more}
 use Rattle.std.proofs.lemmas.List.Quantifiers.{position-Some}
 use Rattle.std.proofs.lemmas.List.Sums.{fails_before_first, sum_by-cons, sum_by_push}
-use Rattle.srt_seq.specs.declared.shared.Peer.{Peer}
-use Rattle.srt_seq.specs.Runs.{numbers_from}
-use Rattle.srt_seq.specs.Terms.{Terms}
+use Rattle.srt_types.specs.declared.shared.Peer.{Peer}
+use Rattle.srt_types.specs.Runs.{numbers_from}
+use Rattle.srt_types.specs.Terms.{Terms}
 use Rattle.srt_packet.specs.Grammar.{Packet}
 use Rattle.srt_route.specs.declared.seat.Session.{Session as TheSession}
 use Rattle.srt_pub.specs.declared.session.Publisher.{Publisher}
@@ -22,11 +22,12 @@ use Rattle.srt_route.specs.declared.table.Table.{Table}
 use Rattle.srt_route.specs.Past.{Past, Publishes, Subscribes, ends_with}
 use Rattle.srt_route.specs.Sessions.{Session, is_open_in, is_publisher, open_publishers, publishes, is_free, free_slot, free_slots}
 use Rattle.srt_route.specs.Sessions.{is_from, sessions_from}
-use Rattle.srt_route.specs.Sessions.{drains_open, ends_unless, is_draining, number_draining, session_id, terms_of, took}
+use Rattle.srt_route.specs.Sessions.{drains_open, ends_unless, is_draining, is_over, number_draining, session_id, terms_of, took}
 use Rattle.srt_route.specs.Route.{is_of, is_for, heard_if, took_if}
 use Rattle.srt_route.specs.Buffers.{IsPast, IsSeated}
-use Rattle.srt_route.specs.Tables.{IsSession, IsStored, IsSeat, IsTable, AreAlone, holds, has_address, has_draining, has_publisher, is_vacant, buffers_of}
-use Rattle.srt_route.specs.Tables.{session_passes, is_session_of, heard_at, is_stored_for, stored_after, with_stored}
+use Rattle.srt_route.specs.Tables.{IsSession, IsStored, IsSeat, IsTable, AreAlone, holds, has_address, has_draining, has_expired, has_publisher}
+use Rattle.srt_route.specs.Tables.{is_vacant, buffers_of}
+use Rattle.srt_route.specs.Tables.{session_passes, is_session_of, heard_at, is_stored_for, is_stored_over, stored_after, with_stored}
 use Rattle.srt_route.proofs.model.Lists.{how_many, one_more}
 use Rattle.srt_route.proofs.model.Found.{found_passes, any_is, found_in_place, found_of_caller, found_narrower, for_open, for_parts, open_parts, open_from}
 use Rattle.srt_route.proofs.model.Found.{of_parts, Keeps, changed, while_open}
@@ -208,6 +209,16 @@ pub draining_among : (e : Terms) (index clock : ℕ) (table : Table) (ss : List 
 draining_among e index clock table ss are =
     among e index clock table ss (λ t. is_some t.drains) drains_open (λ t s is o. rw (o, is.drains_is) refl)
     (λ s h. (and_parts s.is_open (is_draining s) h).0) are
+
+-- the expired sessions
+abbrev pub has_expired_open : (clock : ℕ) → Session → Bool
+has_expired_open clock s = s.is_open && is_over s clock
+
+pub expired_among : (e : Terms) (index before clock : ℕ) (table : Table) (ss : List Session)
+    → IsTable e index before table ss → count_by (has_expired clock) table.seats.items ≡ how_many (has_expired_open clock) ss
+expired_among e index before clock table ss are =
+    among e index before table ss (is_stored_over clock) (has_expired_open clock) (λ t s is o. rw (o, is.drains_is, is.heard_is) refl)
+    (λ s h. (and_parts s.is_open (is_over s clock) h).0) are
 
 -- one more is counted
 pub count_more_taken : (p : Seat → Bool) (xs : List Seat) (at : ℕ) (x : Seat)

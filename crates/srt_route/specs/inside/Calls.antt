@@ -1,8 +1,8 @@
 -- The effect of an event's calls on a route's table, for all sessions that it represents.
 use Rattle.std.specs.Prelude.{◌≡◌, ℕ, ◌<◌, ◌≤◌, ◌^◌, true, None, Result, List, map, find}
-use Rattle.srt_seq.specs.declared.shared.Peer.{Peer}
-use Rattle.srt_seq.specs.Terms.{Terms}
-use Rattle.srt_seq.specs.Items.{Datagram, Item}
+use Rattle.srt_types.specs.declared.shared.Peer.{Peer}
+use Rattle.srt_types.specs.Terms.{Terms}
+use Rattle.srt_types.specs.Items.{Datagram, Item}
 use Rattle.srt_packet.specs.Grammar.{Packet}
 use Rattle.srt_packet.specs.Reading.{packet_in}
 use Rattle.srt_route.specs.declared.refusals.RefusalCause.{RefusalCause}
@@ -11,8 +11,8 @@ use Rattle.srt_route.specs.declared.arrival.Arrival.{Arrival}
 use Rattle.srt_route.specs.declared.conclusion.Conclusion.{Conclusion}
 use Rattle.srt_route.specs.declared.reply_queue.ReplyQueue.{ReplyQueue}
 use Rattle.srt_route.specs.declared.table.Table.{Table}
-use Rattle.srt_route.specs.Sessions.{Session, advanced, aged, is_open_in, open_publishers, publishes}
-use Rattle.srt_route.specs.Route.{Reply, arrived, concluded, considered, decision, idle_told, is_of, opens, packet_taken, read_taken, sent, taken}
+use Rattle.srt_route.specs.Sessions.{Session, advanced, aged, is_open_in, marked_if, open_publishers, publishes, takes_over}
+use Rattle.srt_route.specs.Route.{Reply, arrived, concluded, considered, decision, idle_notified, is_of, opens, packet_taken, read_taken, sent, taken}
 use Rattle.srt_route.specs.Tables.{IsTable, IsTaken}
 use Rattle.srt_route.specs.Admission.{admitted, agreement_of}
 use Rattle.srt_route.specs.inside.Reports.{Queues}
@@ -39,9 +39,16 @@ AgesTo clock old new =
 abbrev pub TellsIdle : (clock : ℕ) → Table → (before after : ReplyQueue) → Type 0
 TellsIdle clock table before after =
     (e : Terms) (index earlier : ℕ) (sessions : List Session)
-    → IsTable e index earlier table sessions → Queues before after (map sent (idle_told e clock sessions))
+    → IsTable e index earlier table sessions → Queues before after (map sent (idle_notified e clock sessions))
 
--- step 2 with a take-over, if it is due
+-- the same with a take-over, if it is due
+abbrev pub AgesAndLeads : (clock : ℕ) → (old new : Table) → Type 0
+AgesAndLeads clock old new =
+    (e : Terms) (index before : ℕ) (sessions : List Session)
+    → IsTable e index before old sessions → before ≤ clock → clock < 2 ^ 62
+    → IsTable e index clock new (marked_if (takes_over e clock (map (aged e clock) sessions)) (map (aged e clock) sessions))
+
+-- step 2 with a take-over, and the record of a publisher's end
 abbrev pub AdvancesTo : (clock : ℕ) → (old new : Table) → Type 0
 AdvancesTo clock old new =
     (e : Terms) (index before : ℕ) (sessions : List Session)

@@ -1,8 +1,8 @@
 -- The steps of a delivery and of an event's output: payload by payload, and session by session.
 use Rattle.std.specs.Prelude.{◌≡◌, ℕ, ◌<◌, ◌≤◌, Bool, true, false, Option, None, Some, List, [], ◌∷◌, map, find, length, slice_index_or}
 use Rattle.std.specs.Prelude.{unwrap_or, ⊤, ◌==◌, if◌then◌else◌}
-use Rattle.srt_seq.specs.declared.shared.Mode.TheVariants.{Buffer}
-use Rattle.srt_seq.specs.Terms.{Terms}
+use Rattle.srt_types.specs.declared.shared.Mode.TheVariants.{Buffer}
+use Rattle.srt_types.specs.Terms.{Terms}
 use Rattle.srt_recvbuf.specs.Receiving.{Arrival}
 use Rattle.srt_sendbuf.specs.Sending.{room}
 use Rattle.srt_pub.specs.Calls.{next_delivery, after_delivery}
@@ -11,7 +11,7 @@ use Rattle.srt_pub.specs.Stands as buffers
 use Rattle.srt_pub.specs.declared.session.Publisher.{Publisher}
 use Rattle.srt_sub.specs.Subscribing as subscriber
 use Rattle.srt_route.specs.Past.{Past, Publishes, Subscribes, Agreed, least, reported_if}
-use Rattle.srt_route.specs.Sessions.{Session, is_draining, terms_of, is_publisher, is_open_in, time_in, payloads}
+use Rattle.srt_route.specs.Sessions.{Session, is_draining, is_recent, terms_of, is_publisher, is_open_in, time_in, payloads}
 use Rattle.srt_route.specs.Route.{Reply, packets_at, least_room}
 use Rattle.srt_route.specs.declared.publisher_buffers.PublisherBuffers.{PublisherBuffers}
 use Rattle.srt_route.specs.declared.seat.Seat.{Seat}
@@ -120,17 +120,17 @@ after_publisher_in e clock at s = reported_in (is_draining s) (terms_of e s) (ti
 -- the packets that the open session of slot `at` sends if it passes the test
 abbrev pub packets_of : Terms → (clock : ℕ) → (Session → Bool) → Option Session → List Reply
 packets_of e clock test None = []
-packets_of e clock test (Some s) = packets_at e (test s) (time_in s clock) s
+packets_of e clock test (Some s) = packets_at e (test s) clock s
 
 abbrev pub packets_in : Terms → (clock : ℕ) → (Session → Bool) → (at : ℕ) → List Session → List Reply
 packets_in e clock test at sessions = packets_of e clock test (find (is_open_in at) sessions)
 
-abbrev pub subscriber_reported : Agreed → (time : ℕ) → Past → Past
-subscriber_reported terms time (Publishes p) = Publishes p
-subscriber_reported terms time (Subscribes m) = Subscribes (subscriber.reported terms.subscriber time m)
+abbrev pub subscriber_reported : Agreed → (time : ℕ) → (recent : Bool) → Past → Past
+subscriber_reported terms time recent (Publishes p) = Publishes p
+subscriber_reported terms time recent (Subscribes m) = Subscribes (subscriber.reported terms.subscriber time recent m)
 
 abbrev pub after_subscriber : Terms → (clock : ℕ) → Session → Past
-after_subscriber e clock s = subscriber_reported (terms_of e s) (time_in s clock) s.past
+after_subscriber e clock s = subscriber_reported (terms_of e s) (time_in s clock) (is_recent s clock) s.past
 
 -- the calls of a delivery, for all sessions that the table represents; s is the publisher of slot `at`, which uses
 -- these buffers, and its past is q

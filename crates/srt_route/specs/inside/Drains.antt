@@ -1,7 +1,7 @@
 -- Draining publishers' sessions, in terms of a route's table.
 use Rattle.std.specs.Prelude.{◌≡◌, ℕ, ◌+◌, Bool, true, false, Option, None, Some, List, find, map, not, slice_index_or, ◌&&◌}
-use Rattle.srt_seq.specs.declared.shared.Callers.TheVariants.{Libsrt}
-use Rattle.srt_seq.specs.Terms.{Terms}
+use Rattle.srt_types.specs.declared.shared.Callers.TheVariants.{Libsrt}
+use Rattle.srt_types.specs.Terms.{Terms}
 use Rattle.srt_packet.specs.Grammar.{Body}
 use Rattle.srt_pub.specs.declared.session.Publisher.{Publisher}
 use Rattle.srt_route.specs.declared.seat.Seat.{Seat}
@@ -9,9 +9,8 @@ use Rattle.srt_route.specs.declared.ledger.Ledger.{Ledger}
 use Rattle.srt_route.specs.declared.table.Table.{Table}
 use Rattle.srt_route.specs.Past.{has_left, is_shutdown}
 use Rattle.srt_route.specs.Sessions.{Session, is_active, is_draining, is_open_in, is_publisher, settled, terms_of}
-use Rattle.srt_route.specs.Route.{after_delivery, delivered, drain_if, drain_of, gives_some}
-use Rattle.srt_route.specs.Ends.{EndsAre, drained_end, settled_end}
-use Rattle.srt_route.specs.Ledgers.{entry_of}
+use Rattle.srt_route.specs.Route.{after_delivery, delivered, drain_if, drain_of, gives_some, settled_by}
+use Rattle.srt_route.specs.Ends.{EndsAre, kept_of, settled_ending}
 use Rattle.srt_route.specs.Tables.{IsSeat, IsTable, buffers_of}
 use Rattle.srt_route.specs.inside.Calls.{TableBecomes}
 
@@ -63,7 +62,7 @@ SettlesTo clock given old new = TableBecomes clock old new (λ e. map (settled e
 abbrev pub EndsDrained : (clock : ℕ) → Table → (old new : Ledger) → Type 0
 EndsDrained clock table old new =
     (e : Terms) (index : ℕ) (sessions : List Session)
-    → IsTable e index clock table sessions → EndsAre index (drained_end e) clock sessions (entry_of old) (entry_of new)
+    → IsTable e index clock table sessions → EndsAre e index (settled_ending Libsrt e) clock sessions (kept_of old) (kept_of new)
 
 abbrev pub DeliversAndSettles : (clock : ℕ) → (old new : Table) → Type 0
 DeliversAndSettles clock old new = TableBecomes clock old new (λ e. after_delivery e clock)
@@ -72,4 +71,15 @@ abbrev pub EndsSettled : (clock : ℕ) → Table → (old new : Ledger) → Type
 EndsSettled clock table old new =
     (e : Terms) (index : ℕ) (sessions : List Session)
     → IsTable e index clock table sessions
-    → EndsAre index (settled_end e.rules.callers e) clock (delivered e clock sessions) (entry_of old) (entry_of new)
+    → EndsAre e index (settled_ending e.rules.callers e) clock (delivered e clock sessions) (kept_of old) (kept_of new)
+
+-- the same on a route for libsrt callers
+abbrev pub DeliversAndEnds : (clock : ℕ) → (old new : Table) → Type 0
+DeliversAndEnds clock old new =
+    TableBecomes clock old new (λ e sessions. settled_by Libsrt e clock (gives_some e clock sessions) (delivered e clock sessions))
+
+abbrev pub EndsAtDelivery : (clock : ℕ) → Table → (old new : Ledger) → Type 0
+EndsAtDelivery clock table old new =
+    (e : Terms) (index : ℕ) (sessions : List Session)
+    → IsTable e index clock table sessions
+    → EndsAre e index (settled_ending Libsrt e) clock (delivered e clock sessions) (kept_of old) (kept_of new)

@@ -1,6 +1,6 @@
 -- The end of a file, in terms of a route's table.
 use Rattle.std.specs.Prelude.{◌≡◌, ℕ, Bool, true, false, Option, None, Some, List, [], find, map}
-use Rattle.srt_seq.specs.Terms.{Terms}
+use Rattle.srt_types.specs.Terms.{Terms}
 use Rattle.srt_pub.specs.declared.ends.PubEnd.{PubEnd}
 use Rattle.srt_pub.specs.declared.ends.PubEnd.TheVariants as ends
 use Rattle.srt_pub.specs.declared.session.Publisher.{Publisher}
@@ -9,9 +9,8 @@ use Rattle.srt_route.specs.declared.seat.Seat.{Seat}
 use Rattle.srt_route.specs.declared.table.Table.{Table}
 use Rattle.srt_route.specs.Sessions.{Session, is_open_in}
 use Rattle.srt_route.specs.Route.{ended, has_whole_file, is_file_over, served}
-use Rattle.srt_route.specs.Ends.{EndsAre, file_end}
-use Rattle.srt_route.specs.Ledgers.{entry_of}
-use Rattle.srt_route.specs.Tables.{IsSeat, IsTable, has_subscriber, with_stored}
+use Rattle.srt_route.specs.Ends.{EndsAre, file_ending, kept_of}
+use Rattle.srt_route.specs.Tables.{IsSeat, IsTable, has_subscriber, hears_recently, with_stored}
 use Rattle.srt_route.specs.declared.ledger.Ledger.{Ledger}
 use Rattle.srt_route.specs.inside.Calls.{TableBecomes, Transmits}
 use Rattle.srt_route.specs.inside.Delivery.{after_subscriber, changed}
@@ -58,7 +57,7 @@ pub record SeatServed (clock : ℕ) (seat new : Seat) (before after : ReplyQueue
   pub session : new.session ≡ seat.session
   pub none : has_subscriber seat ≡ false → new.subscriber ≡ seat.subscriber
   pub silent : has_subscriber seat ≡ false → Queues before after []
-  pub stands : has_subscriber seat ≡ true → SubscriberReported clock seat.subscriber new.subscriber
+  pub stands : has_subscriber seat ≡ true → SubscriberReported clock (hears_recently clock seat) seat.subscriber new.subscriber
   pub said : SeatSaid clock seat before after
 
 -- step 6, for all sessions that the table represents: the sessions after it, the queued packets, and the recorded ends
@@ -72,4 +71,4 @@ abbrev pub EndsFiles : (clock : ℕ) → Table → (old new : Ledger) → Type 0
 EndsFiles clock table old new =
     (e : Terms) (index : ℕ) (sessions : List Session)
     → IsTable e index clock table sessions
-    → EndsAre index (file_end (is_file_over e sessions)) clock sessions (entry_of old) (entry_of new)
+    → EndsAre e index (file_ending (is_file_over e sessions)) clock sessions (kept_of old) (kept_of new)

@@ -1,15 +1,15 @@
 -- The effect of a call on the buffers and the seat of one session, whatever they represented before.
 use Rattle.std.specs.Prelude.{◌≡◌, ℕ, ◌+◌, ◌-◌, ◌%◌, ◌^◌, ◌<◌, ◌≤◌, Bool, true, false, Option, None, Some, List, [], ◌∷◌, length, map}
 use Rattle.std.specs.Option.{is_some}
-use Rattle.srt_seq.specs.declared.shared.Peer.{Peer}
-use Rattle.srt_seq.specs.declared.shared.Mode.TheVariants.{Buffer}
-use Rattle.srt_seq.specs.declared.shared.Callers.{Callers}
-use Rattle.srt_seq.specs.declared.shared.Callers.TheVariants.{Draft, Libsrt}
-use Rattle.srt_seq.specs.declared.shared.Role.{Role}
-use Rattle.srt_seq.specs.declared.shared.Role.TheVariants.{Publish, Request}
-use Rattle.srt_seq.specs.Terms.{Terms}
-use Rattle.srt_seq.specs.Lift.{stamped_from}
-use Rattle.srt_seq.specs.Items.{Datagram}
+use Rattle.srt_types.specs.declared.shared.Peer.{Peer}
+use Rattle.srt_types.specs.declared.shared.Mode.TheVariants.{Buffer}
+use Rattle.srt_types.specs.declared.shared.Callers.{Callers}
+use Rattle.srt_types.specs.declared.shared.Callers.TheVariants.{Draft, Libsrt}
+use Rattle.srt_types.specs.declared.shared.Role.{Role}
+use Rattle.srt_types.specs.declared.shared.Role.TheVariants.{Publish, Request}
+use Rattle.srt_types.specs.Terms.{Terms}
+use Rattle.srt_types.specs.Lift.{stamped_from}
+use Rattle.srt_types.specs.Items.{Datagram}
 use Rattle.srt_packet.specs.declared.writing.Body.TheVariants.{Shutdown}
 use Rattle.srt_packet.specs.declared.writing.Packet.{Packet as WrittenPacket}
 use Rattle.srt_packet.specs.Grammar.{Packet}
@@ -37,7 +37,7 @@ use Rattle.srt_route.specs.declared.seat.Session.{Session as StoredSession}
 use Rattle.srt_route.specs.Sessions.{agreed_terms}
 use Rattle.srt_route.specs.Admission.{agreement_of}
 use Rattle.srt_route.specs.Buffers.{datagrams_to}
-use Rattle.srt_route.specs.Tables.{has_subscriber, stored_after, with_stored}
+use Rattle.srt_route.specs.Tables.{has_subscriber, hears_recently, stored_after, with_stored}
 use Rattle.srt_route.specs.inside.Reports.{Queues}
 
 -- a session begins with this conclusion: the publisher's buffers or those of the seat represent its beginning, and
@@ -149,24 +149,26 @@ PublisherSaid clock peer old before after =
     → publisher.StandsFor terms initial opening stamp caller old m
     → Queues before after (datagrams_to peer (map (publisher_text.says caller initial time) (publishing.reports terms time m)))
 
--- the same of a subscriber that has already dropped what is too late
-abbrev pub SubscriberReported : (clock : ℕ) → (old new : Subscriber) → Type 0
-SubscriberReported clock old new =
+-- the same of a subscriber that has already dropped what is too late; `recent` is whether its peer was heard less than a
+-- second ago
+abbrev pub SubscriberReported : (clock : ℕ) → (recent : Bool) → (old new : Subscriber) → Type 0
+SubscriberReported clock recent old new =
     (terms : subscribing.Terms) (initial opening caller : ℕ) (m : subscribing.Subscribing)
     → subscriber.StandsFor terms initial opening caller clock old m → subscribing.expired terms (clock - opening) m ≡ m
-    → subscriber.StandsFor terms initial opening caller clock new (subscribing.reported terms (clock - opening) m)
+    → subscriber.StandsFor terms initial opening caller clock new (subscribing.reported terms (clock - opening) recent m)
 
-abbrev pub SubscriberSaid : (clock : ℕ) → Peer → Subscriber → (before after : ReplyQueue) → Type 0
-SubscriberSaid clock peer old before after =
+abbrev pub SubscriberSaid : (clock : ℕ) → (recent : Bool) → Peer → Subscriber → (before after : ReplyQueue) → Type 0
+SubscriberSaid clock recent peer old before after =
     (terms : subscribing.Terms) (initial opening caller : ℕ) (m : subscribing.Subscribing)
     → subscriber.StandsFor terms initial opening caller clock old m → subscribing.expired terms (clock - opening) m ≡ m
-    → Queues before after (datagrams_to peer (map (subscriber_text.says caller initial (clock - opening)) (subscribing.reports terms (clock - opening) m)))
+    → Queues before after
+    (datagrams_to peer (map (subscriber_text.says caller initial (clock - opening)) (subscribing.reports terms (clock - opening) recent m)))
 
 -- the same of the subscriber in this seat, if one is open
 abbrev pub SeatSaid : (clock : ℕ) → Seat → (before after : ReplyQueue) → Type 0
 SeatSaid clock seat before after =
     has_subscriber seat ≡ true → (t : StoredSession) → seat.session ≡ Some t
-    → SubscriberSaid clock t.peer seat.subscriber before after
+    → SubscriberSaid clock (hears_recently clock seat) t.peer seat.subscriber before after
 
 -- a stored session's SHUTDOWN (section 3.2.7)
 abbrev pub shutdown_of : (clock : ℕ) → StoredSession → WrittenPacket

@@ -1,6 +1,6 @@
 -- Replies that are queued after those that already wait.
 use Rattle.std.specs.Prelude.{◌≡◌, ℕ, ◌+◌, ◌≤◌, ◌++◌, List, map, length}
-use Rattle.srt_seq.specs.Items.{Datagram}
+use Rattle.srt_types.specs.Items.{Datagram}
 use Rattle.srt_route.specs.declared.replies.Reply.{Reply}
 use Rattle.srt_route.specs.declared.reply_queue.ReplyQueue.{ReplyQueue}
 use Rattle.srt_route.specs.Written.{written}

@@ -1,9 +1,9 @@
 -- Which publisher is active, and the deliveries of the standby.
 use Rattle.std.specs.Prelude.{◌≡◌, ℕ, Bool, false, Option, None, Some, List, find, map, ◌==◌, ◌&&◌, if◌then◌else◌}
 use Rattle.std.specs.List.{list_any}
-use Rattle.srt_seq.specs.declared.shared.Role.{Role}
-use Rattle.srt_seq.specs.declared.shared.Role.TheVariants.{Publish, Request}
-use Rattle.srt_seq.specs.Terms.{Terms}
+use Rattle.srt_types.specs.declared.shared.Role.{Role}
+use Rattle.srt_types.specs.declared.shared.Role.TheVariants.{Publish, Request}
+use Rattle.srt_types.specs.Terms.{Terms}
 use Rattle.srt_pub.specs.Publishing as publisher
 use Rattle.srt_route.specs.declared.publisher_buffers.PublisherBuffers.{PublisherBuffers}
 use Rattle.srt_route.specs.declared.publisher_buffers.PublisherBuffers.TheVariants.{First, Second}
@@ -29,6 +29,12 @@ leading_after leading Request opened = leading
 abbrev pub is_active_by : Option PublisherBuffers → TheSession → Bool
 is_active_by None t = false
 is_active_by (Some which) t = publishes t.role && is_same t.buffers which
+
+-- the buffers of the active publisher: the leading ones if a publisher is open that uses them, otherwise the other ones
+abbrev pub active_in : Table → Option PublisherBuffers
+active_in t =
+    if list_any (publishes_from t.leading) t.seats.items then Some t.leading
+    else if list_any (publishes_from (other_buffers t.leading)) t.seats.items then Some (other_buffers t.leading) else None
 
 -- no open session publishes
 abbrev pub NonePublishes : List Session → Type 0

@@ -1,7 +1,7 @@
 use Rattle.std.proofs.Common.{◌≡◌, ℕ, true, ◌∷◌, [], ◌%◌, ◌∙◌, get_or, set, refl, ap, subst}
 use Rattle.srt_pub.specs.Stands.{width_of}
 use Rattle.srt_route.specs.inside.Standby.{unused_buffers}
-use Rattle.srt_seq.specs.Items.{Datagram}
+use Rattle.srt_types.specs.Items.{Datagram}
 use Rattle.srt_hs.specs.declared.writing.HsAnswer.{HsAnswer}
 use Rattle.srt_route.specs.Sessions.{Session, publishes, agreed, answer_of, generation_of, id_of, session_id}
 use Rattle.srt_route.specs.Route.{Answers, sent, session_opened}

@@ -10,9 +10,9 @@ use Rattle.srt_route.proofs.closing.close_seats.Goals as goal
 pub loop-at-init : goal.loop-at-init
 loop-at-init c = record {
   seats = none_done IsEnded c.args.table.now;
-  told = λ e index ss body.
+  notified = λ e index ss body.
       let all : e.sessions - 0 ≡ e.sessions = omega arith in
-      record { told = []; said = nothing_said (replies_of c.args.waiting.now) _; whole = ap (λ (n : ℕ). ended_from c.args.clock ss 0 n) all };
+      record { notified = []; said = nothing_said (replies_of c.args.waiting.now) _; whole = ap (λ (n : ℕ). ended_from c.args.clock ss 0 n) all };
 }
 
 pub loop-at-preserved : goal.loop-at-preserved
@@ -23,13 +23,13 @@ loop-at-preserved c =
     record {
       seats = one_done IsEnded c.loop-at.at c.args.table.now c.loop-at.table _ x c.close_seat.new.seat h.seats inside
           c.index_mut.ensures.value c.close_seat.ensures.seat (refl, refl, refl, refl, refl, refl) refl refl;
-      told = λ e index ss body.
+      notified = λ e index ss body.
           end_slot e index c.args.clock (buffers_of c.args.table.now.publishers.items x (some_buffers c.args.table.now)) ss c.loop-at.at x
           (replies_of c.args.waiting.now) (replies_of c.loop-at.waiting) (replies_of c.close_seat.new.waiting) _ _ _
           (omega (arith, inside, body.places_are))
           (seat_at e index c.args.clock c.args.table.now ss c.loop-at.at x (some_buffers c.args.table.now) body inside
           (next_is IsEnded c.loop-at.at c.args.table.now c.loop-at.table x h.seats inside c.index_mut.ensures.value))
-          c.close_seat.ensures.said (h.told e index ss body);
+          c.close_seat.ensures.said (h.notified e index ss body);
     }
 
 pub returns-clause-table : goal.returns-clause-table
@@ -41,4 +41,4 @@ returns-clause-table c e index ss body =
 pub returns-clause-said : goal.returns-clause-said
 returns-clause-said c e index ss body =
     all_ended e c.args.clock c.loop-at.at ss _ _ _ _ (omega (arith, c.loop-at-test.false, c.len-at-end.ensures, body.places_are))
-    (c.loop-at.invariant.told e index ss body)
+    (c.loop-at.invariant.notified e index ss body)

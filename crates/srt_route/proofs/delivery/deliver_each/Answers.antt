@@ -1,5 +1,5 @@
 use Rattle.std.proofs.Common.{◌≡◌, ℕ, suc, List, [], map, ◌+◌, ◌-◌, ◌∙◌, refl, sym, ap, subst, arith}
-use Rattle.srt_seq.specs.declared.shared.Mode.{Mode}
+use Rattle.srt_types.specs.declared.shared.Mode.{Mode}
 use Rattle.srt_pub.specs.Calls.{gives, leaves, room_after}
 use Rattle.srt_route.specs.Past.{payload_of}
 use Rattle.srt_route.specs.Sessions.{Session, terms_of, time_in}

@@ -1,12 +1,10 @@
-use Rattle.std.proofs.Common.{◌≡◌, Bool, cond, map, find, [], refl, subst, arith}
-use Rattle.srt_seq.specs.Given.{given}
+use Rattle.std.proofs.Common.{◌≡◌, Bool, cond, map, [], refl, subst, arith}
+use Rattle.srt_types.specs.Given.{given}
 use Rattle.srt_packet.specs.View.{packet_of}
-use Rattle.srt_route.specs.Sessions.{is_open_in}
 use Rattle.srt_route.specs.Route.{arrived, concludes, sent, without_destination}
 use Rattle.srt_route.specs.Tables.{IsTable, written_of}
-use Rattle.srt_route.specs.Ledgers.{entry_of}
 use Rattle.srt_route.proofs.steps.Taking.{no_conclusion}
-use Rattle.srt_route.proofs.steps.Tallied.{destined, destined_tally, has_destination, nothing_ends}
+use Rattle.srt_route.proofs.steps.Tallied.{destined, destined_tally, has_destination, undestined}
 use Rattle.srt_route.proofs.dispatch.to_destination.Goals as goal
 
 pub returns-then-packet-ne0-clause-table : goal.returns-then-packet-ne0-clause-table
@@ -48,7 +46,18 @@ returns-in_default c =
     record {
       table = λ e index ss is. rw (c.if-packet-ne0.false, none) is;
       answer = λ e index ss is. rw (c.if-packet-ne0.false, none) refl;
-      ends = λ e index ss is at. rw (c.if-packet-ne0.false) (nothing_ends index c.args.arrival.clock (find (is_open_in at) ss) (entry_of c.args.ledger.now at));
+      ends = undestined c.args.arrival.clock c.args.arrival.peer (packet_of c.args.packet.now) c.args.table.now c.args.ledger.now c.args.ledger.now
+          (omega (arith, c.if-packet-ne0.false)) (refl, refl);
       tally = λ e index ss is. rw (c.if-packet-ne0.false, none) refl;
       sums = ([], refl);
     }
+
+pub returns-in_default-conclusion_in-clause-ends : goal.returns-in_default-conclusion_in-clause-ends
+returns-in_default-conclusion_in-clause-ends c =
+    undestined c.args.arrival.clock c.args.arrival.peer (packet_of c.args.packet.now) c.args.table.now c.args.ledger.now c.args.ledger.now
+    (omega (arith, c.if-packet-ne0.false)) (refl, refl)
+
+pub returns-clause-ends : goal.returns-clause-ends
+returns-clause-ends c =
+    undestined c.args.arrival.clock c.args.arrival.peer (packet_of c.args.packet.now) c.args.table.now c.args.ledger.now c.conclude.new.ledger
+    (omega (arith, c.if-packet-ne0.false)) c.conclude.ensures.ended

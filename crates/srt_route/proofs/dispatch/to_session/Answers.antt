@@ -4,7 +4,7 @@ use Rattle.srt_pub.specs.Publishing.{Publishing, Terms}
 use Rattle.srt_pub.specs.Stands.{StandsFor}
 use Rattle.srt_pub.specs.declared.ends.PubEnd.{PubEnd}
 use Rattle.srt_route.specs.declared.seat.Seat.{Seat}
-use Rattle.srt_seq.specs.Given.{given}
+use Rattle.srt_types.specs.Given.{given}
 use Rattle.srt_route.specs.Sessions.{of_libsrt}
 use Rattle.srt_route.specs.Ledgers.{cause_of}
 use Rattle.srt_route.specs.inside.Files.{shutdown_end}
@@ -12,8 +12,8 @@ use Rattle.srt_route.specs.inside.OneSession.{end_unless, is_lost, shutdowns_if}
 use Rattle.srt_route.specs.Tables.{is_stored_for, session_passes, has_publisher, used_buffers, stored_after, with_stored, written_of}
 use Rattle.srt_route.proofs.stored.Stored.{for_none_beyond, for_none_stored, for_one, same_read}
 use Rattle.srt_route.proofs.steps.Taking.{none_arrived, publisher_arrived, subscriber_arrived, stored_role}
-use Rattle.srt_route.proofs.steps.Noting.{same_grow, sums_told}
-use Rattle.srt_route.proofs.steps.Told.{none_for, publisher_told, subscriber_told}
+use Rattle.srt_route.proofs.steps.Noting.{end_grows, same_grow}
+use Rattle.srt_route.proofs.steps.Notified.{none_for, publisher_notified, subscriber_notified}
 use Rattle.srt_route.proofs.dispatch.to_session.Goals as goal
 
 pub returns-then-at-len-clause-taken : goal.returns-then-at-len-clause-taken
@@ -64,17 +64,18 @@ returns-then-has_publisher-clause-taken c e index sessions h =
     ∙ ap (λ (o : Option PubEnd). is_some (end_unless drains o)) (c.hear_publisher-heard.ensures.end terms initial opening stamp caller m stands)) in
     let same_last : c.index-then-has_publisher-2.result.now ≡ seat = same_read seats at c.index-then-has_publisher-2.result.now seat
     (omega (arith, c.if-at-len.false, c.len.ensures)) c.index-then-has_publisher-2.ensures c.index_mut-then-has_publisher.ensures.value in
-    let told = c.tell_lost-told.ensures
+    let notified = c.tell_lost-notified.ensures
     ∙ ap (λ (x : Seat). shutdowns_if c.args.table.now.rules.callers (is_lost c.end_unless-end.result) c.args.arrival.clock x.session) same_last
     ∙ ap (λ (o : Option PubEnd). shutdowns_if c.args.table.now.rules.callers (is_lost o) c.args.arrival.clock seat.session) c.end_unless-end.ensures in
     publisher_arrived e index c.args.arrival.clock c.args.arrival.peer packet c.args.table.now _ c.note_end.new.table drains c.of_libsrt.result
     sessions at which
     c.index_mut.result.now
     c.hear_publisher-heard.new.publisher seat c.keep_or_end.new.self c.hear_publisher-heard.result
-    (written_of (given c.tell_lost-told.result c.tell_lost-told.new.reply)) here.0 here.1 h c.index_mut-then-has_publisher.ensures.value here.2 role uses
+    (written_of (given c.tell_lost-notified.result c.tell_lost-notified.new.reply)) here.0 here.1 h c.index_mut-then-has_publisher.ensures.value here.2 role
+    uses
     (subst (λ (n : ℕ). c.index_mut.result.now ≡ get_or c.args.table.now.publishers.items n c.index_mut.result.now) place
     c.index_mut.ensures.value)
-    (sym draining) c.hear_publisher-heard.ensures.publisher ends c.hear_publisher-heard.ensures.end told (refl, refl, refl, refl, refl, refl) refl
+    (sym draining) c.hear_publisher-heard.ensures.publisher ends c.hear_publisher-heard.ensures.end notified (refl, refl, refl, refl, refl, refl) refl
     (ap (λ (n : ℕ). set c.args.table.now.publishers.items n c.hear_publisher-heard.new.publisher) place)
     (c.of_libsrt.ensures
     ∙ ap (of_libsrt c.args.table.now.rules.callers)
@@ -135,12 +136,15 @@ returns-then-has_publisher-clause-ends c e index sessions h =
     (omega (arith, c.if-at-len.false, c.len.ensures)) c.index-then-has_publisher.ensures c.index_mut-then-has_publisher.ensures.value in
     let uses : which ≡ used_buffers seat = c.used_buffers-which.ensures ∙ ap used_buffers same_again in
     let draining = c.drains_after-drains.ensures e index sessions here.1 h here.2.found_is (rw (here.2.is_open, role) refl) in
-    publisher_told e index c.args.arrival.clock c.args.arrival.peer packet c.args.table.now sessions at which c.index_mut.result.now seat
-    here.0 here.1 c.hear_publisher-heard.result c.drains_after-drains.result c.cause_of.result c.args.ledger.now c.note.new.self h
+    publisher_notified e index c.args.arrival.clock c.args.arrival.peer packet c.args.table.now sessions at which c.index_mut.result.now
+    c.hear_publisher-heard.new.publisher seat
+    here.0 here.1 c.hear_publisher-heard.result c.drains_after-drains.result c.cause_of.result _ c.args.ledger.now c.note.new.self h
     c.index_mut-then-has_publisher.ensures.value
     here.2 role uses
     (subst (λ (n : ℕ). c.index_mut.result.now ≡ get_or c.args.table.now.publishers.items n c.index_mut.result.now) c.place.ensures.value
     c.index_mut.ensures.value)
+    (ap (λ (n : ℕ). set c.args.table.now.publishers.items n c.hear_publisher-heard.new.publisher) c.place.ensures.value)
+    c.hear_publisher-heard.ensures.publisher
     c.hear_publisher-heard.ensures.end (c.cause_of.ensures ∙ ap (λ (o : Option PubEnd). cause_of o) c.end_unless-end.ensures) draining c.note.ensures
 
 pub returns-clause-ends : goal.returns-clause-ends
@@ -159,7 +163,7 @@ returns-clause-ends c e index sessions h =
     ∙ (sym c.is_for.ensures ∙ c.if-not-is_for.false)) in
     let role = stored_role e index sessions c.args.arrival.peer packet.dest at seat here.0 here.1 false here.2
     (ap has_publisher (sym same_too) ∙ (sym c.has_publisher.ensures ∙ c.if-has_publisher.false)) in
-    subscriber_told e index c.args.arrival.clock c.args.arrival.peer packet c.args.table.now sessions at seat here.0 here.1
+    subscriber_notified e index c.args.arrival.clock c.args.arrival.peer packet c.args.table.now sessions at seat here.0 here.1
     c.shutdown_cause.result c.args.ledger.now c.note-2.new.self h c.index_mut-2.ensures.value here.2 role c.shutdown_cause.ensures
     c.note-2.ensures
 
@@ -172,9 +176,9 @@ returns-then-not-is_for-clause-sums c = same_grow c.args.ledger.now.totals c.arg
 pub returns-then-has_publisher-clause-sums : goal.returns-then-has_publisher-clause-sums
 returns-then-has_publisher-clause-sums c =
     let seat = c.index-2.result.now in
-    sums_told c.cause_of.result _ _ c.args.ledger.now.totals c.note.new.self.totals (c.note.ensures seat).sums
+    end_grows _ _ c.args.ledger.now.totals c.note.new.self.totals (c.note.ensures seat).sums
 
 pub returns-clause-sums : goal.returns-clause-sums
 returns-clause-sums c =
     let seat = c.index-2.result.now in
-    sums_told c.shutdown_cause.result _ _ c.args.ledger.now.totals c.note-2.new.self.totals (c.note-2.ensures seat).sums
+    end_grows _ _ c.args.ledger.now.totals c.note-2.new.self.totals (c.note-2.ensures seat).sums

@@ -1,6 +1,6 @@
 use Rattle.std.proofs.Common.{◌∙◌, ◌+◌, ◌&&◌, sym, ap}
-use Rattle.srt_seq.specs.declared.shared.Callers.{Callers}
-use Rattle.srt_seq.specs.declared.shared.Rules.{Rules}
+use Rattle.srt_types.specs.declared.shared.Callers.{Callers}
+use Rattle.srt_types.specs.declared.shared.Rules.{Rules}
 use Rattle.srt_packet.specs.View.{body_of}
 use Rattle.srt_route.specs.Past.{has_left, is_shutdown}
 use Rattle.srt_route.specs.Route.{drain_if}

@@ -2,7 +2,7 @@ use Rattle.std.proofs.Common.{◌≡◌, ◌∙◌, ◌+◌, ◌*◌, sym, ap, a
 use Rattle.srt_packet.specs.View.{body_of}
 use Rattle.srt_packet.specs.declared.reading.Kind.{Kind}
 use Rattle.srt_hs.specs.declared.writing.HsAnswer.{HsAnswer}
-use Rattle.srt_seq.specs.declared.shared.Role.TheVariants.{Publish}
+use Rattle.srt_types.specs.declared.shared.Role.TheVariants.{Publish}
 use Rattle.srt_route.specs.Past.{has_left, is_shutdown}
 use Rattle.srt_route.specs.Sessions.{is_active, receiver_ms, terms_of}
 use Rattle.srt_route.specs.Viewing.{latency_in}

@@ -1,7 +1,9 @@
-use Rattle.std.proofs.Common.{◌≡◌, ◌<◌, Option, length, refl, sym, subst, arith}
+use Rattle.std.proofs.Common.{◌≡◌, ◌<◌, Option, length, get_or, refl, sym, subst, arith}
 use Rattle.srt_route.specs.declared.ledger.EndCause.{EndCause}
 use Rattle.srt_route.specs.declared.seat.Seat.{Seat}
-use Rattle.srt_route.specs.Ledgers.{Notes}
+use Rattle.srt_route.specs.Ledgers.{drained_cause}
+use Rattle.srt_route.specs.declared.publisher_buffers.PublisherBuffers.{PublisherBuffers}
+use Rattle.srt_route.specs.inside.Notes.{NotesAt}
 use Rattle.srt_route.specs.inside.Drains.{TellsOf, drained_in}
 use Rattle.srt_route.proofs.stored.Kept.{next_is, one_done}
 use Rattle.srt_route.proofs.steps.Draining.{Settles, all_ends, all_settled, one_ended}
@@ -23,12 +25,25 @@ loop-at-preserved c =
           now.seats inside there
           (record { ends = c.is_drained-ends.result; ends_is = tells; seat_is = c.settle.ensures })
           (refl, refl, refl, refl, refl, refl) refl refl;
-      ends = one_ended c.args.clock c.loop-at.at old c.loop-at.table c.args.ledger.now c.loop-at.ledger c.note.new.self x c.is_drained-ends.result
+      ends = one_ended c.args.clock c.loop-at.at old c.loop-at.table c.args.ledger.now c.loop-at.ledger c.note_by.new.self x c.is_drained-ends.result
           now.ends inside
           (next_is (Settles old.publishers.items old.mode c.args.delivered c.args.clock) c.loop-at.at old c.loop-at.table x now.seats inside there)
           there tells
-          (subst (λ (cause : Option EndCause). Notes c.loop-at.at cause c.args.clock c.loop-at.table c.loop-at.ledger c.note.new.self)
-          c.drained_cause.ensures c.note.ensures);
+          (λ d. subst
+          (λ (o : Option PublisherBuffers).
+          NotesAt o old.publishers.items c.loop-at.at (drained_cause c.is_drained-ends.result) c.args.clock (get_or c.loop-at.table.seats.items c.loop-at.at d)
+          c.loop-at.ledger c.note_by.new.self)
+          c.active_buffers-active.ensures.value
+          (subst
+          (λ (v : _).
+          NotesAt c.active_buffers-active.result v.items c.loop-at.at (drained_cause c.is_drained-ends.result) c.args.clock
+          (get_or c.loop-at.table.seats.items c.loop-at.at d) c.loop-at.ledger c.note_by.new.self)
+          now.seats.publishers_are
+          (subst
+          (λ (cause : Option EndCause).
+          NotesAt c.active_buffers-active.result c.loop-at.table.publishers.items c.loop-at.at cause c.args.clock
+          (get_or c.loop-at.table.seats.items c.loop-at.at d) c.loop-at.ledger c.note_by.new.self)
+          c.drained_cause.ensures (c.note_by.ensures d))));
     }
 
 pub returns-clause-table : goal.returns-clause-table

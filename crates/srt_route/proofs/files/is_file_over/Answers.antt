@@ -1,6 +1,6 @@
 use Rattle.std.proofs.Common.{◌≡◌, ◌∙◌, ◌==◌, ◌&&◌, ℕ, Bool, true, sym, ap}
 use Rattle.std.specs.Prelude.{count_by}
-use Rattle.srt_seq.specs.declared.shared.Rules.{Rules}
+use Rattle.srt_types.specs.declared.shared.Rules.{Rules}
 use Rattle.srt_route.specs.Route.{sends_files}
 use Rattle.srt_route.specs.Sessions.{open_publishers}
 use Rattle.srt_route.specs.Tables.{has_publisher}

@@ -1,11 +1,11 @@
 use Rattle.std.proofs.Common.{◌<◌, length, refl, ap, arith}
-use Rattle.srt_seq.specs.declared.shared.Rules.{Rules}
+use Rattle.srt_types.specs.declared.shared.Rules.{Rules}
 use Rattle.srt_route.specs.Sessions.{aged}
 use Rattle.srt_route.specs.Tables.{buffers_of}
 use Rattle.srt_route.specs.Waits.{replies_of}
 use Rattle.srt_route.proofs.steps.Aging.{IsAged, ages, ages_marks, aged_becomes}
 use Rattle.srt_route.proofs.steps.Slots.{saying_begins, saying_ends}
-use Rattle.srt_route.proofs.steps.Telling.{idle_slot, told_one}
+use Rattle.srt_route.proofs.steps.Telling.{idle_slot, notified_one}
 use Rattle.srt_route.proofs.stored.Kept.{some_buffers, none_done, next_is, seat_at, one_done, all_done}
 use Rattle.srt_route.proofs.idle.end_idle.Goals as goal
 
@@ -13,7 +13,7 @@ pub loop-at-init : goal.loop-at-init
 loop-at-init c = record {
   places_are = omega (arith, c.len-places.ensures);
   aged = none_done (IsAged c.args.clock) c.args.table.now;
-  told = λ e index earlier ss body. saying_begins (told_one e c.args.clock) e ss (replies_of c.args.waiting.now) _;
+  notified = λ e index earlier ss body. saying_begins (notified_one e c.args.clock) e ss (replies_of c.args.waiting.now) _;
 }
 
 pub loop-at-preserved : goal.loop-at-preserved
@@ -31,14 +31,14 @@ loop-at-preserved c =
             buffers_are = (c.pass_time.ensures.expires, c.pass_time.ensures.stays);
           })
           (refl, refl, refl, refl, refl, refl) refl refl;
-      told = λ e index earlier ss body.
+      notified = λ e index earlier ss body.
           idle_slot e index earlier c.args.clock (buffers_of c.args.table.now.publishers.items x (some_buffers c.args.table.now)) ss c.loop-at.at x
           c.args.table.now.rules.callers (replies_of c.args.waiting.now) (replies_of c.loop-at.waiting) (replies_of c.pass_time.new.waiting) _ _ _
           (omega (arith, inside, body.places_are))
           (seat_at e index earlier c.args.table.now ss c.loop-at.at x (some_buffers c.args.table.now) body inside
           (next_is (IsAged c.args.clock) c.loop-at.at c.args.table.now c.loop-at.table x now.aged inside c.index_mut.ensures.value))
           (ap (λ (r : Rules). r.callers) body.rules_are)
-          c.pass_time.ensures.said (now.told e index earlier ss body);
+          c.pass_time.ensures.said (now.notified e index earlier ss body);
     }
 
 pub returns-clause-table : goal.returns-clause-table
@@ -52,5 +52,5 @@ returns-clause-table c e index before sessions h later early =
 pub returns-clause-said : goal.returns-clause-said
 returns-clause-said c e index earlier sessions h =
     let now = c.loop-at.invariant in
-    saying_ends (told_one e c.args.clock) e c.loop-at.at sessions _ _ _ _ (omega (arith, now.places_are, c.loop-at-test.false, h.places_are))
-    (now.told e index earlier sessions h)
+    saying_ends (notified_one e c.args.clock) e c.loop-at.at sessions _ _ _ _ (omega (arith, now.places_are, c.loop-at-test.false, h.places_are))
+    (now.notified e index earlier sessions h)

@@ -1,7 +1,7 @@
 use Rattle.std.proofs.Common.{◌≡◌, ◌∙◌, ◌==◌, ℕ, Bool, true, false, not, Option, Some, count_by, sym, ap, arith}
 use Rattle.std.proofs.lemmas.Bool.{eq-eqb, ne_eqb}
-use Rattle.srt_seq.specs.declared.shared.Mode.{Mode}
-use Rattle.srt_seq.specs.declared.shared.Rules.{Rules}
+use Rattle.srt_types.specs.declared.shared.Mode.{Mode}
+use Rattle.srt_types.specs.declared.shared.Rules.{Rules}
 use Rattle.srt_route.specs.Sessions.{number_draining, takeover_us, takes_over_after, takes_over_if}
 use Rattle.srt_route.specs.Tables.{has_draining}
 use Rattle.srt_route.proofs.stored.Stored.{draining_among}

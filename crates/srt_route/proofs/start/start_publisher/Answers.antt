@@ -1,5 +1,5 @@
 use Rattle.std.proofs.Common.{ℕ, ◌*◌, subst, arith}
-use Rattle.srt_seq.specs.Window.{word_of}
+use Rattle.srt_types.specs.Window.{word_of}
 use Rattle.srt_pub.specs.Stands.{StandsFor, width_of}
 use Rattle.srt_pub.specs.Publishing.{Terms, opened}
 use Rattle.srt_route.specs.Sessions.{agreed_terms}

@@ -1,6 +1,6 @@
 use Rattle.std.proofs.Common.{map}
 use Rattle.srt_route.specs.Waits.{replies_of}
-use Rattle.srt_seq.specs.Given.{given}
+use Rattle.srt_types.specs.Given.{given}
 use Rattle.srt_pub.specs.Calls.{listed}
 use Rattle.srt_pub.specs.Publishing as publishing
 use Rattle.srt_pub.specs.Says as publisher_text

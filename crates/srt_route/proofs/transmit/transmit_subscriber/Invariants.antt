@@ -10,5 +10,5 @@ abbrev pub invariant-loop-turn : goal.invariant-loop-turn
 invariant-loop-turn l =
     (terms : subscribing.Terms) (initial opening caller : ℕ) (m : subscribing.Subscribing)
     → subscribers.StandsFor terms initial opening caller l.clock l.fn.subscriber m → subscribing.expired terms (l.clock - opening) m ≡ m
-    → IsTelling terms initial opening caller l.clock l.peer l.subscriber m (replies_of l.fn.waiting) (replies_of l.waiting)
+    → IsTelling terms initial opening caller l.clock l.recent l.peer l.subscriber m (replies_of l.fn.waiting) (replies_of l.waiting)
     (places_of l.fn.waiting) (places_of l.waiting) l.turn

@@ -2,16 +2,18 @@ use Rattle.std.proofs.Common.{◌≡◌, ◌<◌, ◌∙◌, Bool, Option, [], l
 use Rattle.srt_route.specs.declared.ledger.EndCause.{EndCause}
 use Rattle.srt_route.specs.declared.seat.Seat.{Seat}
 use Rattle.srt_route.specs.Route.{sent, served}
-use Rattle.srt_route.specs.Ends.{EndsAre, file_end}
-use Rattle.srt_route.specs.Ledgers.{NotesAt, entry_of, file_cause}
+use Rattle.srt_route.specs.Ends.{EndsAre, file_ending, kept_of}
+use Rattle.srt_route.specs.Ledgers.{entry_of, file_cause}
+use Rattle.srt_route.specs.inside.Notes.{NotesAt}
+use Rattle.srt_route.specs.inside.Standby.{active_in}
 use Rattle.srt_route.specs.Tables.{IsTable, buffers_of}
 use Rattle.srt_route.proofs.stored.Stored.{same_read}
 use Rattle.srt_route.specs.Waits.{replies_of, places_of}
 use Rattle.srt_route.specs.inside.Files.{HasWhole, finished_subscriber}
 use Rattle.srt_route.specs.inside.Reports.{Queues}
 use Rattle.srt_route.proofs.stored.Kept.{some_buffers, none_done, next_is, seat_at, one_done, all_done}
-use Rattle.srt_route.proofs.steps.Noting.{grow_both, sums_told}
-use Rattle.srt_route.proofs.steps.Serving.{Serves, all_ends, finishes_subscribers, finishes_subscribers_marks, no_ends, none_beyond, one_ends, serve_slot}
+use Rattle.srt_route.proofs.steps.Noting.{end_grows, grow_both}
+use Rattle.srt_route.proofs.steps.Serving.{Serves, all_ends, finishes_subscribers, finishes_subscribers_marks, no_ends, one_ends, serve_slot}
 use Rattle.srt_route.proofs.steps.Serving.{served_becomes, serving, stays_served}
 use Rattle.srt_route.proofs.steps.Slots.{saying_begins, saying_ends}
 use Rattle.srt_route.proofs.transmit.transmit_subscribers.Goals as goal
@@ -19,8 +21,8 @@ use Rattle.srt_route.proofs.transmit.transmit_subscribers.Goals as goal
 pub loop-at-init : goal.loop-at-init
 loop-at-init c = record {
   seats = none_done (Serves c.args.clock c.is_file_over-over.result) c.args.table.now;
-  told = λ e index ss body. saying_begins (serving e c.args.clock c.is_file_over-over.result) e ss (replies_of c.args.waiting.now) _;
-  ends = λ e index ss body. no_ends index c.is_file_over-over.result c.args.clock ss (entry_of c.args.ledger.now);
+  notified = λ e index ss body. saying_begins (serving e c.args.clock c.is_file_over-over.result) e ss (replies_of c.args.waiting.now) _;
+  ends = λ e index ss body. no_ends e index c.is_file_over-over.result c.args.clock ss c.args.ledger.now;
   counts = (refl, refl);
   sums = ([], refl);
 }
@@ -40,10 +42,15 @@ loop-at-preserved c =
     let same : c.index.result.now ≡ x = same_read c.loop-at.table.seats.items at c.index.result.now x
     (omega (arith, inside, h.seats.seats.same_length)) c.index.ensures c.index_mut.ensures.value in
     let has : HasWhole over x whole = subst (λ (z : Seat). HasWhole over z whole) same c.has_whole_file-whole.ensures in
-    let noted : NotesAt at (file_cause whole) clock x.session c.loop-at.ledger c.note.new.self =
-    subst (λ (z : Seat). NotesAt at (file_cause whole) clock z.session c.loop-at.ledger c.note.new.self) (sym c.index_mut.ensures.value)
-    (subst (λ (o : Option EndCause). NotesAt at o clock (get_or c.loop-at.table.seats.items at x).session c.loop-at.ledger c.note.new.self)
-    c.file_cause.ensures (c.note.ensures x)) in
+    let active = active_in c.loop-at.table in
+    let noted : NotesAt active old.publishers.items at (file_cause whole) clock x c.loop-at.ledger c.note.new.self =
+    subst (λ (v : _). NotesAt active v.items at (file_cause whole) clock x c.loop-at.ledger c.note.new.self) h.seats.publishers_are
+    (subst (λ (z : Seat). NotesAt active c.loop-at.table.publishers.items at (file_cause whole) clock z c.loop-at.ledger c.note.new.self)
+    (sym c.index_mut.ensures.value)
+    (subst
+    (λ (o : Option EndCause).
+    NotesAt active c.loop-at.table.publishers.items at o clock (get_or c.loop-at.table.seats.items at x) c.loop-at.ledger c.note.new.self)
+    c.file_cause.ensures (c.note.ensures x))) in
     record {
       seats = one_done R at old c.loop-at.table _ x c.serve_seat.new.seat h.seats inside c.index_mut.ensures.value
           (record {
@@ -53,17 +60,17 @@ loop-at-preserved c =
             stays = λ is. stays_served clock x c.serve_seat.new.seat _ _ (c.serve_seat.ensures.served is);
           })
           (refl, refl, refl, refl, refl, refl) refl refl;
-      told = λ e index ss body.
+      notified = λ e index ss body.
           serve_slot e index clock over (buffers_of old.publishers.items x (some_buffers old)) ss at x c.serve_seat.new.seat whole
           (replies_of c.args.waiting.now) (places_of c.args.waiting.now) c.loop-at.waiting c.serve_seat.new.waiting
           (omega (arith, inside, body.places_are)) (seat_at e index clock old ss at x (some_buffers old) body inside there) has
-          c.serve_seat.ensures.ends c.serve_seat.ensures.served (h.told e index ss body);
+          c.serve_seat.ensures.ends c.serve_seat.ensures.served (h.notified e index ss body);
       ends = λ e index ss body.
-          one_ends e index clock over whole (buffers_of old.publishers.items x (some_buffers old)) ss at x c.args.ledger.now c.loop-at.ledger
+          one_ends e index clock over whole active old.publishers.items (some_buffers old) ss at x c.args.ledger.now c.loop-at.ledger
           c.note.new.self (seat_at e index clock old ss at x (some_buffers old) body inside there) has noted (h.ends e index ss body);
       counts = (noted.counts.0 ∙ h.counts.0, noted.counts.1 ∙ h.counts.1);
       sums = grow_both c.args.ledger.now.totals c.loop-at.ledger.totals c.note.new.self.totals h.sums
-          (sums_told (file_cause whole) x.session (entry_of c.note.new.self at) c.loop-at.ledger.totals c.note.new.self.totals noted.sums);
+          (end_grows _ (entry_of c.note.new.self at) c.loop-at.ledger.totals c.note.new.self.totals noted.sums);
     }
 
 pub returns-clause-table : goal.returns-clause-table
@@ -84,16 +91,15 @@ returns-clause-said c e index ss body =
     (c.is_file_over-over.ensures e index c.args.clock ss body)
     (saying_ends (serving e c.args.clock over) e c.loop-at.at ss _ _ _ _
     (omega (arith, c.loop-at-test.false, c.len-at-end.ensures, body.places_are))
-    (c.loop-at.invariant.told e index ss body))
+    (c.loop-at.invariant.notified e index ss body))
 
 pub returns-clause-ends : goal.returns-clause-ends
 returns-clause-ends c e index ss body =
     let over = c.is_file_over-over.result in
-    subst (λ (b : Bool). EndsAre index (file_end b) c.args.clock ss (entry_of c.args.ledger.now) (entry_of c.loop-at.ledger))
+    subst (λ (b : Bool). EndsAre e index (file_ending b) c.args.clock ss (kept_of c.args.ledger.now) (kept_of c.loop-at.ledger))
     (c.is_file_over-over.ensures e index c.args.clock ss body)
     (all_ends e index c.args.clock over c.args.table.now ss c.loop-at.at c.args.ledger.now c.loop-at.ledger body
-    (omega (arith, c.loop-at-test.false, c.len-at-end.ensures)) (none_beyond e index c.args.clock c.args.table.now ss body)
-    (c.loop-at.invariant.ends e index ss body))
+    (omega (arith, c.loop-at-test.false, c.len-at-end.ensures, c.loop-at.invariant.seats.seats.same_length)) (c.loop-at.invariant.ends e index ss body))
 
 pub returns-clause-counts : goal.returns-clause-counts
 returns-clause-counts c = c.loop-at.invariant.counts

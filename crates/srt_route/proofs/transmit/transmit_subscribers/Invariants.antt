@@ -1,8 +1,8 @@
 use Rattle.std.proofs.Common.{ℕ, List}
-use Rattle.srt_seq.specs.Terms.{Terms}
+use Rattle.srt_types.specs.Terms.{Terms}
 use Rattle.srt_route.specs.Sessions.{Session}
 use Rattle.srt_route.specs.Tables.{IsTable}
-use Rattle.srt_route.specs.Ledgers.{CountsStay, entry_of}
+use Rattle.srt_route.specs.Ledgers.{CountsStay}
 use Rattle.srt_route.specs.Totals.{SumsGrow}
 use Rattle.srt_route.specs.Waits.{replies_of, places_of}
 use Rattle.srt_route.proofs.stored.Kept.{UpTo}
@@ -14,10 +14,10 @@ use Rattle.srt_route.proofs.transmit.transmit_subscribers.Given as goal
 abbrev pub invariant-loop-at : goal.invariant-loop-at
 invariant-loop-at l = record {
   seats : UpTo (Serves l.clock l.over) l.at l.fn.table l.table;
-  told : (e : Terms) (index : ℕ) (sessions : List Session) → IsTable e index l.clock l.fn.table sessions
+  notified : (e : Terms) (index : ℕ) (sessions : List Session) → IsTable e index l.clock l.fn.table sessions
       → IsSaying (serving e l.clock l.over) e l.at sessions (replies_of l.fn.waiting) (replies_of l.waiting) (places_of l.fn.waiting) (places_of l.waiting);
   ends : (e : Terms) (index : ℕ) (sessions : List Session) → IsTable e index l.clock l.fn.table sessions
-      → EndsUpTo index l.over l.clock l.at sessions (entry_of l.fn.ledger) (entry_of l.ledger);
+      → EndsUpTo e index l.over l.clock l.at sessions l.fn.ledger l.ledger;
   counts : CountsStay l.fn.ledger l.ledger;
   sums : SumsGrow l.fn.ledger.totals l.ledger.totals;
 }

@@ -1,6 +1,7 @@
 use Rattle.std.proofs.Common.{Option, subst, arith}
 use Rattle.srt_route.specs.declared.ledger.EndCause.{EndCause}
-use Rattle.srt_route.specs.Ledgers.{Notes, idle_cause}
+use Rattle.srt_route.specs.Ledgers.{idle_cause}
+use Rattle.srt_route.specs.inside.Notes.{Notes}
 use Rattle.srt_route.proofs.steps.Noting.{none_noted, one_noted, all_noted}
 use Rattle.srt_route.proofs.ledger.Ledger.note_idle.Goals as goal
 

@@ -14,7 +14,7 @@ loop-at-preserved c e index clock sessions is =
       before = c.loop-at.totals;
       shown = c.look.result;
       before_is = c.loop-at.invariant e index clock sessions is;
-      shows = c.look.ensures.shows e index clock sessions is;
+      shows = c.look.ensures e index clock sessions is;
       all_is = c.with_shown-totals.ensures;
     })
 

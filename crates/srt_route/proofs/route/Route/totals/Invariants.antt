@@ -1,5 +1,5 @@
 use Rattle.std.proofs.Common.{ℕ, List}
-use Rattle.srt_seq.specs.Terms.{Terms}
+use Rattle.srt_types.specs.Terms.{Terms}
 use Rattle.srt_route.specs.Sessions.{Session}
 use Rattle.srt_route.specs.Tables.{IsTable}
 use Rattle.srt_route.specs.Totals.{AddUp}

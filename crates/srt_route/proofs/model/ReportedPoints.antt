@@ -4,22 +4,23 @@ use Rattle.std.proofs.Common.{Some, List, [], ◌∷◌, ◌++◌, map, take, le
 use Rattle.std.specs.Prelude.{filter_map, is_some}
 use Rattle.std.specs.List.{cons_option}
 use Rattle.std.proofs.lemmas.Bool.{cases_lt}
-use Rattle.srt_seq.specs.declared.shared.Mode.{Mode}
-use Rattle.srt_seq.specs.declared.shared.Mode.TheVariants.{Buffer}
-use Rattle.srt_seq.specs.Runs.{Run, numbers_from}
-use Rattle.srt_seq.specs.Window.{in_window}
+use Rattle.srt_types.specs.declared.shared.Mode.{Mode}
+use Rattle.srt_types.specs.declared.shared.Mode.TheVariants.{Buffer}
+use Rattle.srt_types.specs.Runs.{Run, numbers_from}
+use Rattle.srt_types.specs.Window.{in_window}
 use Rattle.srt_recvbuf.specs.Receiving.{Arrival, Request, Receiving, ack_point, arrival_of, is_missing, is_received, is_requested, moved_to, most}
 use Rattle.srt_recvbuf.specs.Receiving.{next_after, passed, unbroken, with_number}
 use Rattle.srt_recvbuf.proofs.OneByOne.{found_number, number_or}
 use Rattle.srt_recvbuf.proofs.Points.{ack_points}
 use Rattle.srt_pub.specs.Heard.{Heard, Data, AckAck, DropRequest, Other}
 use Rattle.srt_pub.specs.Publishing.{Terms, Full, Note, Sent, Report, LightAck, Publishing, opened, ack_of, acks_at, confirmed_at, confirmed_by}
+use Rattle.srt_pub.specs.Publishing.{correction_of}
 use Rattle.srt_pub.specs.Publishing.{delivered, deliveries, due_in, full_ack, keep_alive_if, keep_alives, acks, has_undelivered, nak_with, naks}
-use Rattle.srt_pub.specs.Publishing.{noted, reported, reports, runs_said, gaps_told, is_nak_due, is_full_due, is_light_due, took, with_data}
+use Rattle.srt_pub.specs.Publishing.{noted, reported, reports, runs_said, gaps_reported, is_nak_due, is_full_due, is_light_due, took, with_data}
 use Rattle.srt_pub.specs.Publishing.{with_request}
 use Rattle.srt_pub.specs.Stands.{Each}
 use Rattle.srt_pub.proofs.Goings.{settled_already}
-use Rattle.srt_route.specs.Acknowledged.{AreAtMost, FrontsStay, IsDelivered, IsInOrder, number_in, points_in, points_told}
+use Rattle.srt_route.specs.Acknowledged.{AreAtMost, FrontsStay, IsDelivered, IsInOrder, number_in, points_in, points_reported}
 
 at_most_on : (points : List ℕ) (a b : ℕ) → a ≤ b → AreAtMost points a → AreAtMost points b
 at_most_on [] a b le h = tt
@@ -47,11 +48,11 @@ point_on width r s on kept =
 -- the invariant of a publisher's past in buffer mode
 pub record IsKept (width : ℕ) (p : Publishing) : Type 0 where
   pub none : p.receiving.requests ≡ []
-  pub told : AreAtMost (points_told p.notes) (ack_point width p.receiving)
+  pub notified : AreAtMost (points_reported p.notes) (ack_point width p.receiving)
   pub below : (n : ℕ) → n < p.receiving.front → is_received p.receiving n ≡ true
 
 pub kept_first : (width : ℕ) → IsKept width opened
-kept_first width = record { none = refl; told = tt; below = λ n lt. absurd (omega (arith, lt)) }
+kept_first width = record { none = refl; notified = tt; below = λ n lt. absurd (omega (arith, lt)) }
 
 -- more was received
 record IsMore (width : ℕ) (r s : Receiving) : Type 0 where
@@ -95,13 +96,13 @@ more_with width None payload due r = more_none width r
 more_with width (Some n) payload due r = more_by width (record { number = n; payload = payload; due = due }) r (is_received r n)
 
 kept_more : (width : ℕ) (p q : Publishing)
-    → IsMore width p.receiving q.receiving → points_told q.notes ≡ points_told p.notes → IsKept width p → IsKept width q
+    → IsMore width p.receiving q.receiving → points_reported q.notes ≡ points_reported p.notes → IsKept width p → IsKept width q
 kept_more width p q m same h =
     record {
       none = m.requests_are ∙ h.none;
-      told =
+      notified =
           let P : List ℕ → Type 0 = λ points. AreAtMost points (ack_point width q.receiving) in
-          subst P (sym same) (at_most_on (points_told p.notes) _ _ m.point h.told);
+          subst P (sym same) (at_most_on (points_reported p.notes) _ _ m.point h.notified);
       below = λ n lt. m.still n (h.below n (omega (arith, lt, m.front_is)));
     }
 
@@ -109,11 +110,12 @@ kept_more width p q m same h =
 data_more : (terms : Terms) (time stamp number : ℕ) (payload : List ℕ) (p : Publishing)
     → IsMore terms.width p.receiving (with_data terms time stamp number payload p).receiving
 data_more terms time stamp number payload p =
-    more_with terms.width (in_window number p.receiving.front terms.width) payload (due_in terms.mode terms time stamp) p.receiving
+    more_with terms.width (in_window number p.receiving.front terms.width) payload (due_in terms.mode terms (correction_of terms p.notes) time stamp)
+    p.receiving
 
-kept_confirmed : (width time : ℕ) (o : Option Full) (p : Publishing) → IsKept width p → IsKept width (confirmed_at time o p)
-kept_confirmed width time None p h = h
-kept_confirmed width time (Some full) p h = record { none = h.none; told = h.told; below = h.below }
+kept_confirmed : (width time stamp : ℕ) (o : Option Full) (p : Publishing) → IsKept width p → IsKept width (confirmed_at time stamp o p)
+kept_confirmed width time stamp None p h = h
+kept_confirmed width time stamp (Some full) p h = record { none = h.none; notified = h.notified; below = h.below }
 
 pub kept_took : (terms : Terms) (time stamp : ℕ) (heard : Heard) (p : Publishing)
     → terms.mode ≡ Buffer → IsKept terms.width p → IsKept terms.width (took terms time stamp heard p)
@@ -122,13 +124,13 @@ kept_took terms time stamp (Data number encryption payload) p b h = by (encrypti
     by : (c : Bool) → IsKept terms.width (cond c (with_data terms time stamp number payload p) p)
     by true = kept_more terms.width p (with_data terms time stamp number payload p) (data_more terms time stamp number payload p) refl h
     by false = h
-kept_took terms time stamp (AckAck number) p b h = kept_confirmed terms.width time (confirmed_by number p.notes) p h
+kept_took terms time stamp (AckAck number) p b h = kept_confirmed terms.width time stamp (confirmed_by number p.notes) p h
 kept_took terms time stamp (DropRequest range) p b h = subst (λ (m : Mode). IsKept terms.width (with_request m terms range p)) (sym b) h
 kept_took terms time stamp Other p b h = h
 
-confirmed_stays : (time : ℕ) (o : Option Full) (p : Publishing) → (confirmed_at time o p).receiving.front ≡ p.receiving.front
-confirmed_stays time None p = refl
-confirmed_stays time (Some full) p = refl
+confirmed_stays : (time stamp : ℕ) (o : Option Full) (p : Publishing) → (confirmed_at time stamp o p).receiving.front ≡ p.receiving.front
+confirmed_stays time stamp None p = refl
+confirmed_stays time stamp (Some full) p = refl
 
 pub fronts_stay : FrontsStay
 fronts_stay terms time stamp (Data number encryption payload) p b = by (encryption == 0)
@@ -136,7 +138,7 @@ fronts_stay terms time stamp (Data number encryption payload) p b = by (encrypti
     by : (c : Bool) → (cond c (with_data terms time stamp number payload p) p).receiving.front ≡ p.receiving.front
     by true = (data_more terms time stamp number payload p).front_is
     by false = refl
-fronts_stay terms time stamp (AckAck number) p b = confirmed_stays time (confirmed_by number p.notes) p
+fronts_stay terms time stamp (AckAck number) p b = confirmed_stays time stamp (confirmed_by number p.notes) p
 fronts_stay terms time stamp (DropRequest range) p b = ap (λ (m : Mode). (with_request m terms range p).receiving.front) b
 fronts_stay terms time stamp Other p b = refl
 
@@ -228,7 +230,8 @@ passed_run width given p h run =
       order = record { numbers_are = run.numbers_are; front_is = next };
       kept = record {
         none = h.none;
-        told = at_most_on (points_told p.notes) (ack_point width r) (ack_point width s) (point_on width r s (omega (arith, next)) (λ n e. e)) h.told;
+        notified = at_most_on (points_reported p.notes) (ack_point width r) (ack_point width s) (point_on width r s (omega (arith, next)) (λ n e. e))
+            h.notified;
         below = λ n lt. elim (cases_lt n r.front) [
           | inl less ↦ h.below n less
           | inr ge ↦ received_at width r n h.none ge (omega (arith, lt, next, run.few, ge))
@@ -282,7 +285,7 @@ says_naks : (n : ℕ) (terms : Terms) (time : ℕ) (p : Publishing) → Each (Sa
 unfolding naks
 says_naks n terms time p =
     let all = is_nak_due terms.callers time p.notes in
-    says_nak n all (runs_said (gaps_told all terms.width p.seen p.receiving))
+    says_nak n all (runs_said (gaps_reported all terms.width p.seen p.receiving))
 
 says_alive : (n : ℕ) (b : Bool) → Each (SaysAtMost n) (keep_alive_if b)
 says_alive n true = (tt, tt)
@@ -300,17 +303,17 @@ says_reports terms time p =
     says_both n due (keep_alives time due p.notes)
     (says_both n (acks terms time p) (naks terms time p) (says_acks terms n _ time p.notes) (says_naks n terms time p)) (says_alives n time due p.notes)
 
-told_noted : (n time : ℕ) (rs : List Report) (notes : List Note)
-    → Each (SaysAtMost n) rs → AreAtMost (points_told notes) n → AreAtMost (points_told (noted time rs notes)) n
-told_noted n time [] notes h k = k
-told_noted n time (r ∷ rs) notes h k =
-    told_noted n time rs (Sent time r ∷ notes) h.1 (at_most_both (points_in r) (points_told notes) n h.0 k)
+notified_noted : (n time : ℕ) (rs : List Report) (notes : List Note)
+    → Each (SaysAtMost n) rs → AreAtMost (points_reported notes) n → AreAtMost (points_reported (noted time rs notes)) n
+notified_noted n time [] notes h k = k
+notified_noted n time (r ∷ rs) notes h k =
+    notified_noted n time rs (Sent time r ∷ notes) h.1 (at_most_both (points_in r) (points_reported notes) n h.0 k)
 
 pub kept_reported : (terms : Terms) (time : ℕ) (p : Publishing) → IsKept terms.width p → IsKept terms.width (reported terms time p)
 kept_reported terms time p h =
     record {
       none = h.none;
-      told = told_noted (ack_point terms.width p.receiving) time (reports terms time p) p.notes (says_reports terms time p) h.told;
+      notified = notified_noted (ack_point terms.width p.receiving) time (reports terms time p) p.notes (says_reports terms time p) h.notified;
       below = h.below;
     }
 
@@ -324,4 +327,4 @@ point_at_front width r none left = elim (cases_lt r.front (ack_point width r)) [
 pub all_delivered : (mode : Mode) (width : ℕ) (p : Publishing) → mode ≡ Buffer → IsKept width p → has_undelivered mode p.receiving ≡ false → IsDelivered p
 all_delivered mode width p b h left =
     let gone : is_received p.receiving p.receiving.front ≡ false = sym (ap (λ (m : Mode). has_undelivered m p.receiving) b) ∙ left in
-    record { points = at_most_on (points_told p.notes) _ _ (point_at_front width p.receiving h.none gone) h.told; below = h.below }
+    record { points = at_most_on (points_reported p.notes) _ _ (point_at_front width p.receiving h.none gone) h.notified; below = h.below }
