@@ -2,9 +2,9 @@
 use Rattle.std.proofs.Common.{◌≡◌, ℕ, ◌<◌, nat_lt, ◌==◌, Bool, true, false, cond, List, [], ◌∷◌, ◌++◌, length, refl, sym, ap, subst, ◌∙◌}
 use Rattle.std.specs.Bool.{⊤}
 use Rattle.std.specs.List.{AllByRecursion}
-use Rattle.srt_seq.specs.Access.{AccessTerms}
-use Rattle.srt_seq.specs.Items.{Datagram, Item, Received, Tick, Close}
-use Rattle.srt_seq.specs.Terms.{Terms}
+use Rattle.srt_types.specs.Access.{AccessTerms}
+use Rattle.srt_types.specs.Items.{Datagram, Item, Received, Tick, Close}
+use Rattle.srt_types.specs.Terms.{Terms}
 use Rattle.srt_lobby.specs.declared.classes.Class.TheVariants.{Route}
 use Rattle.srt_lobby.specs.Lobby.{class_of}
 use Rattle.srt_lobby.proofs.Callers.{route_is_for_callers}

@@ -2,7 +2,7 @@
 use Rattle.std.proofs.Common.{◌≡◌, ℕ, zero, suc, ◌<◌, Bool, true, false, not, ◌&&◌, cond, eqb}
 use Rattle.std.proofs.Common.{List, [], ◌∷◌, length, refl, ap, ◌∙◌, arith}
 use Rattle.srt_hub.specs.declared.answers.Closing.TheVariants as closings
-use Rattle.srt_seq.specs.Items.{Close}
+use Rattle.srt_types.specs.Items.{Close}
 use Rattle.srt_hub.specs.World.{Event, Arrives, Ticks, Turns, Sends, Opens, Closes, Offers}
 use Rattle.srt_hub.specs.World.{Nothing, Place, entry_in, is_shown_in, offer_if, step_for}
 use Rattle.srt_hub.specs.World.{has_room, closing_of, places_closed}

@@ -5,8 +5,8 @@ use Rattle.std.proofs.lemmas.Bool.{cases_eq, cases_lt, eq-eqb, ne_eqb}
 use Rattle.std.proofs.lemmas.List.{get_or-set_same, get_or-set_other, length-set, get_or_append_left, get_or_push, length_push, length-map, map-append}
 use Rattle.srt_lobby.specs.declared.classes.Class.TheVariants.{Answer, Route, Dropped}
 use Rattle.srt_lobby.specs.declared.classes.Cause.{Cause}
-use Rattle.srt_seq.specs.Items.{Datagram, Received, Tick}
-use Rattle.srt_seq.specs.Terms.{Terms}
+use Rattle.srt_types.specs.Items.{Datagram, Received, Tick}
+use Rattle.srt_types.specs.Terms.{Terms}
 use Rattle.srt_hub.specs.World.{Event, Arrives, Ticks, Turns, Sends, Opens, Step, Offers, Turn, Send, Nothing, Sorting, Meaning, own_step}
 use Rattle.srt_hub.specs.World.{step_for, after_step, places_after, after, empty, Lane, Place, World, opened, entry_in, names_in}
 use Rattle.srt_hub.specs.Hubs.{AreLanes}

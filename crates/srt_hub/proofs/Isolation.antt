@@ -3,8 +3,8 @@ use Rattle.std.proofs.Common.{◌≡◌, ℕ, ◌≤◌, ltb, Bool, true, false,
 use Rattle.std.proofs.Common.{append_assoc, arith, length-append}
 use Rattle.std.proofs.lemmas.List.{append-nil, reverse-append}
 use Rattle.std.proofs.lemmas.Bool.Decides.{nat_tests}
-use Rattle.srt_seq.specs.Items.{Datagram, Item}
-use Rattle.srt_seq.specs.Terms.{Terms}
+use Rattle.srt_types.specs.Items.{Datagram, Item}
+use Rattle.srt_types.specs.Terms.{Terms}
 use Rattle.srt_hub.specs.World.{Event, Sorting, Meaning, solo, Lane, Step, Offers, Turn, Send, Nothing, has_room, turned_by, first}
 use Rattle.srt_hub.specs.World.{without_first, after_step, takes_in, sends_out, listed, accepted, sent}
 use Rattle.srt_hub.specs.Laws.{IsFrontOf, SentIsFront, SentIsWhole, RoutesAreIsolated, GatewaysAreIsolated}
@@ -55,19 +55,19 @@ turn_keeps reply e r [] [] m items out w i h = h
 -- each step keeps it
 step_keeps : (reply : Meaning) (e : Terms) (r : ℕ) (step : Step) (m : Lane) (items : List Item) (out : List Datagram)
     → IsKept reply e r m items out → IsKept reply e r (after_step reply e r step m) (takes_in e step m ++ items) (out ++ sends_out step m)
-step_keeps reply e r (Offers item) m items out h = came (has_room e m) refl
+step_keeps reply e r (Offers item) m items out h = arrived (has_room e m) refl
   where
-    came : (b : Bool) → has_room e m ≡ b
+    arrived : (b : Bool) → has_room e m ≡ b
         → IsKept reply e r (cond b (record { inbox = m.inbox ++ item ∷ []; applied = m.applied; waiting = m.waiting; outbox = m.outbox }) m)
         (cond b (item ∷ []) [] ++ items) (out ++ [])
-    came true is =
+    arrived true is =
         record {
           items_are = ap (λ (ys : List Item). item ∷ ys) h.items_are ∙ ap (λ (ys : List Item). ys ++ m.applied) (sym (reverse-append m.inbox (item ∷ [])));
           replies_are = rw append-nil h.replies_are;
           inbox_fits = grind (arith, nat_tests, length-append, is);
           outbox_fits = h.outbox_fits;
         }
-    came false is = record { items_are = h.items_are; replies_are = rw append-nil h.replies_are; inbox_fits = h.inbox_fits; outbox_fits = h.outbox_fits }
+    arrived false is = record { items_are = h.items_are; replies_are = rw append-nil h.replies_are; inbox_fits = h.inbox_fits; outbox_fits = h.outbox_fits }
 step_keeps reply e r Turn m items out h = rw append-nil (turn_keeps reply e r m.waiting m.inbox m items out refl refl h)
 step_keeps reply e r Send m items out h =
     record {

@@ -4,12 +4,12 @@ use Rattle.std.proofs.Common.{map, take, get_or, refl, sym, ap, subst, ◌∙◌
 use Rattle.std.proofs.lemmas.List.{take_more, map-append, length-take, length-map}
 use Rattle.std.proofs.lemmas.Bool.{and_parts}
 use Rattle.std.specs.List.{list_all}
-use Rattle.srt_seq.specs.declared.shared.Entry.{Entry}
-use Rattle.srt_seq.specs.declared.shared.OpenFault.TheVariants.{Names, Limits}
-use Rattle.srt_seq.specs.Terms.{Terms, terms_of}
+use Rattle.srt_types.specs.declared.shared.Entry.{Entry}
+use Rattle.srt_types.specs.declared.shared.OpenFault.TheVariants.{Names, Limits}
+use Rattle.srt_types.specs.Terms.{Terms, terms_of}
 use Rattle.srt_hub.specs.World.{Lane, empty}
-use Rattle.srt_seq.specs.Entries.{is_name, in_limits, is_between}
-use Rattle.srt_seq.proofs.Limited.{few_routes}
+use Rattle.srt_types.specs.Entries.{is_name, in_limits, is_between}
+use Rattle.srt_types.proofs.Limited.{few_routes}
 use Rattle.srt_lobby.specs.Opening.{fault_of, is_taken, is_fresh, are_names, are_in_limits}
 use Rattle.srt_hub.specs.Hubs.{AreLanes}
 use Rattle.srt_hub.proofs.Happens.{start, one_more}

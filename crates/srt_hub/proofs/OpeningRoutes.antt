@@ -4,10 +4,10 @@ use Rattle.std.proofs.Common.{Some, Ok, Err, List, [], ◌∷◌, ◌++◌, leng
 use Rattle.std.proofs.lemmas.Bool.{cases_lt}
 use Rattle.std.proofs.lemmas.Bool.Decides.{nat_tests}
 use Rattle.std.proofs.lemmas.List.{get_or_push, length_push, append-nil}
-use Rattle.srt_seq.specs.declared.shared.OpenFault.{OpenFault}
-use Rattle.srt_seq.specs.declared.shared.OpenFault.TheVariants as faults
+use Rattle.srt_types.specs.declared.shared.OpenFault.{OpenFault}
+use Rattle.srt_types.specs.declared.shared.OpenFault.TheVariants as faults
 use Rattle.srt_lobby.specs.Changing.{fault_of_adding}
-use Rattle.srt_seq.specs.Terms.{Terms}
+use Rattle.srt_types.specs.Terms.{Terms}
 use Rattle.srt_hub.specs.World.{Event, Opens, Sorting, Meaning, empty}
 use Rattle.srt_hub.specs.World.{Nothing, World, Place, opened, names_in, step_for}
 use Rattle.srt_hub.specs.World.{opening_of, places_opened}

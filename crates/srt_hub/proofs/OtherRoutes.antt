@@ -3,7 +3,7 @@ use Rattle.std.proofs.Common.{◌≡◌, ◌≢◌, ℕ, Bool, true, false, eqb}
 use Rattle.std.proofs.Common.{length, refl}
 use Rattle.std.proofs.lemmas.Bool.{eq-eqb, ne_eqb}
 use Rattle.srt_lobby.specs.declared.classes.Class.TheVariants.{Route}
-use Rattle.srt_seq.specs.Items.{Datagram, Close}
+use Rattle.srt_types.specs.Items.{Datagram, Close}
 use Rattle.srt_hub.specs.World.{Arrives, Ticks, Turns, Sends, Opens, Closes, Sorting}
 use Rattle.srt_hub.specs.World.{Nothing, World, is_shown_in, names_in, offer_if, own_step}
 use Rattle.srt_hub.specs.Laws.{OthersStay}

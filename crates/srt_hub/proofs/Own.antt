@@ -4,9 +4,9 @@ use Rattle.std.proofs.lemmas.Bool.{eq-eqb, eqb-true}
 use Rattle.std.specs.Prelude.{All}
 use Rattle.std.proofs.lemmas.List.Elements.{All-nil, All-append, All-take}
 use Rattle.std.proofs.Math.Seq.{take-append_seam}
-use Rattle.srt_seq.specs.Items.{Datagram, Item}
-use Rattle.srt_seq.specs.Access.{AccessTerms}
-use Rattle.srt_seq.specs.Terms.{Terms}
+use Rattle.srt_types.specs.Items.{Datagram, Item}
+use Rattle.srt_types.specs.Access.{AccessTerms}
+use Rattle.srt_types.specs.Terms.{Terms}
 use Rattle.srt_lobby.specs.declared.classes.Class.{Class}
 use Rattle.srt_lobby.specs.declared.classes.Class.TheVariants.{Answer, Route, Dropped}
 use Rattle.srt_lobby.specs.Names.{RouteName, AreDistinct}

@@ -1,8 +1,8 @@
 -- A route's own steps determine its lane, and what it accepts and sends.
 use Rattle.std.proofs.Common.{◌≡◌, ℕ, ◌<◌, nat_lt, Bool, true, false, cond, List, [], ◌∷◌, ◌++◌, length, refl, sym, ap, ◌∙◌}
 use Rattle.std.proofs.lemmas.List.{append-nil}
-use Rattle.srt_seq.specs.Items.{Datagram, Item, Received}
-use Rattle.srt_seq.specs.Terms.{Terms}
+use Rattle.srt_types.specs.Items.{Datagram, Item, Received}
+use Rattle.srt_types.specs.Terms.{Terms}
 use Rattle.srt_hub.specs.World.{Event, Arrives, Ticks, Turns, Sends, Opens, Closes, Sorting, Meaning, Lane, empty, World, Place, names_in}
 use Rattle.srt_hub.specs.World.{entry_in, is_shown_in, Step, Offers, Turn, Send, Nothing, offer_unless, is_route, own_step, step_for}
 use Rattle.srt_hub.specs.World.{after_step, takes_in, sends_out, has_room, world_after, accepted, sent}

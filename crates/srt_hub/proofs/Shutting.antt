@@ -1,7 +1,7 @@
 -- Calls that close routes are steps of the model.
 use Rattle.std.proofs.Common.{◌≡◌, ℕ, zero, suc, Bool, true, false, List, [], ◌∷◌, map, refl, sym, ap, subst, ◌∙◌, inl, inr}
 use Rattle.std.proofs.lemmas.Bool.{cases_eq}
-use Rattle.srt_seq.specs.Items.{Close}
+use Rattle.srt_types.specs.Items.{Close}
 use Rattle.srt_lobby.specs.Names.{RouteName, is_shown_at}
 use Rattle.srt_lobby.specs.Changing as changing
 use Rattle.srt_hub.specs.declared.answers.Closing.TheVariants as closings
@@ -18,7 +18,7 @@ shown_is (p ∷ places) zero = refl
 shown_is (p ∷ places) (suc r) = shown_is places r
 
 pub shown_by : (w : World) (r : ℕ) (shows b : Bool) → shows ≡ is_shown_at (names_in w) r → shows ≡ b → is_shown_in w r ≡ b
-shown_by w r shows b told is = sym (shown_is w.places r) ∙ sym told ∙ is
+shown_by w r shows b reported is = sym (shown_is w.places r) ∙ sym reported ∙ is
 
 -- closing a hidden route returns `Closed`
 pub closed_is : (w : World) (r : ℕ) → is_shown_in w r ≡ false → closing w r ≡ closings.Closed

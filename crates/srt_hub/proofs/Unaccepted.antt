@@ -1,14 +1,14 @@
 -- When an item isn't accepted or a turn does nothing, and the lobby's own answers.
 use Rattle.std.proofs.Common.{◌≡◌, ℕ, ◌≤◌, ltb, Bool, true, false, cond, Option, None}
 use Rattle.std.proofs.Common.{Some, List, [], ◌∷◌, ◌++◌, length, refl, sym, ap, ◌∙◌}
-use Rattle.srt_seq.specs.declared.shared.Turned.TheVariants.{Moved, Applied, Blocked, Idle}
+use Rattle.srt_types.specs.declared.shared.Turned.TheVariants.{Moved, Applied, Blocked, Idle}
 use Rattle.srt_lobby.specs.declared.classes.Class.{Class}
 use Rattle.srt_lobby.specs.declared.classes.Class.TheVariants.{Answer, Route, Dropped}
 use Rattle.srt_hub.specs.declared.answers.Arrived.{Arrived}
 use Rattle.srt_hub.specs.declared.answers.Arrived.TheVariants as arrived
 use Rattle.srt_hub.specs.declared.answers.Ticked.TheVariants as ticked
-use Rattle.srt_seq.specs.Items.{Datagram, Item, Received, Tick}
-use Rattle.srt_seq.specs.Terms.{Terms}
+use Rattle.srt_types.specs.Items.{Datagram, Item, Received, Tick}
+use Rattle.srt_types.specs.Terms.{Terms}
 use Rattle.srt_hub.specs.World.{Arrives, Ticks, Turns, Meaning, Lane, Offers, Turn}
 use Rattle.srt_hub.specs.World.{has_room, turned_by, turn_by, arrival_of, offered_to}
 use Rattle.srt_hub.specs.World.{world_after}

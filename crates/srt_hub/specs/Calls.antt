@@ -1,11 +1,11 @@
 -- The effect of a call on a gateway, a lane, a lobby or a route, and its result, whatever happened before the call.
 use Rattle.std.specs.Prelude.{◌≡◌, ℕ, Bool, true, false, List, ◌∷◌, take, Option, option_map, Result, Ok, Err, is_err}
 use Rattle.std.specs.Result.{result_ok}
-use Rattle.srt_seq.specs.declared.shared.OpenFault.{OpenFault}
-use Rattle.srt_seq.specs.declared.shared.OpenFault.TheVariants as faults
-use Rattle.srt_seq.specs.declared.shared.Peer.{Peer}
-use Rattle.srt_seq.specs.Items.{Datagram, Item}
-use Rattle.srt_seq.specs.Terms.{Terms}
+use Rattle.srt_types.specs.declared.shared.OpenFault.{OpenFault}
+use Rattle.srt_types.specs.declared.shared.OpenFault.TheVariants as faults
+use Rattle.srt_types.specs.declared.shared.Peer.{Peer}
+use Rattle.srt_types.specs.Items.{Datagram, Item}
+use Rattle.srt_types.specs.Terms.{Terms}
 use Rattle.srt_lobby.specs.declared.classes.Class.{Class}
 use Rattle.srt_lobby.specs.Names.{RouteName}
 use Rattle.srt_lobby.specs.Changing.{fault_of_name}

@@ -1,9 +1,9 @@
 -- Theorems about the gateway with the real lobby and the real routes.
 use Rattle.std.specs.Prelude.{◌≡◌, ◌↔◌, ℕ, ◌<◌, Bool, List, All, length, ⊤}
 use Rattle.std.specs.List.{AllByRecursion}
-use Rattle.srt_seq.specs.Items.{Datagram, Item, Received, Tick, Close}
-use Rattle.srt_seq.specs.Access.{AccessTerms}
-use Rattle.srt_seq.specs.Terms.{Terms}
+use Rattle.srt_types.specs.Items.{Datagram, Item, Received, Tick, Close}
+use Rattle.srt_types.specs.Access.{AccessTerms}
+use Rattle.srt_types.specs.Terms.{Terms}
 use Rattle.srt_lobby.specs.declared.classes.Class.TheVariants.{Route}
 use Rattle.srt_lobby.specs.Names.{RouteName, AreDistinct}
 use Rattle.srt_lobby.specs.Lobby.{class_of}

@@ -1,9 +1,9 @@
 -- The state of a hub, as a function of its events.
 use Rattle.std.specs.Prelude.{◌≡◌, ℕ, ◌<◌, Bool, List, [], map, length, slice_index_or}
-use Rattle.srt_seq.specs.declared.shared.Mode.TheVariants.{Live}
-use Rattle.srt_seq.specs.Access.{anyone}
-use Rattle.srt_seq.specs.Entries.{draft_rules}
-use Rattle.srt_seq.specs.Terms.{Terms}
+use Rattle.srt_types.specs.declared.shared.Mode.TheVariants.{Live}
+use Rattle.srt_types.specs.Access.{anyone}
+use Rattle.srt_types.specs.Entries.{draft_rules}
+use Rattle.srt_types.specs.Terms.{Terms}
 use Rattle.srt_lobby.specs.Names.{RouteName, name_of}
 use Rattle.srt_hub.specs.World.{Event, Sorting, Meaning, Lane, World, entry_in, is_shown_in, names_in, world_after, has_room}
 

@@ -1,8 +1,8 @@
 -- Theorems about every run of the gateway, whatever routes reply and however the lobby classifies datagrams.
 use Rattle.std.specs.Prelude.{◌≡◌, ℕ, ◌<◌, Bool, true, None, List, [], ◌∷◌, ◌++◌, length}
 use Rattle.srt_lobby.specs.declared.classes.Class.TheVariants.{Route}
-use Rattle.srt_seq.specs.Items.{Datagram}
-use Rattle.srt_seq.specs.Terms.{Terms}
+use Rattle.srt_types.specs.Items.{Datagram}
+use Rattle.srt_types.specs.Terms.{Terms}
 use Rattle.srt_lobby.specs.Names.{RouteName}
 use Rattle.srt_lobby.specs.Laws.{HasRoute}
 use Rattle.srt_lobby.specs.Opening.{fault_of}

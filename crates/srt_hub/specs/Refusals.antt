@@ -1,16 +1,16 @@
 -- When something is refused, and that nothing changes then; and what the opening and the closing of a route change.
 use Rattle.std.specs.Prelude.{◌≡◌, ℕ, ◌+◌, ◌⊎◌, Bool, true, false, None, Some, Ok, Err, List, [], ◌∷◌, length}
-use Rattle.srt_seq.specs.declared.shared.OpenFault.{OpenFault}
-use Rattle.srt_seq.specs.declared.shared.OpenFault.TheVariants as faults
-use Rattle.srt_seq.specs.declared.shared.Turned.TheVariants.{Blocked, Idle}
+use Rattle.srt_types.specs.declared.shared.OpenFault.{OpenFault}
+use Rattle.srt_types.specs.declared.shared.OpenFault.TheVariants as faults
+use Rattle.srt_types.specs.declared.shared.Turned.TheVariants.{Blocked, Idle}
 use Rattle.srt_lobby.specs.declared.classes.Class.TheVariants.{Answer, Route, Dropped}
 use Rattle.srt_hub.specs.declared.answers.Arrived.TheVariants as arrived
 use Rattle.srt_hub.specs.declared.answers.Closing.TheVariants as closings
 use Rattle.srt_hub.specs.declared.answers.Ticked.TheVariants as ticked
 use Rattle.srt_lobby.specs.declared.classes.Cause.{Cause}
 use Rattle.srt_lobby.specs.Changing.{fault_of_adding}
-use Rattle.srt_seq.specs.Items.{Datagram, Close}
-use Rattle.srt_seq.specs.Terms.{Terms}
+use Rattle.srt_types.specs.Items.{Datagram, Close}
+use Rattle.srt_types.specs.Terms.{Terms}
 use Rattle.srt_hub.specs.World.{Event, Arrives, Ticks, Turns, Opens, Closes, Sorting, Meaning, empty, world_after, is_there, opening}
 use Rattle.srt_hub.specs.World.{closing, accepted, sent, arrival_of, tick, turn}
 use Rattle.srt_hub.specs.Hubs.{names_at, routes_at, entry_at, is_shown_at, lane_at, room_at}

@@ -5,11 +5,11 @@
 -- lobby's is the class of each datagram with the names in force.
 use Rattle.std.specs.Prelude.{◌≡◌, ℕ, zero, suc, ◌==◌, Bool, true, false, Option, None, Some, Result, Ok, Err, List, [], ◌∷◌, ◌++◌, map}
 use Rattle.std.specs.Prelude.{length, slice_index_or, nat_lt, if◌then◌else◌}
-use Rattle.srt_seq.specs.declared.shared.Mode.TheVariants.{Live}
-use Rattle.srt_seq.specs.declared.shared.OpenFault.{OpenFault}
-use Rattle.srt_seq.specs.declared.shared.OpenFault.TheVariants as faults
-use Rattle.srt_seq.specs.declared.shared.Turned.{Turned}
-use Rattle.srt_seq.specs.declared.shared.Turned.TheVariants.{Moved, Applied, Blocked, Idle}
+use Rattle.srt_types.specs.declared.shared.Mode.TheVariants.{Live}
+use Rattle.srt_types.specs.declared.shared.OpenFault.{OpenFault}
+use Rattle.srt_types.specs.declared.shared.OpenFault.TheVariants as faults
+use Rattle.srt_types.specs.declared.shared.Turned.{Turned}
+use Rattle.srt_types.specs.declared.shared.Turned.TheVariants.{Moved, Applied, Blocked, Idle}
 use Rattle.srt_lobby.specs.declared.classes.Class.{Class}
 use Rattle.srt_lobby.specs.declared.classes.Class.TheVariants.{Answer, Route, Dropped}
 use Rattle.srt_lobby.specs.Changing.{fault_of_adding}
@@ -20,10 +20,10 @@ use Rattle.srt_hub.specs.declared.answers.Ticked.{Ticked}
 use Rattle.srt_hub.specs.declared.answers.Ticked.TheVariants as ticked
 use Rattle.srt_hub.specs.declared.answers.Closing.{Closing}
 use Rattle.srt_hub.specs.declared.answers.Closing.TheVariants as closings
-use Rattle.srt_seq.specs.Items.{Datagram, Item, Received, Tick, Close}
-use Rattle.srt_seq.specs.Access.{anyone}
-use Rattle.srt_seq.specs.Entries.{draft_rules}
-use Rattle.srt_seq.specs.Terms.{Terms}
+use Rattle.srt_types.specs.Items.{Datagram, Item, Received, Tick, Close}
+use Rattle.srt_types.specs.Access.{anyone}
+use Rattle.srt_types.specs.Entries.{draft_rules}
+use Rattle.srt_types.specs.Terms.{Terms}
 
 -- the events of the gateway; if `refused`, the copy of an arrival, or a route that opens, couldn't be allocated
 pub data Event : Type 0 where

@@ -8,7 +8,7 @@ use srt_samples::{
     Acknowledged, Block, Caller, Handshake, Offer, Phase, Sample, conclusion, data_packet,
     full_ack, handshake_packet, shutdown,
 };
-use srt_seq::{Entry, Mode, OpenFault, Peer, Turned};
+use srt_types::{Entry, Mode, OpenFault, Peer, Turned};
 use std::alloc::Global;
 use std::array;
 use std::process::Abort;

@@ -9,7 +9,7 @@ ghost use Rattle.srt_lobby.proofs.Kept.{inside};
 use crate::parts::{Doors, Lobby};
 use srt_cookie::Secret;
 use srt_lobby::{Class, Names, classify};
-use srt_seq::{Entry, OpenFault, Peer};
+use srt_types::{Entry, OpenFault, Peer};
 use std::alloc::Global;
 
 /// The lobby's state: the secret of the cookies, and the names of the routes.

@@ -7,7 +7,7 @@ use crate::entrance::Entrance;
 use crate::hubs::Hub;
 use crate::parts::RouteStep;
 use srt_route::{Reply, Route};
-use srt_seq::{Entry, Item, OpenFault};
+use srt_types::{Entry, Item, OpenFault};
 use std::alloc::Global;
 
 /// The gateway: routes of `srt_route`, under the rules of `srt_lobby`.

@@ -11,8 +11,8 @@ use crate::lanes::{Lane, Standing};
 use crate::parts::{Doors, Lobby, RouteStep};
 use srt_cookie::Secret;
 use srt_lobby::{Cause, Class};
-use srt_seq::limits::MAX_ROUTES;
-use srt_seq::{Entry, Item, OpenFault, Peer, Turned};
+use srt_types::product_limits::MAX_ROUTES;
+use srt_types::{Entry, Item, OpenFault, Peer, Turned};
 use std::alloc::Global;
 
 fn ticked(room: bool) -> Ticked
@@ -33,7 +33,7 @@ fn offered(r: usize, room: bool) -> Arrived
 
 /// A gateway as its history: the secret, the entries and the events so far. Ghost members only.
 pub trait Gateway {
-    ghost use Rattle.srt_seq.specs.Terms.{Terms};
+    ghost use Rattle.srt_types.specs.Terms.{Terms};
     ghost use Rattle.srt_hub.specs.World.{Event};
 
     /// The number of routes.
@@ -62,10 +62,10 @@ impl<R: RouteStep, L: Lobby> Gateway for Hub<R, L> {
 }
 
 impl<R: RouteStep, L: Lobby> Hub<R, L> {
-    ghost use Rattle.srt_seq.specs.declared.shared.OpenFault.{OpenFault as TheFault};
+    ghost use Rattle.srt_types.specs.declared.shared.OpenFault.{OpenFault as TheFault};
     ghost use Rattle.srt_cookie.specs.Cookie.{secret_bytes};
     ghost use Rattle.srt_lobby.specs.Opening.{fault_of};
-    ghost use Rattle.srt_seq.specs.Terms.{terms_of};
+    ghost use Rattle.srt_types.specs.Terms.{terms_of};
     ghost use Rattle.srt_hub.specs.World.{Arrives, Ticks, Turns, Sends, tick, turn};
     ghost use Rattle.srt_hub.specs.Calls.{HasRoutes, Happened, ArrivalAnswers, RouteAnswers, datagram, datagram_at, first_out};
 
@@ -180,9 +180,9 @@ impl<R: RouteStep, L: Lobby> Hub<R, L> {
 }
 
 impl<R: RouteStep, L: Doors> Hub<R, L> {
-    ghost use Rattle.srt_seq.specs.Terms.{Terms, terms_of};
+    ghost use Rattle.srt_types.specs.Terms.{Terms, terms_of};
     ghost use Rattle.srt_hub.specs.World.{Opens, Closes};
-    ghost use Rattle.srt_seq.specs.Entries.{in_limits};
+    ghost use Rattle.srt_types.specs.Entries.{in_limits};
     ghost use Rattle.srt_hub.specs.Calls.{Happened, IsUnchanged, FaultAnswers, OpeningAnswers, ClosingAnswers, wants_memory};
 
     /// Returns the first fault because of which a route of this name can't be opened, memory aside: `Names` or

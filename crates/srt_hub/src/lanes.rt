@@ -8,7 +8,7 @@ ghost use Rattle.srt_packet.specs.Held.{IsPacketOrNothing};
 use crate::items::Timely;
 use crate::parts::RouteStep;
 use srt_route::{Reply, blank_boxes};
-use srt_seq::{Entry, OpenFault, Peer, Turned};
+use srt_types::{Entry, OpenFault, Peer, Turned};
 use std::alloc::Global;
 use std::collections::VecDeque;
 
@@ -30,7 +30,7 @@ pub struct Lane<R: RouteStep> {
 
 /// A lane as a lane of the model. Ghost members only.
 pub trait Standing {
-    ghost use Rattle.srt_seq.specs.Terms.{Terms};
+    ghost use Rattle.srt_types.specs.Terms.{Terms};
     ghost use Rattle.srt_hub.specs.World.{Lane as TheLane};
 
     /// With these terms and this index the lane is this lane of the model.
@@ -47,8 +47,8 @@ impl<R: RouteStep> Standing for Lane<R> {
 
 impl<R: RouteStep> Lane<R> {
     ghost use Rattle.srt_hub.specs.inside.Queued.{item_in};
-    ghost use Rattle.srt_seq.specs.Entries.{is_name, in_limits};
-    ghost use Rattle.srt_seq.specs.Terms.{terms_of};
+    ghost use Rattle.srt_types.specs.Entries.{is_name, in_limits};
+    ghost use Rattle.srt_types.specs.Terms.{terms_of};
     ghost use Rattle.srt_hub.specs.World.{empty, offered, has_room, turned, turn, sent_from};
     ghost use Rattle.srt_hub.specs.Calls.{LaneBecomes, LaneAnswers, datagram_at, first_out};
 

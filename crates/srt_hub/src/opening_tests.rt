@@ -8,7 +8,7 @@ use crate::tests::{assert_sends, assert_sends_nothing, assert_turns};
 use crate::{Arrived, Cause, Closing, Hub, SrtGateway, Ticked};
 use srt_cookie::Secret;
 use srt_samples::{conclusion, first_difference, keep_alive, shutdown};
-use srt_seq::{Access, Entry, Mode, OpenFault, Rules, Turned};
+use srt_types::{Access, Entry, Mode, OpenFault, Rules, Turned};
 use std::alloc::Global;
 use std::process::Abort;
 use std::test::Fail;

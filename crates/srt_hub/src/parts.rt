@@ -3,14 +3,14 @@
 //! which each implementation defines.
 
 ghost use Rattle.std.specs.Prelude.{◌≡◌, ◌↔◌, ℕ, ◌<◌, ◌≤◌, ◌^◌, ◌∷◌, [], List, length, true, false, None, Some, Err, IfOk, IfErr, OnErr, map};
-ghost use Rattle.srt_seq.specs.declared.shared.OpenFault.{OpenFault as TheFault};
+ghost use Rattle.srt_types.specs.declared.shared.OpenFault.{OpenFault as TheFault};
 ghost use Rattle.srt_cookie.specs.Cookie.{secret_bytes};
 ghost use Rattle.srt_lobby.specs.declared.classes.Class.{Class as TheClass};
 ghost use Rattle.srt_lobby.specs.declared.classes.Class.TheVariants.{Route as ForRoute};
-ghost use Rattle.srt_seq.specs.Items.{Item as TheItem, Datagram, told, moment_of};
-ghost use Rattle.srt_seq.specs.Terms.{Terms, terms_of};
+ghost use Rattle.srt_types.specs.Items.{Item as TheItem, Datagram, input_of, moment_of};
+ghost use Rattle.srt_types.specs.Terms.{Terms, terms_of};
 ghost use Rattle.srt_route.specs.Written.{written};
-ghost use Rattle.srt_seq.specs.Entries.{is_name, in_limits};
+ghost use Rattle.srt_types.specs.Entries.{is_name, in_limits};
 ghost use Rattle.srt_lobby.specs.Names.{RouteName, is_shown_at};
 ghost use Rattle.srt_lobby.specs.Changing.{fault_of_name, fault_of_adding, added, hidden_at};
 ghost use Rattle.srt_lobby.specs.Opening.{fault_of};
@@ -20,7 +20,7 @@ ghost use Rattle.srt_hub.specs.Calls.{LobbyAnswers, RouteReplies, datagram};
 use srt_cookie::Secret;
 use srt_lobby::Class;
 use srt_route::Reply;
-use srt_seq::{Entry, Item, OpenFault, Peer};
+use srt_types::{Entry, Item, OpenFault, Peer};
 use std::alloc::Global;
 
 /// Classifies datagrams: answered, dropped, or for a route.
@@ -104,10 +104,10 @@ pub trait RouteStep: Drop {
     /// allocate.
     fn step(&mut self, item: Item) -> usize
         requires none_waits { waiting self.old ≡ [] }
-        requires timely { moment_of (told item) < 2 ^ 62 }
+        requires timely { moment_of (input_of item) < 2 ^ 62 }
         ensures count { result ≡ length (waiting self.new) }
-        ensures stands { (e : Terms) (index : ℕ) (items : List TheItem) → stands self.old e index items → stands self.new e index (told item ∷ items) }
-        ensures replies { RouteReplies stands self.old reply (told item) (waiting self.new) };
+        ensures stands { (e : Terms) (index : ℕ) (items : List TheItem) → stands self.old e index items → stands self.new e index (input_of item ∷ items) }
+        ensures replies { RouteReplies stands self.old reply (input_of item) (waiting self.new) };
 
     /// Whether a reply waits. A turn calls this first: it must know this before it knows whether the outbox has room.
     fn waits(&self) -> bool

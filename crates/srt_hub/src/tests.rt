@@ -11,7 +11,7 @@ use srt_cookie::Secret;
 use srt_lobby::Names;
 use srt_packet::{Body, Packet};
 use srt_samples::first_difference;
-use srt_seq::{Access, Entry, Item, Mode, OpenFault, Peer, Rules, Turned};
+use srt_types::{Access, Entry, Item, Mode, OpenFault, Peer, Rules, Turned};
 use std::alloc::Global;
 use std::process::Abort;
 use std::test::Fail;
@@ -313,11 +313,11 @@ fn boxes_are_used_again(rt: HostRuntime) -> Result<(), Fail> {
 fn a_refused_arrival_may_come_again(rt: HostRuntime) -> Result<(), Fail> {
     let alloc = rt.alloc();
     let mut hub = two_routes(alloc)?;
-    let mut came = hub.arrive(alloc, CALLER, &[0; 17], 1);
-    if came == Err(OutOfMemory) {
-        came = hub.arrive(alloc, CALLER, &[0; 17], 1);
+    let mut arrived = hub.arrive(alloc, CALLER, &[0; 17], 1);
+    if arrived == Err(OutOfMemory) {
+        arrived = hub.arrive(alloc, CALLER, &[0; 17], 1);
     }
-    assert_eq!(rt; came, Ok(Arrived::Accepted(0)));
+    assert_eq!(rt; arrived, Ok(Arrived::Accepted(0)));
     assert_eq!(rt; hub.routes(), 2);
     assert_turns(&rt, &mut hub, 0, &TWO_MOVED_AND_IDLE);
     Ok(())

@@ -3,7 +3,7 @@ use Rattle.std.proofs.Common.{◌≡◌, ◌≢◌, ℕ, zero, suc, ◌≤◌, B
 use Rattle.std.proofs.Common.{IfSome, IsTrue, slice_get, nat_eq, inl, inr, ◌⊎◌, refl, sym, ap, subst, ◌∙◌, arith}
 use Rattle.std.proofs.lemmas.Bool.{cases_eq}
 use Rattle.std.proofs.lemmas.Bool.Decides.{nat_tests}
-use Rattle.srt_seq.specs.Access.{AccessTerms}
+use Rattle.srt_types.specs.Access.{AccessTerms}
 use Rattle.srt_lobby.specs.Names.{RouteName, shown, hidden, index_of, is_shown_at, has_name, AreDistinct}
 use Rattle.srt_lobby.specs.Changing.{marked_at, hidden_at, shown_at, IsUnused}
 use Rattle.srt_lobby.proofs.Finds.{found_there, has_name_shown}

@@ -2,10 +2,10 @@
 use Rattle.std.proofs.Common.{◌≡◌, ℕ, ◌/◌, ◌^◌, Bool, true, false, cond, ◌||◌, List, Option, None, Some, Result, Ok, Err, ◌==◌, slice_get}
 use Rattle.std.proofs.Common.{refl, sym, ap, ◌∙◌, subst}
 use Rattle.std.proofs.lemmas.Bool.{and_parts, or_right}
-use Rattle.srt_seq.specs.declared.shared.Peer.{Peer}
-use Rattle.srt_seq.specs.declared.shared.Role.{Role}
-use Rattle.srt_seq.specs.declared.shared.Role.TheVariants.{Publish, Request}
-use Rattle.srt_seq.specs.Access.{lists, is_right_key}
+use Rattle.srt_types.specs.declared.shared.Peer.{Peer}
+use Rattle.srt_types.specs.declared.shared.Role.{Role}
+use Rattle.srt_types.specs.declared.shared.Role.TheVariants.{Publish, Request}
+use Rattle.srt_types.specs.Access.{lists, is_right_key}
 use Rattle.srt_packet.specs.declared.reading.PacketFault.{PacketFault}
 use Rattle.srt_packet.specs.Grammar as packets
 use Rattle.srt_packet.specs.Grammar.{Packet, Body}
@@ -23,7 +23,7 @@ use Rattle.srt_cookie.specs.Cookie.{is_right}
 use Rattle.srt_lobby.specs.declared.classes.Class.TheVariants.{Route, Dropped}
 use Rattle.srt_lobby.specs.declared.classes.Cause.TheVariants as causes
 use Rattle.srt_lobby.specs.Names.{RouteName, index_of, knows_caller, knows_caller_at, admits_caller, admits_caller_at}
-use Rattle.srt_lobby.specs.Lobby.{reason_of, route_named, route_asked, by_reason, of_conclusion, by_kind, of_handshake, of_body, to_session}
+use Rattle.srt_lobby.specs.Lobby.{reason_of, route_named, route_requested, by_reason, of_conclusion, by_kind, of_handshake, of_body, to_session}
 use Rattle.srt_lobby.specs.Lobby.{of_packet, class_of}
 use Rattle.srt_lobby.specs.Laws.{RouteIsForCallers}
 use Rattle.srt_lobby.proofs.Kept.{never_answered, route_is, admitted_is, only_a_handshake, place_is}
@@ -59,13 +59,13 @@ module _ (secret : List ℕ) (names : List RouteName) (r : ℕ) (peer : Peer) (m
       (bytes, ask, refl, e, (admitted_is names peer ask.role (key_of bytes) r (index_of names (name_of bytes ask)) h).admits)
   named_lets bytes (Err fault) e h = cc
 
-  asked_lets : (id : Option (List ℕ)) → route_asked names peer id ≡ Some r → Lets names peer r id
-  asked_lets (Some bytes) h = named_lets bytes (ask_in bytes) refl h
-  asked_lets None h = cc
+  requested_lets : (id : Option (List ℕ)) → route_requested names peer id ≡ Some r → Lets names peer r id
+  requested_lets (Some bytes) h = named_lets bytes (ask_in bytes) refl h
+  requested_lets None h = cc
 
   reason_lets : (hs : Handshake) (reason : Option RefusalCode) → by_reason names peer hs reason ≡ Route r → Lets names peer r hs.blocks.stream_id
   reason_lets hs (Some code) h = absurd (never_answered r hs _ h)
-  reason_lets hs None h = asked_lets hs.blocks.stream_id (route_is hs r (route_asked names peer hs.blocks.stream_id) h)
+  reason_lets hs None h = requested_lets hs.blocks.stream_id (route_is hs r (route_requested names peer hs.blocks.stream_id) h)
 
   conclusion_lets : (hs : Handshake) → of_conclusion names peer hs ≡ Route r → Lets names peer r hs.blocks.stream_id
   unfolding of_conclusion
@@ -120,10 +120,10 @@ route_is_for_callers secret names datagram moment r name there h = (
   λ packet is zero.
       let lets = body_lets secret names r datagram.peer moment packet.body
       (to_body secret names datagram.peer moment r packet zero (ap (of_packet secret names datagram.peer moment) (sym is) ∙ h)) in
-      let asked = lets.5 in (
-        asked.0,
-        asked.1,
-        record { says = (packet, lets.0, lets.1, is, lets.2, lets.3, lets.4, asked.2); asks = asked.3 },
-        ap (admits_caller datagram.peer asked.1.role (key_of asked.0)) (sym there) ∙ asked.4,
+      let requested = lets.5 in (
+        requested.0,
+        requested.1,
+        record { says = (packet, lets.0, lets.1, is, lets.2, lets.3, lets.4, requested.2); asks = requested.3 },
+        ap (admits_caller datagram.peer requested.1.role (key_of requested.0)) (sym there) ∙ requested.4,
       ),
 )

@@ -5,14 +5,14 @@ use Rattle.std.proofs.lemmas.Bool.{cases_eq}
 use Rattle.std.proofs.lemmas.Option.{slice_get-get_or}
 use Rattle.std.specs.Str.{bytes_eq}
 use Rattle.std.proofs.lemmas.Slice.Eq.{bytes_eq-Decides}
-use Rattle.srt_seq.specs.declared.shared.OpenFault.TheVariants as faults
-use Rattle.srt_seq.specs.Terms.{Terms}
-use Rattle.srt_seq.specs.Entries.{is_name, in_limits}
+use Rattle.srt_types.specs.declared.shared.OpenFault.TheVariants as faults
+use Rattle.srt_types.specs.Terms.{Terms}
+use Rattle.srt_types.specs.Entries.{is_name, in_limits}
 use Rattle.srt_lobby.specs.Names.{RouteName, as_shown, name_of, index_of, is_shown_at, has_name, has_name_at, AreDistinct}
 use Rattle.srt_lobby.specs.Changing.{marked_at, hidden_at, shown_at, added, fault_of_adding, AddingKeepsNames, HidingKeepsNames}
 use Rattle.srt_lobby.specs.Changing.{ShowingKeepsNames, AreSameFor, AddingKeepsOthers, HidingKeepsOthers, ShowingKeepsOthers, HiddenHasNone}
 use Rattle.srt_lobby.specs.Changing.{DistinctAreUnused}
-use Rattle.srt_lobby.proofs.Finds.{no_name, asked_is_text, name_found, found_there, has_name_shown}
+use Rattle.srt_lobby.proofs.Finds.{no_name, requested_is_text, name_found, found_there, has_name_shown}
 use Rattle.srt_lobby.proofs.Kept.{own, is_for_shown}
 
 -- the name of a visible route is found, so a name that isn't found has no visible route
@@ -71,7 +71,7 @@ text_is : (names : List RouteName) (r : ℕ) (text : List ℕ) → has_name_at n
 text_is names r text h = by (slice_get names r) h
   where
     by : (o : Option RouteName) → has_name text o ≡ true → text_of o ≡ text
-    by (Some name) h = sym (asked_is_text text name h)
+    by (Some name) h = sym (requested_is_text text name h)
     by None h = cc
 
 pub showing_keeps_names : ShowingKeepsNames
@@ -99,7 +99,7 @@ showing_keeps_names names r within unused distinct i j text p q = by (cases_eq i
 -- the routes after one was added
 pub before_or_last : (names : List RouteName) (x : RouteName) (i : ℕ) (text : List ℕ)
     → has_name_at (names ++ x ∷ []) i text ≡ true → (has_name_at names i text ≡ true) ⊎ ((i ≡ length names) × (x.text ≡ text))
-before_or_last [] x zero text h = inr (refl, sym (asked_is_text text x h))
+before_or_last [] x zero text h = inr (refl, sym (requested_is_text text x h))
 before_or_last [] x (suc i) text h = absurd (let bad : false ≡ true = h in cc)
 before_or_last (n ∷ ns) x zero text h = inl h
 before_or_last (n ∷ ns) x (suc i) text h = by (before_or_last ns x i text h)
@@ -171,7 +171,7 @@ all_shown (n ∷ ns) (suc r) name h = all_shown ns r name h
 
 still_named : (names : List RouteName) (r : ℕ) (text : List ℕ) → has_name_at names r text ≡ true → has_name_at (map as_shown names) r text ≡ true
 still_named [] r text h = cc
-still_named (n ∷ ns) zero text h = (bytes_eq-Decides text n.text).1 (asked_is_text text n h)
+still_named (n ∷ ns) zero text h = (bytes_eq-Decides text n.text).1 (requested_is_text text n h)
 still_named (n ∷ ns) (suc r) text h = still_named ns r text h
 
 pub distinct_are_unused : DistinctAreUnused

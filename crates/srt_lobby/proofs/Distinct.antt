@@ -4,13 +4,13 @@ use Rattle.std.proofs.Common.{None, Some, slice_get, refl, sym, ap, ◌∙◌, a
 use Rattle.std.specs.Str.{bytes_eq}
 use Rattle.std.proofs.lemmas.Bool.{or_right}
 use Rattle.std.proofs.lemmas.Slice.Eq.{bytes_eq-Decides}
-use Rattle.srt_seq.specs.declared.shared.OpenFault.TheVariants as faults
-use Rattle.srt_seq.specs.Terms.{Terms}
-use Rattle.srt_seq.specs.Entries.{is_name}
+use Rattle.srt_types.specs.declared.shared.OpenFault.TheVariants as faults
+use Rattle.srt_types.specs.Terms.{Terms}
+use Rattle.srt_types.specs.Entries.{is_name}
 use Rattle.srt_lobby.specs.Opening.{text_in, is_taken, are_names, are_in_limits, fault_of}
 use Rattle.srt_lobby.specs.Names.{RouteName, name_of, index_of, has_name_at}
 use Rattle.srt_lobby.specs.Laws.{NamesAreDistinct}
-use Rattle.srt_lobby.proofs.Finds.{asked_is_text, found_there}
+use Rattle.srt_lobby.proofs.Finds.{requested_is_text, found_there}
 
 true_or : (b c : Bool) → b ≡ true → (b || c) ≡ true
 true_or true c h = refl
@@ -64,7 +64,7 @@ named es h = by_test (are_names es) (are_in_limits es) h
 
 text_at : (es : List Terms) (i : ℕ) (text : List ℕ) → has_name_at (map name_of es) i text ≡ true → slice_get (map text_in es) i ≡ Some text
 text_at [] i text h = cc
-text_at (e ∷ es) zero text h = ap Some (sym (asked_is_text text (name_of e) h))
+text_at (e ∷ es) zero text h = ap Some (sym (requested_is_text text (name_of e) h))
 text_at (e ∷ es) (suc i) text h = text_at es i text h
 
 pub names_are_distinct : NamesAreDistinct

@@ -11,12 +11,12 @@ use Rattle.std.proofs.lemmas.List.Folds.{list_all-map}
 use Rattle.std.proofs.lemmas.List.Sums.{position_or_len_is}
 use Rattle.std.proofs.lemmas.List.Quantifiers.{position-Some}
 use Rattle.std.proofs.lemmas.Option.{get_or_from_slice_get, slice_get-get_or, slice_get_within}
-use Rattle.srt_seq.specs.declared.shared.Entry.{Entry}
-use Rattle.srt_seq.specs.Terms.{Terms, terms_of}
-use Rattle.srt_seq.specs.Entries.{is_between, is_name, in_limits}
+use Rattle.srt_types.specs.declared.shared.Entry.{Entry}
+use Rattle.srt_types.specs.Terms.{Terms, terms_of}
+use Rattle.srt_types.specs.Entries.{is_between, is_name, in_limits}
 use Rattle.srt_lobby.specs.Opening.{text_in, is_taken, is_fresh, are_names, are_in_limits}
-use Rattle.srt_seq.specs.Access.{anyone}
-use Rattle.srt_lobby.specs.Names.{RouteName, AreDistinct, shown, name_of, is_asked, index_of, shows, is_shown_at, has_name, has_name_at}
+use Rattle.srt_types.specs.Access.{anyone}
+use Rattle.srt_lobby.specs.Names.{RouteName, AreDistinct, shown, name_of, is_requested, index_of, shows, is_shown_at, has_name, has_name_at}
 
 same_length : {K X : Type 0} (f : K → X) (ks : List K) → length (map f ks) ≡ length ks
 same_length f [] = refl
@@ -39,10 +39,10 @@ abbrev pub no_name : RouteName
 no_name = shown [] anyone
 
 -- the route that is found has the requested name, and is visible
-pub found_name : (names : List RouteName) (r : ℕ) (name : RouteName) (asked : List ℕ)
-    → slice_get names r ≡ Some name → index_of names asked ≡ Some r → is_asked asked name ≡ true
-found_name names r name asked h e =
-    ap (is_asked asked) (sym (get_or_from_slice_get names r name no_name h)) ∙ (position-Some (is_asked asked) names r no_name e).1
+pub found_name : (names : List RouteName) (r : ℕ) (name : RouteName) (requested : List ℕ)
+    → slice_get names r ≡ Some name → index_of names requested ≡ Some r → is_requested requested name ≡ true
+found_name names r name requested h e =
+    ap (is_requested requested) (sym (get_or_from_slice_get names r name no_name h)) ∙ (position-Some (is_requested requested) names r no_name e).1
 
 record IsBoth (a b : Bool) : Type 0 where
   first : a ≡ true
@@ -52,29 +52,29 @@ both : (a b : Bool) → (a && b) ≡ true → IsBoth a b
 both true b h = record { first = refl; second = h }
 both false b h = cc
 
-pub asked_is_shown : (asked : List ℕ) (name : RouteName) → is_asked asked name ≡ true → name.is_shown ≡ true
-asked_is_shown asked name h = (both name.is_shown (bytes_eq asked name.text) h).first
+pub requested_is_shown : (requested : List ℕ) (name : RouteName) → is_requested requested name ≡ true → name.is_shown ≡ true
+requested_is_shown requested name h = (both name.is_shown (bytes_eq requested name.text) h).first
 
-pub asked_is_text : (asked : List ℕ) (name : RouteName) → is_asked asked name ≡ true → asked ≡ name.text
-asked_is_text asked name h = (bytes_eq-Decides asked name.text).0 (both name.is_shown (bytes_eq asked name.text) h).second
+pub requested_is_text : (requested : List ℕ) (name : RouteName) → is_requested requested name ≡ true → requested ≡ name.text
+requested_is_text requested name h = (bytes_eq-Decides requested name.text).0 (both name.is_shown (bytes_eq requested name.text) h).second
 
-other_before : (names : List RouteName) (r : ℕ) (asked : List ℕ)
-    → AreDistinct names → has_name_at names r asked ≡ true → r < length names → (k : ℕ) → k < r → is_asked asked (get_or names k no_name) ≡ false
-other_before names r asked distinct h inside k below =
+other_before : (names : List RouteName) (r : ℕ) (requested : List ℕ)
+    → AreDistinct names → has_name_at names r requested ≡ true → r < length names → (k : ℕ) → k < r → is_requested requested (get_or names k no_name) ≡ false
+other_before names r requested distinct h inside k below =
     false_from_ne_true _ (λ same.
-    let there : has_name_at names k asked ≡ true = ap (has_name asked) (slice_get-get_or names k no_name (omega arith)) ∙ same in
-    let e : k ≡ r = distinct k r asked there h in
+    let there : has_name_at names k requested ≡ true = ap (has_name requested) (slice_get-get_or names k no_name (omega arith)) ∙ same in
+    let e : k ≡ r = distinct k r requested there h in
     omega arith)
 
 -- the name of a visible route is found
-pub name_found : (names : List RouteName) (r : ℕ) (name : RouteName) (asked : List ℕ)
-    → AreDistinct names → slice_get names r ≡ Some name → is_asked asked name ≡ true → index_of names asked ≡ Some r
-name_found names r name asked distinct h is =
+pub name_found : (names : List RouteName) (r : ℕ) (name : RouteName) (requested : List ℕ)
+    → AreDistinct names → slice_get names r ≡ Some name → is_requested requested name ≡ true → index_of names requested ≡ Some r
+name_found names r name requested distinct h is =
     let inside : r < length names = slice_get_within names r name h in
-    let here : is_asked asked (get_or names r no_name) ≡ true = ap (is_asked asked) (get_or_from_slice_get names r name no_name h) ∙ is in
-    let at : position_or_len (is_asked asked) names ≡ r =
-    position_or_len_is (is_asked asked) names r no_name (omega arith)
-    (other_before names r asked distinct (ap (has_name asked) h ∙ is) inside) (λ w. here) in
+    let here : is_requested requested (get_or names r no_name) ≡ true = ap (is_requested requested) (get_or_from_slice_get names r name no_name h) ∙ is in
+    let at : position_or_len (is_requested requested) names ≡ r =
+    position_or_len_is (is_requested requested) names r no_name (omega arith)
+    (other_before names r requested distinct (ap (has_name requested) h ∙ is) inside) (λ w. here) in
     rw at (grind (arith, nat_tests))
 
 -- a visible route exists
@@ -84,23 +84,23 @@ shown_within (x ∷ xs) zero h = omega arith
 shown_within (x ∷ xs) (suc r) h = omega (arith, shown_within xs r h)
 
 -- the route that is found is visible
-pub found_shown : (names : List RouteName) (r : ℕ) (asked : List ℕ) → index_of names asked ≡ Some r → is_shown_at names r ≡ true
-found_shown names r asked e =
-    let found = position-Some (is_asked asked) names r no_name e in
-    ap shows (slice_get-get_or names r no_name found.0) ∙ asked_is_shown asked (get_or names r no_name) found.1
+pub found_shown : (names : List RouteName) (r : ℕ) (requested : List ℕ) → index_of names requested ≡ Some r → is_shown_at names r ≡ true
+found_shown names r requested e =
+    let found = position-Some (is_requested requested) names r no_name e in
+    ap shows (slice_get-get_or names r no_name found.0) ∙ requested_is_shown requested (get_or names r no_name) found.1
 
 pub found_there : (names : List RouteName) (r : ℕ) (text : List ℕ) → index_of names text ≡ Some r → has_name_at names r text ≡ true
 found_there names r text e =
-    let found = position-Some (is_asked text) names r no_name e in
+    let found = position-Some (is_requested text) names r no_name e in
     ap (has_name text) (slice_get-get_or names r no_name found.0) ∙ found.1
 
 -- a route with this name by has_name is visible, and has this text
 pub has_name_shown : (text : List ℕ) (o : Option RouteName) → has_name text o ≡ true → shows o ≡ true
-has_name_shown text (Some name) h = asked_is_shown text name h
+has_name_shown text (Some name) h = requested_is_shown text name h
 has_name_shown text None h = cc
 
 pub has_name_text : (text : List ℕ) (o : Option RouteName) → has_name text o ≡ true → option_map (λ (name : RouteName). name.text) o ≡ Some text
-has_name_text text (Some name) h = ap Some (sym (asked_is_text text name h))
+has_name_text text (Some name) h = ap Some (sym (requested_is_text text name h))
 has_name_text text None h = cc
 
 pub any_taken : (name : List ℕ) (es : List Entry) → list_any (λ (e : Entry). bytes_eq (terms_of e).name name) es ≡ is_taken name (map terms_of es)

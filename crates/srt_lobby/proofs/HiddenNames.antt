@@ -7,8 +7,8 @@ use Rattle.std.proofs.lemmas.Bool.Decides.{nat_tests}
 use Rattle.std.proofs.lemmas.List.{length-append}
 use Rattle.std.proofs.lemmas.List.Folds.{prefix_len-append}
 use Rattle.std.proofs.lemmas.List.Sums.{prefix_len-le-length}
-use Rattle.srt_seq.specs.declared.shared.Peer.{Peer}
-use Rattle.srt_seq.specs.declared.shared.Role.{Role}
+use Rattle.srt_types.specs.declared.shared.Peer.{Peer}
+use Rattle.srt_types.specs.declared.shared.Role.{Role}
 use Rattle.srt_packet.specs.declared.reading.PacketFault.{PacketFault}
 use Rattle.srt_packet.specs.Grammar as packets
 use Rattle.srt_packet.specs.Grammar.{Packet, Body}
@@ -26,8 +26,8 @@ use Rattle.srt_cookie.specs.Cookie.{is_right}
 use Rattle.srt_lobby.specs.declared.classes.Class.{Class}
 use Rattle.srt_lobby.specs.declared.classes.Class.TheVariants.{Dropped}
 use Rattle.srt_lobby.specs.declared.classes.Cause.TheVariants as causes
-use Rattle.srt_lobby.specs.Names.{RouteName, is_asked, index_of, is_shown_at, knows_caller, knows_caller_at, admits_caller}
-use Rattle.srt_lobby.specs.Lobby.{reason_of, admitted, route_named, route_asked, by_route, by_reason, of_conclusion, by_kind, of_handshake}
+use Rattle.srt_lobby.specs.Names.{RouteName, is_requested, index_of, is_shown_at, knows_caller, knows_caller_at, admits_caller}
+use Rattle.srt_lobby.specs.Lobby.{reason_of, admitted, route_named, route_requested, by_route, by_reason, of_conclusion, by_kind, of_handshake}
 use Rattle.srt_lobby.specs.Lobby.{of_body, if_known, by_place, to_session, of_packet, class_of}
 use Rattle.srt_lobby.specs.Changing.{AreHidden, HiddenChangeNothing}
 use Rattle.srt_lobby.proofs.Finds.{found_shown}
@@ -48,11 +48,11 @@ found_some place many within =
     let test : nat_lt place many ≡ true = grind (arith, nat_tests, within) in
     ap (λ (b : Bool). cond b (Some place) None) test
 
-none_asked : (text : List ℕ) (more : List RouteName) → AreHidden more → prefix_len (λ n. not (is_asked text n)) more ≡ length more
-none_asked text [] hidden = refl
-none_asked text (name ∷ more) hidden =
-    ap (λ (b : Bool). cond (not b) (1 + prefix_len (λ n. not (is_asked text n)) more) 0) (and_left name.is_shown _ hidden.0)
-    ∙ ap (λ (n : ℕ). 1 + n) (none_asked text more hidden.1)
+none_requested : (text : List ℕ) (more : List RouteName) → AreHidden more → prefix_len (λ n. not (is_requested text n)) more ≡ length more
+none_requested text [] hidden = refl
+none_requested text (name ∷ more) hidden =
+    ap (λ (b : Bool). cond (not b) (1 + prefix_len (λ n. not (is_requested text n)) more) 0) (and_left name.is_shown _ hidden.0)
+    ∙ ap (λ (n : ℕ). 1 + n) (none_requested text more hidden.1)
     ∙ (let sums : 1 + length more ≡ suc (length more) = omega arith in sums)
 
 pub index_more : (names more : List RouteName) → AreHidden more → (text : List ℕ) → index_of (names ++ more) text ≡ index_of names text
@@ -61,7 +61,7 @@ index_more names more hidden text =
     by (eqb (prefix_len other names) (length names)) refl
   where
     other : RouteName → Bool
-    other n = not (is_asked text n)
+    other n = not (is_requested text n)
 
     by : (b : Bool) → eqb (prefix_len other names) (length names) ≡ b → index_of (names ++ more) text ≡ index_of names text
     by true same =
@@ -69,7 +69,7 @@ index_more names more hidden text =
         let all : prefix_len other (names ++ more) ≡ length names + length more =
         prefix_len-append other names more
         ∙ ap (λ (b : Bool). cond b (length names + prefix_len other more) (prefix_len other names)) same
-        ∙ ap (λ (n : ℕ). length names + n) (none_asked text more hidden) in
+        ∙ ap (λ (n : ℕ). length names + n) (none_requested text more hidden) in
         found_none (prefix_len other (names ++ more)) (length (names ++ more)) (omega (arith, all, length-append names more))
         ∙ sym (found_none (prefix_len other names) (length names) (omega (arith, own)))
     by false differs =
@@ -108,13 +108,13 @@ module _ (secret : List ℕ) (names more : List RouteName) (hidden : AreHidden m
       ∙ admitted_more ask.role (key_of bytes) (name_of bytes ask) (index_of names (name_of bytes ask)) refl
   named_more bytes (Err fault) = refl
 
-  asked_more : (id : Option (List ℕ)) → route_asked (names ++ more) peer id ≡ route_asked names peer id
-  asked_more (Some bytes) = named_more bytes (ask_in bytes)
-  asked_more None = refl
+  requested_more : (id : Option (List ℕ)) → route_requested (names ++ more) peer id ≡ route_requested names peer id
+  requested_more (Some bytes) = named_more bytes (ask_in bytes)
+  requested_more None = refl
 
   reason_more : (hs : Handshake) (reason : Option RefusalCode) → by_reason (names ++ more) peer hs reason ≡ by_reason names peer hs reason
   reason_more hs (Some code) = refl
-  reason_more hs None = ap (by_route hs) (asked_more hs.blocks.stream_id)
+  reason_more hs None = ap (by_route hs) (requested_more hs.blocks.stream_id)
 
   conclusion_more : (hs : Handshake) → of_conclusion (names ++ more) peer hs ≡ of_conclusion names peer hs
   unfolding of_conclusion

@@ -2,8 +2,8 @@
 use Rattle.std.proofs.Common.{◌≡◌, ℕ, ◌-◌, ◌+◌, ◌/◌, ◌^◌, ◌<◌, ◌≤◌, Bool, true, false, cond, ◌&&◌, List, length, Option, None, Some, Result, slice_get}
 use Rattle.std.proofs.Common.{Ok, Err, nat_lt, ◌==◌, refl, sym, ap, ◌∙◌, arith}
 use Rattle.std.proofs.lemmas.Bool.Decides.{nat_tests}
-use Rattle.srt_seq.specs.declared.shared.Peer.{Peer}
-use Rattle.srt_seq.specs.declared.shared.Role.{Role}
+use Rattle.srt_types.specs.declared.shared.Peer.{Peer}
+use Rattle.srt_types.specs.declared.shared.Role.{Role}
 use Rattle.srt_packet.specs.declared.reading.PacketFault.{PacketFault}
 use Rattle.srt_packet.specs.declared.reading.PacketFault.TheVariants as faults
 use Rattle.srt_packet.specs.Grammar as packets
@@ -24,7 +24,7 @@ use Rattle.srt_lobby.specs.declared.classes.Class.{Class}
 use Rattle.srt_lobby.specs.declared.classes.Class.TheVariants.{Route, Dropped}
 use Rattle.srt_lobby.specs.declared.classes.Cause.TheVariants as causes
 use Rattle.srt_lobby.specs.Names.{RouteName, index_of, shows, is_shown_at, knows_caller, knows_caller_at, admits_caller, admits_caller_at}
-use Rattle.srt_lobby.specs.Lobby.{answered, reason_of, admitted, route_named, route_asked, by_route, by_reason, of_conclusion, by_kind, of_handshake}
+use Rattle.srt_lobby.specs.Lobby.{answered, reason_of, admitted, route_named, route_requested, by_route, by_reason, of_conclusion, by_kind, of_handshake}
 use Rattle.srt_lobby.specs.Lobby.{of_body, if_known, by_place, to_session, of_packet, class_of}
 use Rattle.srt_lobby.specs.Laws.{HasRoute, RouteIsItsOwn, RouteIsNamed, RouteIsShown, RouteHasHeader}
 use Rattle.srt_lobby.proofs.Finds.{found_name, name_found, found_shown, shown_within}
@@ -113,7 +113,7 @@ place_goes names peer place r h =
 
 -- the route is the same in both lists, and each name that finds it in the first one finds it in the second one
 pub record IsFoundAgain (names others : List RouteName) (r : ℕ) : Type 0 where
-  pub finds : (asked : List ℕ) → index_of names asked ≡ Some r → index_of others asked ≡ Some r
+  pub finds : (requested : List ℕ) → index_of names requested ≡ Some r → index_of others requested ≡ Some r
   pub same : slice_get others r ≡ slice_get names r
 
 module _ (secret : List ℕ) (names others : List RouteName) (r : ℕ) (again : IsFoundAgain names others r) (peer : Peer) (moment : ℕ) where
@@ -124,13 +124,13 @@ module _ (secret : List ℕ) (names others : List RouteName) (r : ℕ) (again : 
       ∙ ap (λ (b : Bool). cond b (Some r) None) (ap (admits_caller peer ask.role (key_of bytes)) again.same ∙ was.admits)
   named_follows bytes (Err fault) h = h
 
-  asked_follows : (id : Option (List ℕ)) → route_asked names peer id ≡ Some r → route_asked others peer id ≡ Some r
-  asked_follows (Some bytes) h = named_follows bytes (ask_in bytes) h
-  asked_follows None h = h
+  requested_follows : (id : Option (List ℕ)) → route_requested names peer id ≡ Some r → route_requested others peer id ≡ Some r
+  requested_follows (Some bytes) h = named_follows bytes (ask_in bytes) h
+  requested_follows None h = h
 
   reason_follows : (hs : Handshake) (reason : Option RefusalCode) → Follows r (by_reason names peer hs reason) (by_reason others peer hs reason)
   reason_follows hs (Some code) h = h
-  reason_follows hs None h = ap (by_route hs) (asked_follows hs.blocks.stream_id (route_is hs r (route_asked names peer hs.blocks.stream_id) h))
+  reason_follows hs None h = ap (by_route hs) (requested_follows hs.blocks.stream_id (route_is hs r (route_requested names peer hs.blocks.stream_id) h))
 
   conclusion_follows : (hs : Handshake) → Follows r (of_conclusion names peer hs) (of_conclusion others peer hs)
   unfolding of_conclusion
@@ -170,7 +170,7 @@ module _ (secret : List ℕ) (names others : List RouteName) (r : ℕ) (again : 
 
 found_again : (names others : List RouteName) (r : ℕ) (name : RouteName) → HasRoute names r name → HasRoute others r name → IsFoundAgain names others r
 found_again names others r name has have = record {
-  finds = λ asked h. name_found others r name asked have.distinct have.named (found_name names r name asked has.named h);
+  finds = λ requested h. name_found others r name requested have.distinct have.named (found_name names r name requested has.named h);
   same = have.named ∙ sym has.named;
 }
 
@@ -195,13 +195,13 @@ module _ (secret : List ℕ) (names : List RouteName) (r : ℕ) (peer : Peer) (m
       found_shown names r (name_of bytes ask) (admitted_is names peer ask.role (key_of bytes) r (index_of names (name_of bytes ask)) h).is
   named_shown bytes (Err fault) h = cc
 
-  asked_shown : (id : Option (List ℕ)) → route_asked names peer id ≡ Some r → is_shown_at names r ≡ true
-  asked_shown (Some bytes) h = named_shown bytes (ask_in bytes) h
-  asked_shown None h = cc
+  requested_shown : (id : Option (List ℕ)) → route_requested names peer id ≡ Some r → is_shown_at names r ≡ true
+  requested_shown (Some bytes) h = named_shown bytes (ask_in bytes) h
+  requested_shown None h = cc
 
   reason_shown : (hs : Handshake) (reason : Option RefusalCode) → Shown names r (by_reason names peer hs reason)
   reason_shown hs (Some code) h = absurd (never_answered r hs _ h)
-  reason_shown hs None h = asked_shown hs.blocks.stream_id (route_is hs r (route_asked names peer hs.blocks.stream_id) h)
+  reason_shown hs None h = requested_shown hs.blocks.stream_id (route_is hs r (route_requested names peer hs.blocks.stream_id) h)
 
   conclusion_shown : (hs : Handshake) → Shown names r (of_conclusion names peer hs)
   unfolding of_conclusion

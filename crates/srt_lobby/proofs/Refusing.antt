@@ -1,19 +1,19 @@
 -- Which conclusions are refused with 1002, and why.
 use Rattle.std.proofs.Common.{◌≡◌, ℕ, Bool, true, false, cond, ◌&&◌, List, Option, None, Some, Result, Ok, Err, slice_get, refl}
-use Rattle.srt_seq.specs.declared.shared.Peer.{Peer}
-use Rattle.srt_seq.specs.declared.shared.Role.{Role}
-use Rattle.srt_seq.specs.Access.{lists, is_right_key, in_role}
+use Rattle.srt_types.specs.declared.shared.Peer.{Peer}
+use Rattle.srt_types.specs.declared.shared.Role.{Role}
+use Rattle.srt_types.specs.Access.{lists, is_right_key, in_role}
 use Rattle.srt_hs.specs.declared.refusals.RefusalCode.{RefusalCode}
 use Rattle.srt_hs.specs.declared.refusals.RefusalCode.TheVariants as codes
 use Rattle.srt_hs.specs.Grammar.{Handshake}
 use Rattle.srt_streamid.specs.declared.reading.Ask.{Ask}
 use Rattle.srt_streamid.specs.declared.reading.AskFault.{AskFault}
 use Rattle.srt_streamid.specs.Reading.{ask_in, key_of, name_of}
-use Rattle.srt_seq.specs.declared.shared.NotAdmitted.{NotAdmitted}
-use Rattle.srt_seq.specs.declared.shared.NotAdmitted.TheVariants.{NoName, UnknownName, Address, Key}
+use Rattle.srt_types.specs.declared.shared.NotAdmitted.{NotAdmitted}
+use Rattle.srt_types.specs.declared.shared.NotAdmitted.TheVariants.{NoName, UnknownName, Address, Key}
 use Rattle.srt_lobby.specs.declared.classes.Class.TheVariants.{Route}
 use Rattle.srt_lobby.specs.Names.{RouteName, index_of, admits_caller}
-use Rattle.srt_lobby.specs.Lobby.{admitted, route_named, route_asked, by_route, by_reason, of_conclusion, reason_of, refused}
+use Rattle.srt_lobby.specs.Lobby.{admitted, route_named, route_requested, by_route, by_reason, of_conclusion, reason_of, refused}
 use Rattle.srt_lobby.specs.Causes.{cause_at_route, cause_by_index, cause_by_ask, cause_by_stream_id, cause_by_reason, cause_of_conclusion}
 use Rattle.srt_lobby.specs.Causes.{CauseRefuses, RefusalHasCause}
 
@@ -44,7 +44,7 @@ module _ (names : List RouteName) (peer : Peer) where
   by_ask bytes (Ok ask) = by_index ask.role (key_of bytes) (index_of names (name_of bytes ask))
   by_ask bytes (Err fault) = left_out NoName
 
-  by_stream_id : (id : Option (List ℕ)) → Found (cause_by_stream_id names peer id) (route_asked names peer id)
+  by_stream_id : (id : Option (List ℕ)) → Found (cause_by_stream_id names peer id) (route_requested names peer id)
   by_stream_id (Some bytes) = by_ask bytes (ask_in bytes)
   by_stream_id None = left_out NoName
 

@@ -1,11 +1,11 @@
 -- Computed examples: which routes are found while names are hidden and reused.
 use Rattle.std.proofs.Common.{◌≡◌, ℕ, false, List, [], ◌∷◌, None, Some, replicate, refl}
-use Rattle.srt_seq.specs.declared.shared.Mode.TheVariants.{Live}
-use Rattle.srt_seq.specs.declared.shared.OpenFault.TheVariants as faults
-use Rattle.srt_seq.specs.declared.shared.Peer.{Peer}
-use Rattle.srt_seq.specs.Access.{anyone}
-use Rattle.srt_seq.specs.Entries.{draft_rules}
-use Rattle.srt_seq.specs.Terms.{Terms}
+use Rattle.srt_types.specs.declared.shared.Mode.TheVariants.{Live}
+use Rattle.srt_types.specs.declared.shared.OpenFault.TheVariants as faults
+use Rattle.srt_types.specs.declared.shared.Peer.{Peer}
+use Rattle.srt_types.specs.Access.{anyone}
+use Rattle.srt_types.specs.Entries.{draft_rules}
+use Rattle.srt_types.specs.Terms.{Terms}
 use Rattle.srt_lobby.specs.declared.classes.Class.TheVariants.{Route, Dropped}
 use Rattle.srt_lobby.specs.declared.classes.Cause.TheVariants as causes
 use Rattle.srt_lobby.specs.Names.{RouteName, name_of, index_of}
@@ -58,10 +58,10 @@ ids_are_found : (to_session opened caller 0x100000 ≡ Route 0) × (to_session h
 ids_are_found = (refl, refl, refl, refl, refl, refl, refl)
 
 -- faults of names take precedence over limits, and hidden routes count towards the 512th index
-faults_are_told : (fault_of_adding hidden (entry files 120) ≡ Some faults.Names) ×
+faults_are_reported : (fault_of_adding hidden (entry files 120) ≡ Some faults.Names) ×
     (fault_of_adding hidden (entry files 10) ≡ Some faults.Names) × (fault_of_adding hidden (entry [] 120) ≡ Some faults.Names) ×
     (fault_of_adding hidden (entry studio 10) ≡ Some faults.Limits) × (fault_of_adding hidden (entry studio 120) ≡ None)
-faults_are_told = (refl, refl, refl, refl, refl)
+faults_are_reported = (refl, refl, refl, refl, refl)
 
 the_512th : (fault_of_adding (replicate 511 (record { text = files; is_shown = false; access = anyone })) (entry files 120) ≡ Some faults.Limits) ×
     (fault_of_adding (replicate 510 (record { text = files; is_shown = false; access = anyone })) (entry files 120) ≡ None)

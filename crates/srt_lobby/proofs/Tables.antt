@@ -9,7 +9,7 @@ use Rattle.std.proofs.lemmas.Bool.{cases_eq}
 use Rattle.std.proofs.lemmas.Option.{slice_get-map, slice_get-get_or}
 use Rattle.std.proofs.lemmas.Slice.Eq.{bytes_eq-Decides}
 use Rattle.indexmap.specs.IndexMap.{insert_entry}
-use Rattle.srt_seq.specs.Access.{AccessTerms, access_of}
+use Rattle.srt_types.specs.Access.{AccessTerms, access_of}
 use Rattle.srt_lobby.specs.RouteNames.{RouteName, hidden, index_of, shows, is_shown_at, has_name, has_name_at, AreDistinct}
 use Rattle.srt_lobby.specs.declared.names.NamedRoute.{NamedRoute}
 use Rattle.srt_lobby.specs.Tables.{name_in, text_at, index_in, entered, HasShown, HasNamed, HasTexts}

@@ -2,10 +2,10 @@
 -- they are checked. The causes are our choice.
 use Rattle.std.specs.Prelude.{◌≡◌, ℕ, List, Option, None, Some, Result, Ok, Err, if◌then◌else◌}
 use Rattle.std.specs.Prelude.{slice_get}
-use Rattle.srt_seq.specs.declared.shared.Peer.{Peer}
-use Rattle.srt_seq.specs.declared.shared.Role.{Role}
-use Rattle.srt_seq.specs.Access.{RoleTerms, in_role, lists, is_right_key}
-use Rattle.srt_seq.specs.Items.{Datagram}
+use Rattle.srt_types.specs.declared.shared.Peer.{Peer}
+use Rattle.srt_types.specs.declared.shared.Role.{Role}
+use Rattle.srt_types.specs.Access.{RoleTerms, in_role, lists, is_right_key}
+use Rattle.srt_types.specs.Items.{Datagram}
 use Rattle.srt_packet.specs.declared.reading.PacketFault.{PacketFault}
 use Rattle.srt_packet.specs.Grammar as packets
 use Rattle.srt_packet.specs.Grammar.{Packet, Body}
@@ -18,8 +18,8 @@ use Rattle.srt_hs.specs.Reading.{handshake_in}
 use Rattle.srt_streamid.specs.declared.reading.Ask.{Ask}
 use Rattle.srt_streamid.specs.declared.reading.AskFault.{AskFault}
 use Rattle.srt_streamid.specs.Reading.{ask_in, key_of, name_of}
-use Rattle.srt_seq.specs.declared.shared.NotAdmitted.{NotAdmitted}
-use Rattle.srt_seq.specs.declared.shared.NotAdmitted.TheVariants.{NoName, UnknownName, Address, Key}
+use Rattle.srt_types.specs.declared.shared.NotAdmitted.{NotAdmitted}
+use Rattle.srt_types.specs.declared.shared.NotAdmitted.TheVariants.{NoName, UnknownName, Address, Key}
 use Rattle.srt_lobby.specs.declared.classes.Class.TheVariants.{Route}
 use Rattle.srt_lobby.specs.Names.{RouteName, index_of}
 use Rattle.srt_lobby.specs.Lobby.{reason_of, of_conclusion, refused}

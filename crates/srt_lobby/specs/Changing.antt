@@ -2,11 +2,11 @@
 -- reused; the name of a hidden route may be.
 use Rattle.std.specs.Prelude.{◌≡◌, ◌≢◌, ◌↔◌, ℕ, zero, suc, ◌<◌, Bool, true, false, not, List, [], ◌∷◌, ◌++◌, length, map, Option, None}
 use Rattle.std.specs.Prelude.{Some, IfSome, is_some, slice_get, nat_lt, ◌&&◌, if◌then◌else◌}
-use Rattle.srt_seq.specs.declared.shared.OpenFault.{OpenFault}
-use Rattle.srt_seq.specs.declared.shared.OpenFault.TheVariants as faults
-use Rattle.srt_seq.specs.Items.{Datagram}
-use Rattle.srt_seq.specs.Terms.{Terms}
-use Rattle.srt_seq.specs.Entries.{is_name, in_limits}
+use Rattle.srt_types.specs.declared.shared.OpenFault.{OpenFault}
+use Rattle.srt_types.specs.declared.shared.OpenFault.TheVariants as faults
+use Rattle.srt_types.specs.Items.{Datagram}
+use Rattle.srt_types.specs.Terms.{Terms}
+use Rattle.srt_types.specs.Entries.{is_name, in_limits}
 use Rattle.srt_lobby.specs.declared.classes.Class.TheVariants.{Route}
 use Rattle.srt_lobby.specs.Names.{RouteName, as_shown, name_of, index_of, AreDistinct}
 use Rattle.srt_lobby.specs.Lobby.{class_of}

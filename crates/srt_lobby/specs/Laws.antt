@@ -1,8 +1,8 @@
 -- Which datagrams are for which route.
 use Rattle.std.specs.Prelude.{◌≡◌, ◌↔◌, ℕ, ◌<◌, ◌≤◌, true, List, length, None, Some, Ok, map, slice_get}
-use Rattle.srt_seq.specs.Access.{AccessTerms, in_role, knows, admits}
-use Rattle.srt_seq.specs.Items.{Datagram}
-use Rattle.srt_seq.specs.Terms.{Terms}
+use Rattle.srt_types.specs.Access.{AccessTerms, in_role, knows, admits}
+use Rattle.srt_types.specs.Items.{Datagram}
+use Rattle.srt_types.specs.Terms.{Terms}
 use Rattle.srt_packet.specs.Grammar as packets
 use Rattle.srt_packet.specs.Grammar.{Packet as ReadPacket}
 use Rattle.srt_packet.specs.Reading.{packet_in}

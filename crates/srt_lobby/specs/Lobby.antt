@@ -2,10 +2,10 @@
 -- and its arrival time. The order of the tests is our choice.
 use Rattle.std.specs.Prelude.{ℕ, Bool, ◌-◌, ◌/◌, ◌^◌, List, Option, None, Some, is_some, not, Result, Ok, Err, nat_le, nat_lt, ◌==◌, ◌++◌}
 use Rattle.std.specs.Prelude.{◌&&◌, ◌||◌, if◌then◌else◌}
-use Rattle.srt_seq.specs.declared.shared.Peer.{Peer}
-use Rattle.srt_seq.specs.declared.shared.Role.{Role}
-use Rattle.srt_seq.specs.Items.{Datagram}
-use Rattle.srt_seq.specs.Words.{word}
+use Rattle.srt_types.specs.declared.shared.Peer.{Peer}
+use Rattle.srt_types.specs.declared.shared.Role.{Role}
+use Rattle.srt_types.specs.Items.{Datagram}
+use Rattle.srt_types.specs.Words.{word}
 use Rattle.srt_packet.specs.declared.reading.PacketFault.{PacketFault}
 use Rattle.srt_packet.specs.Grammar as packets
 use Rattle.srt_packet.specs.Grammar.{Packet, Body}
@@ -65,9 +65,9 @@ route_named names peer bytes (Ok ask) = admitted names peer ask.role (key_of byt
 route_named names peer bytes (Err fault) = None
 
 -- the index of the visible route that a Stream ID requests, if there is one that admits the caller (appendix B)
-abbrev pub route_asked : (names : List RouteName) → Peer → Option (List ℕ) → Option ℕ
-route_asked names peer (Some bytes) = route_named names peer bytes (ask_in bytes)
-route_asked names peer None = None
+abbrev pub route_requested : (names : List RouteName) → Peer → Option (List ℕ) → Option ℕ
+route_requested names peer (Some bytes) = route_named names peer bytes (ask_in bytes)
+route_requested names peer None = None
 
 -- the class of a conclusion: for the route with this index; without one it is refused with 1002
 abbrev pub by_route : Handshake → Option ℕ → Class
@@ -77,7 +77,7 @@ by_route hs None = refused hs codes.Peer
 -- the class of a conclusion: refused for this reason; without one it depends on the requested route
 abbrev pub by_reason : (names : List RouteName) → Peer → Handshake → Option RefusalCode → Class
 by_reason names peer hs (Some code) = refused hs code
-by_reason names peer hs None = by_route hs (route_asked names peer hs.blocks.stream_id)
+by_reason names peer hs None = by_route hs (route_requested names peer hs.blocks.stream_id)
 
 -- the class of a conclusion with a valid cookie
 unfoldable pub of_conclusion : (names : List RouteName) → Peer → Handshake → Class

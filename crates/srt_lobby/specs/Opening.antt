@@ -2,10 +2,10 @@
 use Rattle.std.specs.Prelude.{ℕ, Bool, true, Option, None, Some, List, [], ◌∷◌, length, ◌&&◌, not, if◌then◌else◌}
 use Rattle.std.specs.List.{list_any, list_all}
 use Rattle.std.specs.Str.{bytes_eq}
-use Rattle.srt_seq.specs.declared.shared.OpenFault.{OpenFault}
-use Rattle.srt_seq.specs.declared.shared.OpenFault.TheVariants as faults
-use Rattle.srt_seq.specs.Terms.{Terms}
-use Rattle.srt_seq.specs.Entries.{is_between, is_name, in_limits}
+use Rattle.srt_types.specs.declared.shared.OpenFault.{OpenFault}
+use Rattle.srt_types.specs.declared.shared.OpenFault.TheVariants as faults
+use Rattle.srt_types.specs.Terms.{Terms}
+use Rattle.srt_types.specs.Entries.{is_between, is_name, in_limits}
 
 -- the name of an entry
 abbrev pub text_in : Terms → List ℕ

@@ -1,10 +1,10 @@
 -- The names of routes, in the order of their indexes.
 use Rattle.std.specs.Prelude.{◌≡◌, ℕ, Bool, true, false, List, Option, position, slice_get, None, Some, ◌&&◌}
 use Rattle.std.specs.Str.{bytes_eq}
-use Rattle.srt_seq.specs.declared.shared.Peer.{Peer}
-use Rattle.srt_seq.specs.declared.shared.Role.{Role}
-use Rattle.srt_seq.specs.Access.{AccessTerms, in_role, admits, knows}
-use Rattle.srt_seq.specs.Terms.{Terms}
+use Rattle.srt_types.specs.declared.shared.Peer.{Peer}
+use Rattle.srt_types.specs.declared.shared.Role.{Role}
+use Rattle.srt_types.specs.Access.{AccessTerms, in_role, admits, knows}
+use Rattle.srt_types.specs.Terms.{Terms}
 
 -- the name of a route, whether the route is visible, and its access rules; only visible routes receive datagrams
 pub record RouteName : Type 0 where
@@ -33,12 +33,12 @@ abbrev pub name_of : Terms → RouteName
 name_of e = shown e.name e.access
 
 -- whether the route has this name and is visible
-abbrev pub is_asked : (text : List ℕ) → RouteName → Bool
-is_asked text name = name.is_shown && bytes_eq text name.text
+abbrev pub is_requested : (text : List ℕ) → RouteName → Bool
+is_requested text name = name.is_shown && bytes_eq text name.text
 
 -- the index of the visible route with this name
 abbrev pub index_of : (names : List RouteName) → (text : List ℕ) → Option ℕ
-index_of names text = position (is_asked text) names
+index_of names text = position (is_requested text) names
 
 -- whether there is a route, and it is visible
 abbrev pub shows : Option RouteName → Bool
@@ -51,7 +51,7 @@ is_shown_at names r = shows (slice_get names r)
 
 -- whether there is a route, it has this name, and it is visible
 abbrev pub has_name : (text : List ℕ) → Option RouteName → Bool
-has_name text (Some name) = is_asked text name
+has_name text (Some name) = is_requested text name
 has_name text None = false
 
 -- whether there is a route with this index, it has this name, and it is visible

@@ -4,7 +4,7 @@ use Rattle.std.specs.Prelude.{◌≡◌, ℕ, true, List, Option, Some, is_some,
 use Rattle.std.specs.Option.{option_map}
 use Rattle.std.specs.Map.{lookup}
 use Rattle.std.specs.Str.{bytes_eq}
-use Rattle.srt_seq.specs.Access.{access_of}
+use Rattle.srt_types.specs.Access.{access_of}
 use Rattle.srt_lobby.specs.declared.names.NamedRoute.{NamedRoute}
 use Rattle.srt_lobby.specs.RouteNames.{RouteName, has_name_at}
 

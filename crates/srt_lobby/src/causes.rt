@@ -1,8 +1,8 @@
 //! Why a conclusion is refused with 1002, for monitoring. `classify` calls nothing in this file.
 
 ghost use Rattle.std.specs.Prelude.{◌≡◌, Ok};
-ghost use Rattle.srt_seq.specs.Access.{role_access_of};
-ghost use Rattle.srt_seq.specs.Items.{Datagram};
+ghost use Rattle.srt_types.specs.Access.{role_access_of};
+ghost use Rattle.srt_types.specs.Items.{Datagram};
 ghost use Rattle.srt_packet.specs.View.{packet_of};
 ghost use Rattle.srt_packet.specs.Reading.{packet_in};
 ghost use Rattle.srt_hs.specs.View.{handshake_of};
@@ -16,7 +16,7 @@ use crate::Names;
 use crate::lobby::reason;
 use srt_hs::{HsRef, stream_id};
 use srt_packet::{Kind, PacketRef, decode};
-use srt_seq::{NotAdmitted, Peer, Role, RoleAccess};
+use srt_types::{NotAdmitted, Peer, Role, RoleAccess};
 
 /// Returns why a caller with this Stream ID isn't admitted in this role.
 fn cause_in_role(access: &RoleAccess, role: Role, peer: Peer, bytes: &[u8]) -> Option<NotAdmitted>

@@ -4,12 +4,12 @@
 ghost use Rattle.std.specs.Prelude.{◌≡◌, map};
 ghost use Rattle.std.specs.List.{list_any, list_all};
 ghost use Rattle.std.specs.Str.{bytes_eq};
-ghost use Rattle.srt_seq.specs.Terms.{terms_of};
-ghost use Rattle.srt_seq.specs.Entries.{in_limits};
+ghost use Rattle.srt_types.specs.Terms.{terms_of};
+ghost use Rattle.srt_types.specs.Entries.{in_limits};
 ghost use Rattle.srt_lobby.specs.Opening.{is_taken, is_fresh, are_names, are_in_limits, fault_of};
 
-use srt_seq::limits::MAX_ROUTES;
-use srt_seq::{Entry, OpenFault, is_between, is_name};
+use srt_types::product_limits::MAX_ROUTES;
+use srt_types::{Entry, OpenFault, is_between, is_name};
 
 fn has_any(name: &[u8], entries: &[Entry]) -> bool
     ensures { result ≡ list_any (λ e. bytes_eq (terms_of e).name name.now) entries.now }

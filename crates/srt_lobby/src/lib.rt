@@ -6,7 +6,7 @@
 //! (`srt_route` does).
 //!
 //! Types: `Names`, the routes' names with their indexes; `NewName`, the allocated name of a route to be added; `Class`,
-//! what is done with a datagram; `Cause`, why it is dropped. `NotAdmitted` of `srt_seq` is the reason for a refusal
+//! what is done with a datagram; `Cause`, why it is dropped. `NotAdmitted` of `srt_types` is the reason for a refusal
 //! with 1002.
 //!
 //! Functions: `Names::open` once; then `classify` for each datagram, and `add`, `hide` and `show` when routes are added

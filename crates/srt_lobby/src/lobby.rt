@@ -1,7 +1,7 @@
 //! The classification of a datagram, test by test (section 4.3.1; the order is our choice).
 
 ghost use Rattle.std.specs.Prelude.{◌≡◌, ℕ, ◌^◌, ◌<◌, ◌≤◌, [], length};
-ghost use Rattle.srt_seq.specs.Items.{Datagram};
+ghost use Rattle.srt_types.specs.Items.{Datagram};
 ghost use Rattle.srt_packet.specs.View.{packet_of};
 ghost use Rattle.srt_packet.specs.Reading.{packet_in};
 ghost use Rattle.srt_hs.specs.Text.{blocks_text};
@@ -10,7 +10,7 @@ ghost use Rattle.srt_hs.specs.Reading.{handshake_in};
 ghost use Rattle.srt_streamid.specs.Reading.{ask_in, key_of};
 ghost use Rattle.srt_cookie.specs.Cookie.{secret_bytes};
 ghost use Rattle.srt_lobby.specs.Names.{names_of, knows_caller_at};
-ghost use Rattle.srt_lobby.specs.Lobby.{answer_bytes, answered as is_answered, refused as is_refused, reason_of, admitted, route_named, route_asked};
+ghost use Rattle.srt_lobby.specs.Lobby.{answer_bytes, answered as is_answered, refused as is_refused, reason_of, admitted, route_named, route_requested};
 ghost use Rattle.srt_lobby.specs.Lobby.{if_known};
 ghost use Rattle.srt_lobby.specs.Lobby.{by_kind, of_conclusion, of_handshake, of_body, to_session, of_packet, class_of};
 
@@ -18,7 +18,7 @@ use crate::{Cause, Class, Names};
 use srt_cookie::{Secret, cookie, minute_of, right};
 use srt_hs::{AnswerKind, HsAnswer, HsKind, HsRef, RefusalCode, stream_id, write};
 use srt_packet::{Kind, PacketRef, decode};
-use srt_seq::{Peer, Role, write_at};
+use srt_types::{Peer, Role, write_at};
 
 /// Returns the 64 bytes of a handshake packet with this answer, to the caller's socket `id`, with timestamp 0.
 fn answer(id: u32, initial: u32, what: AnswerKind) -> [u8; 64]
@@ -106,7 +106,7 @@ fn route_by_text(names: &Names, peer: Peer, bytes: &[u8]) -> Option<usize>
 
 /// Returns the index of the route that a conclusion requests; None also if it has no Stream ID.
 fn route_of(names: &Names, peer: Peer, hs: &HsRef<'_>) -> Option<usize>
-    ensures { result ≡ route_asked (names_of names.now) peer (handshake_of hs.now).blocks.stream_id }
+    ensures { result ≡ route_requested (names_of names.now) peer (handshake_of hs.now).blocks.stream_id }
 {
     let mut text = [0; 512];
     match stream_id(hs, &mut text) {

@@ -4,15 +4,15 @@ ghost use Rattle.std.specs.Prelude.{◌≡◌, ◌+◌, ◌<◌, ◌≤◌, leng
 ghost use Rattle.std.specs.Map.{set_value};
 ghost use Rattle.indexmap.specs.IndexMap.{spare};
 ghost use Rattle.std.specs.Str.{bytes_eq};
-ghost use Rattle.srt_seq.specs.Access.{role_access_of, admits};
+ghost use Rattle.srt_types.specs.Access.{role_access_of, admits};
 ghost use Rattle.srt_streamid.specs.Reading.{key_of};
 ghost use Rattle.srt_lobby.specs.Tables.{name_in, index_in, Enters, HasShown, HasNamed, HasTexts};
 
 use crate::entry_faults::fault;
 use crate::new_name::NewName;
 use indexmap::IndexMap;
-use srt_seq::limits::MAX_ROUTES;
-use srt_seq::{Access, Entry, OpenFault, Peer, Role, RoleAccess, is_name};
+use srt_types::product_limits::MAX_ROUTES;
+use srt_types::{Access, Entry, OpenFault, Peer, Role, RoleAccess, is_name};
 use std::alloc::{AllocError, Global};
 
 /// The name of a route, whether the route is visible, and its access rules. Only visible routes receive datagrams.
@@ -36,6 +36,7 @@ pub struct Names {
     // space for 511 routes, and for as many names in the table
     pub(crate) ghost places: { 511 ≤ vec_capacity routes },
     pub(crate) ghost room: { 511 ≤ length routes.items + spare latest },
+    pub(crate) ghost few: { length routes.items ≤ 511 },
     // the content of the table
     pub(crate) ghost shown: { HasShown (map name_in routes.items) (index_in (λ key. key.items) latest.entries) },
     pub(crate) ghost named: { HasNamed (map name_in routes.items) (index_in (λ key. key.items) latest.entries) },
@@ -78,8 +79,8 @@ fn is_admitted(access: &RoleAccess, peer: Peer, bytes: &[u8]) -> bool
 
 impl Names {
     ghost use Rattle.std.specs.Prelude.{◌↔◌, ◌++◌, ◌∷◌, [], true, None, Some, Err, IsTrue, IfOk, IfErr, OnOk, OnErr};
-    ghost use Rattle.srt_seq.specs.declared.shared.OpenFault.{OpenFault as TheFault};
-    ghost use Rattle.srt_seq.specs.Terms.{terms_of};
+    ghost use Rattle.srt_types.specs.declared.shared.OpenFault.{OpenFault as TheFault};
+    ghost use Rattle.srt_types.specs.Terms.{terms_of};
     ghost use Rattle.srt_lobby.specs.Opening.{are_names, fault_of};
     ghost use Rattle.srt_lobby.specs.Names.{as_shown, name_of, names_of, new_name, index_of, is_shown_at};
     ghost use Rattle.srt_lobby.specs.Names.{knows_caller_at, admits_caller_at};
@@ -154,9 +155,10 @@ impl Names {
         }
     }
 
-    /// Returns the number of routes, visible or hidden.
+    /// Returns the number of routes, visible or hidden: at most 511.
     pub fn len(&self) -> usize
-        ensures { result ≡ length (names_of self.now) }
+        ensures count { result ≡ length (names_of self.now) }
+        ensures few { result ≤ 511 }
     {
         self.routes.len()
     }

@@ -2,7 +2,7 @@
 
 ghost use Rattle.std.specs.Prelude.{◌≡◌};
 
-use srt_seq::{Access, Entry};
+use srt_types::{Access, Entry};
 use std::alloc::{AllocError, Global};
 
 /// The name of a route to be added, with its access rules: all the memory that `Names::append` needs. One thread may
@@ -18,7 +18,7 @@ pub struct NewName {
 
 impl NewName {
     ghost use Rattle.std.specs.Prelude.{IfOk};
-    ghost use Rattle.srt_seq.specs.Terms.{terms_of};
+    ghost use Rattle.srt_types.specs.Terms.{terms_of};
     ghost use Rattle.srt_lobby.specs.Names.{as_hidden, name_of, new_name};
 
     /// Returns the name of a route with this entry. Allocates two copies of the name, and one of the access rules. The

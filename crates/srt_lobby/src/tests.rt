@@ -8,7 +8,7 @@ mod causes;
 
 use crate::{Cause, Class, Names, classify};
 use srt_cookie::Secret;
-use srt_seq::{Access, Entry, MOMENT_END, Mode, OpenFault, Peer, Rules};
+use srt_types::{Access, Entry, MOMENT_END, Mode, OpenFault, Peer, Rules};
 use std::alloc::Global;
 use std::process::Abort;
 use std::test::Fail;
@@ -495,10 +495,10 @@ fn there_are_511_routes_at_most(rt: HostRuntime) -> Result<(), Fail> {
     let class = classify(&secret(), &names, near(5000), &last, 0);
     assert_eq!(rt; class, Class::Route(510));
     // `route-510`
-    let asked = "00050003 74756f72 31352d65 00000030";
+    let requested = "00050003 74756f72 31352d65 00000030";
     let conclusion = bytes_of(
         alloc,
-        &[HEADER, CONCLUSION, COOKIE_0, ADDRESS, HSREQ, asked],
+        &[HEADER, CONCLUSION, COOKIE_0, ADDRESS, HSREQ, requested],
     )?;
     let class = classify(&secret(), &names, near(5000), &conclusion, 0);
     assert_eq!(rt; class, Class::Route(510));
@@ -509,7 +509,7 @@ fn there_are_511_routes_at_most(rt: HostRuntime) -> Result<(), Fail> {
 
 /// If an allocation fails, the opening returns that fault and frees its memory, and the next attempt is unaffected.
 #[test]
-fn refused_memory_is_told(rt: HostRuntime) -> Result<(), Fail> {
+fn refused_memory_is_reported(rt: HostRuntime) -> Result<(), Fail> {
     let alloc = rt.alloc();
     let all = entries(alloc, &["studio", "files"])?;
     match Names::open(alloc, &all) {

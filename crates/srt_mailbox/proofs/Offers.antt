@@ -1,7 +1,7 @@
 -- Each operation preserves the rule of the inbox.
 use Rattle.std.proofs.Common.{◌≡◌, ℕ, Bool, true, false, List, [], ◌∷◌, ◌++◌, sym, refl, ap, ◌∙◌, append_assoc, append-nil}
 use Rattle.crossbeam_queue.specs.Fifo.{Pushes, Pops, Forks, Merges, Learns}
-use Rattle.srt_seq.specs.declared.shared.Item.{Item}
+use Rattle.srt_types.specs.declared.shared.Item.{Item}
 use Rattle.srt_mailbox.specs.declared.inbox_rule.InboxEntry.{InboxEntry}
 use Rattle.srt_mailbox.specs.declared.inbox_rule.InboxView.{InboxView}
 use Rattle.srt_mailbox.specs.Inbox.{keep, skip, polled_of, ticked_of, view_of, fresh, nobody, without_poller, poller, with_poller}

@@ -17,7 +17,7 @@ use Rattle.std.proofs.Crossing as heap
 use Rattle.std.specs.contracts.alloc.Global as heap_c
 use Rattle.std.specs.contracts.impls.GlobalAllocator.TheImpl as heap_impl
 use denote.Builtin as builtin
-use Rattle.srt_seq.specs.contracts.shared.Entry as entry
+use Rattle.srt_types.specs.contracts.shared.Entry as entry
 use Rattle.srt_route.proofs.replies.Reply.TheSendSync as reply_is
 use Rattle.srt_mailbox.specs.contracts.inbox_rule.InboxView as inbox_view
 use Rattle.srt_mailbox.specs.contracts.inbox_rule.InboxEntry as inbox_entry

@@ -3,11 +3,11 @@ use Rattle.std.proofs.Common.{◌≡◌, ℕ, suc, true, ◌+◌, ◌-◌, ◌^�
 use Rattle.std.proofs.Common.{option_map, option_to_list, refl, sym, ap, ◌∙◌, append_assoc, append-nil, subst}
 use Rattle.std.proofs.lemmas.List.{map-append, length-append}
 use Rattle.std.specs.Global.{Box}
-use Rattle.srt_seq.specs.declared.shared.Item.{Item as TheItem}
-use Rattle.srt_seq.specs.Items.{Datagram, Item, told}
-use Rattle.srt_seq.specs.declared.shared.Turned.{Turned}
-use Rattle.srt_seq.specs.declared.shared.Turned.TheVariants.{Moved, Applied, Blocked, Idle}
-use Rattle.srt_seq.specs.Terms.{Terms}
+use Rattle.srt_types.specs.declared.shared.Item.{Item as TheItem}
+use Rattle.srt_types.specs.Items.{Datagram, Item, input_of}
+use Rattle.srt_types.specs.declared.shared.Turned.{Turned}
+use Rattle.srt_types.specs.declared.shared.Turned.TheVariants.{Moved, Applied, Blocked, Idle}
+use Rattle.srt_types.specs.Terms.{Terms}
 use Rattle.srt_route.specs.declared.replies.Reply.{Reply}
 use Rattle.srt_route.specs.declared.route.Route.{Route}
 use Rattle.srt_route.specs.Route.{reply, solo}
@@ -15,18 +15,18 @@ use Rattle.srt_route.specs.Written.{written}
 use Rattle.srt_route.specs.Stands.{waiting}
 use Rattle.srt_mailbox.specs.declared.inbox_rule.InboxEntry.{InboxEntry}
 use Rattle.srt_mailbox.specs.Counts.{counted}
-use Rattle.srt_mailbox.specs.Inbox.{told_before}
+use Rattle.srt_mailbox.specs.Inbox.{reported_before}
 use Rattle.srt_mailbox.specs.Outbox.{replies_in}
 use Rattle.srt_mailbox.specs.Cells.{CellIdentity, Bears}
 use Rattle.srt_mailbox.specs.Evidence.{Refused, EmptyOnceMore, FullOnceMore}
 use Rattle.srt_mailbox.specs.Runs.{Run, waiting_at, AppliedOne, MovedOne, WasBlocked, WasIdle, TurnedAs}
-use Rattle.srt_mailbox.specs.Asked.{Answer, answer, passes}
+use Rattle.srt_mailbox.specs.Queried.{Answer, answer, passes}
 use Rattle.srt_mailbox.specs.Visits.{turns_of}
 
-pub told_last : (earlier : List Item) (taken : List InboxEntry) (x : InboxEntry)
-    → told_before earlier (taken ++ x ∷ []) ≡ told x.item ∷ told_before earlier taken
-told_last earlier [] x = refl
-told_last earlier (m ∷ ms) x = told_last (told m.item ∷ earlier) ms x
+pub reported_last : (earlier : List Item) (taken : List InboxEntry) (x : InboxEntry)
+    → reported_before earlier (taken ++ x ∷ []) ≡ input_of x.item ∷ reported_before earlier taken
+reported_last earlier [] x = refl
+reported_last earlier (m ∷ ms) x = reported_last (input_of m.item ∷ earlier) ms x
 
 -- if no reply waits, no reply was returned by the outbox
 pub none_held : (held : Option (Box Reply)) (route : Route) → waiting_at held route ≡ [] → map written (replies_in (option_to_list held)) ≡ []
@@ -36,9 +36,9 @@ none_held (Some b) route none = absurd (let e : (written b.value ∷ (waiting ro
 -- the replies to a message that was processed while none waited are all that wait; the message is given by another
 -- expression, j
 pub waits_next : (e : Terms) (r : ℕ) (items : List Item) (held : Option (Box Reply)) (old new : Route) (i j : TheItem)
-    → waiting_at held old ≡ [] → waiting new ≡ reply e r (told i ∷ items) → i ≡ j → waiting_at held new ≡ reply e r (told j ∷ items)
+    → waiting_at held old ≡ [] → waiting new ≡ reply e r (input_of i ∷ items) → i ≡ j → waiting_at held new ≡ reply e r (input_of j ∷ items)
 waits_next e r items held old new i j none replies same =
-    ap (λ l. l ++ waiting new) (none_held held old none) ∙ replies ∙ ap (λ (k : TheItem). reply e r (told k ∷ items)) same
+    ap (λ l. l ++ waiting new) (none_held held old none) ∙ replies ∙ ap (λ (k : TheItem). reply e r (input_of k ∷ items)) same
 
 pub applied_replays : (e : Terms) (r : ℕ) (put old new : List Datagram) (items : List Item) (item : Item)
     → put ++ old ≡ solo e r items → old ≡ [] → new ≡ reply e r (item ∷ items) → put ++ new ≡ solo e r (item ∷ items)
@@ -93,8 +93,8 @@ passes_more : (r n : ℕ) (earlier : List Answer) → passes r (n + 1) earlier �
 passes_more r n earlier = let next : n + 1 ≡ suc n = omega arith in ap (λ (m : ℕ). passes r m earlier) next
 
 -- the answers of a gate that permitted n steps and then one more
-pub asked_more : (r n : ℕ) (old mid new : Option (List Answer))
+pub requested_more : (r n : ℕ) (old mid new : Option (List Answer))
     → mid ≡ option_map (passes r n) old → new ≡ option_map (λ xs. answer r true ∷ xs) mid → new ≡ option_map (passes r (n + 1)) old
-asked_more r n None mid new first next = next ∙ ap (option_map (λ (xs : List Answer). answer r true ∷ xs)) first
-asked_more r n (Some xs) mid new first next =
+requested_more r n None mid new first next = next ∙ ap (option_map (λ (xs : List Answer). answer r true ∷ xs)) first
+requested_more r n (Some xs) mid new first next =
     next ∙ ap (option_map (λ (ys : List Answer). answer r true ∷ ys)) first ∙ ap (λ (ys : List Answer). Some ys) (sym (passes_more r n xs))

@@ -1,7 +1,7 @@
 -- The identity of a cell's route, and of the two queues that it is between.
 use Rattle.std.specs.Prelude.{◌≡◌, ℕ}
 use Rattle.atomic_table.specs.Seated.{TableId}
-use Rattle.srt_seq.specs.Terms.{Terms}
+use Rattle.srt_types.specs.Terms.{Terms}
 use Rattle.srt_mailbox.specs.Ends.{Producer, Drained}
 use Rattle.srt_mailbox.specs.Runs.{Run}
 

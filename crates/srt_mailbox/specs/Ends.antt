@@ -1,7 +1,7 @@
 -- The ends of a route's queues, as contracts see them.
 use Rattle.std.specs.Prelude.{◌≡◌, ℕ, List, [], ◌++◌, length}
 use Rattle.atomic_table.specs.Seated.{TableId}
-use Rattle.srt_seq.specs.declared.shared.Item.{Item}
+use Rattle.srt_types.specs.declared.shared.Item.{Item}
 use Rattle.srt_route.specs.declared.replies.Reply.{Reply}
 use Rattle.srt_mailbox.specs.declared.inbox_rule.InboxEntry.{InboxEntry}
 use Rattle.srt_mailbox.specs.Inbox.{polled_of, ticked_of}

@@ -2,14 +2,14 @@
 use Rattle.std.specs.Prelude.{◌≡◌, ℕ, List}
 use Rattle.atomic_table.specs.Seated.{TableId}
 use Rattle.crossbeam_queue.specs.Passes.{Pass, view}
-use Rattle.srt_seq.specs.declared.shared.Item.{Item}
+use Rattle.srt_types.specs.declared.shared.Item.{Item}
 use Rattle.srt_route.specs.declared.replies.Reply.{Reply}
 use Rattle.srt_mailbox.specs.Counts.{Grew}
 
 -- `asked` is the pass at the time of the refusal: a pass of the same queue, which had performed the same operations as
 -- `now`
-abbrev pub AskedBy : {T V : Type 0} → (asked now : Pass T V) → Type 0
-AskedBy asked now = (asked.table_id ≡ now.table_id) × (view asked ≡ view now)
+abbrev pub QueriedBy : {T V : Type 0} → (requested now : Pass T V) → Type 0
+QueriedBy requested now = (requested.table_id ≡ now.table_id) × (view requested ≡ view now)
 
 -- which inbox was full, and what the calling end had put into it by then, oldest first: as the poller, and as the
 -- clock

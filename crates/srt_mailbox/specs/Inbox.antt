@@ -3,8 +3,8 @@
 use Rattle.std.specs.Prelude.{◌≡◌, ℕ, Bool, true, false, List, [], ◌∷◌, ◌++◌}
 use mathlib.Core.Option.{some}
 use lib.ListN.{get_elem?}
-use Rattle.srt_seq.specs.declared.shared.Item.{Item}
-use Rattle.srt_seq.specs.Items.{Item as ToldItem, told}
+use Rattle.srt_types.specs.declared.shared.Item.{Item}
+use Rattle.srt_types.specs.Items.{Item as ReportedInput, input_of}
 use Rattle.srt_mailbox.specs.declared.inbox_rule.InboxEntry.{InboxEntry}
 use Rattle.srt_mailbox.specs.declared.inbox_rule.InboxView.{InboxView}
 
@@ -29,12 +29,12 @@ ticked_of [] = []
 ticked_of (m ∷ ms) = skip m.polled m.item (ticked_of ms)
 
 -- the received messages as the route's definition has them, newest first, prepended to earlier ones
-abbrev pub told_before : List ToldItem → List InboxEntry → List ToldItem
-told_before earlier [] = earlier
-told_before earlier (m ∷ ms) = told_before (told m.item ∷ earlier) ms
+abbrev pub reported_before : List ReportedInput → List InboxEntry → List ReportedInput
+reported_before earlier [] = earlier
+reported_before earlier (m ∷ ms) = reported_before (input_of m.item ∷ earlier) ms
 
-abbrev pub applied : List InboxEntry → List ToldItem
-applied taken = told_before [] taken
+abbrev pub applied : List InboxEntry → List ReportedInput
+applied taken = reported_before [] taken
 
 abbrev pub view_of : (polls ticks takes : Bool) → (polled ticked : List Item) → (taken : List InboxEntry) → InboxView
 view_of p q r ps qs ts = record { polls = p; ticks = q; takes = r; polled = ps; ticked = qs; taken = ts }

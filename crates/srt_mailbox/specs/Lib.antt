@@ -7,7 +7,7 @@ pub mod Boxes
 pub mod Evidence
 pub mod Runs
 pub mod Claims
-pub mod Asked
+pub mod Queried
 pub mod Visits
 pub mod Cells
 pub mod Looks

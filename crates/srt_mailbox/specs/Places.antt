@@ -16,8 +16,8 @@ module _ {X : Type 0} {g : Ghosts X} where
   places_of reader = reader.places.now
 
   -- the routes that the reader has reached, in the order of their places
-  abbrev pub came : SeatReader X g → List CellIdentity
-  came reader = map (λ t. identity_in t.value.cell) reader.tokens.items
+  abbrev pub arrived : SeatReader X g → List CellIdentity
+  arrived reader = map (λ t. identity_in t.value.cell) reader.tokens.items
 
   -- the names of the locks of its places, in their order
   abbrev pub locks_of : SeatReader X g → List ℕ

@@ -2,10 +2,10 @@
 use Rattle.std.specs.Prelude.{◌≡◌, ℕ, Option, List, [], ◌∷◌, ◌++◌, map, option_to_list}
 use Rattle.std.specs.Global.{Box}
 use Rattle.crossbeam_queue.specs.Fifo.{Held}
-use Rattle.srt_seq.specs.declared.shared.Turned.{Turned}
-use Rattle.srt_seq.specs.declared.shared.Turned.TheVariants.{Moved, Applied, Blocked, Idle}
-use Rattle.srt_seq.specs.Items.{Datagram, told}
-use Rattle.srt_seq.specs.Terms.{Terms}
+use Rattle.srt_types.specs.declared.shared.Turned.{Turned}
+use Rattle.srt_types.specs.declared.shared.Turned.TheVariants.{Moved, Applied, Blocked, Idle}
+use Rattle.srt_types.specs.Items.{Datagram, input_of}
+use Rattle.srt_types.specs.Terms.{Terms}
 use Rattle.srt_route.specs.declared.replies.Reply.{Reply}
 use Rattle.srt_route.specs.Route.{reply, solo}
 use Rattle.srt_route.specs.Written.{written}
@@ -49,7 +49,7 @@ AppliedOne a b =
     ×
     (b
     ≡ run a.terms a.index (consumer a.inbox.queue a.inbox.capacity (a.inbox.taken ++ x ∷ [])) a.outbox
-    (reply a.terms a.index (told x.item ∷ applied a.inbox.taken)) a.refusals)
+    (reply a.terms a.index (input_of x.item ∷ applied a.inbox.taken)) a.refusals)
 
 -- the oldest waiting reply was put into the outbox
 abbrev pub MovedOne : Run → Run → Type 0

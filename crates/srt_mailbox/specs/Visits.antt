@@ -1,26 +1,26 @@
 -- What a gate was asked for the turns of a route, and how many turns the route made.
 use Rattle.std.specs.Prelude.{◌≡◌, ◌⊎◌, ℕ, true, false, Option, None, Some, List, ◌∷◌, ◌+◌, length, option_map}
-use Rattle.srt_seq.specs.declared.shared.Turned.TheVariants.{Moved, Applied, Blocked, Idle}
+use Rattle.srt_types.specs.declared.shared.Turned.TheVariants.{Moved, Applied, Blocked, Idle}
 use Rattle.srt_mailbox.specs.declared.gates.Served.{Served}
 use Rattle.srt_mailbox.specs.declared.gates.Served.TheVariants.{Turned, GateRefused, ClaimedElsewhere}
 use Rattle.srt_mailbox.specs.declared.gates.Visit.{Visit}
-use Rattle.srt_mailbox.specs.Asked.{Answer, answer, passes}
+use Rattle.srt_mailbox.specs.Queried.{Answer, answer, passes}
 use Rattle.srt_mailbox.specs.Evidence.{EmptyOnceMore, FullOnceMore}
 use Rattle.srt_mailbox.specs.Runs.{Run, TurnedAs}
 
 -- the query for the last step of a batch, or for a single step, before the earlier answers
-abbrev pub asked_last : (route : ℕ) → Served → List Answer → List Answer
-asked_last r (Turned t) earlier = answer r true ∷ earlier
-asked_last r GateRefused earlier = answer r false ∷ earlier
-asked_last r ClaimedElsewhere earlier = earlier
+abbrev pub queried_last : (route : ℕ) → Served → List Answer → List Answer
+queried_last r (Turned t) earlier = answer r true ∷ earlier
+queried_last r GateRefused earlier = answer r false ∷ earlier
+queried_last r ClaimedElsewhere earlier = earlier
 
-abbrev pub asked_at_end : (route : ℕ) → Option Served → List Answer → List Answer
-asked_at_end r None earlier = earlier
-asked_at_end r (Some end) earlier = asked_last r end earlier
+abbrev pub queried_at_end : (route : ℕ) → Option Served → List Answer → List Answer
+queried_at_end r None earlier = earlier
+queried_at_end r (Some end) earlier = queried_last r end earlier
 
 -- the queries in a batch: one for each step, and one for its end
-abbrev pub asked_in : (route : ℕ) → Visit → List Answer → List Answer
-asked_in r visit earlier = asked_at_end r visit.end (passes r visit.turns earlier)
+abbrev pub queried_in : (route : ℕ) → Visit → List Answer → List Answer
+queried_in r visit earlier = queried_at_end r visit.end (passes r visit.turns earlier)
 
 -- the number of steps that a route has made: of messages received, and of replies put
 abbrev pub turns_of : Run → ℕ
@@ -52,9 +52,9 @@ abbrev pub nothing_done : Visit
 nothing_done = record { turns = 0; moved = 0; end = Some (Turned Idle) }
 
 -- each turn of the visit is one for which the gate was asked about one route; or the gate was asked nothing, and the visit is that of an empty place
-abbrev pub AskedOrEmpty : Visit → (old new : Option (List Answer)) → Type 0
-AskedOrEmpty v old new = ((r : ℕ) × (new ≡ option_map (asked_in r v) old)) ⊎ ((new ≡ old) × (v ≡ nothing_done))
+abbrev pub QueriedOrEmpty : Visit → (old new : Option (List Answer)) → Type 0
+QueriedOrEmpty v old new = ((r : ℕ) × (new ≡ option_map (queried_in r v) old)) ⊎ ((new ≡ old) × (v ≡ nothing_done))
 
 -- the same of one turn
-abbrev pub AskedOnceOrEmpty : Served → (old new : Option (List Answer)) → Type 0
-AskedOnceOrEmpty s old new = ((r : ℕ) × (new ≡ option_map (asked_last r s) old)) ⊎ ((new ≡ old) × (s ≡ Turned Idle))
+abbrev pub QueriedOnceOrEmpty : Served → (old new : Option (List Answer)) → Type 0
+QueriedOnceOrEmpty s old new = ((r : ℕ) × (new ≡ option_map (queried_last r s) old)) ⊎ ((new ≡ old) × (s ≡ Turned Idle))

@@ -2,7 +2,7 @@
 //! wait for it.
 
 ghost use Rattle.std.specs.Prelude.{◌≡◌, ◌≢◌, ◌≤◌, true, false, Some, None, IfOk, IfErr, option_map};
-ghost use Rattle.srt_seq.specs.Terms.{terms_of};
+ghost use Rattle.srt_types.specs.Terms.{terms_of};
 ghost use Rattle.srt_mailbox.specs.Counts.{Grew};
 ghost use Rattle.srt_mailbox.specs.Cells.{CellIdentity, Bears};
 ghost use Rattle.srt_mailbox.specs.Looks.{Seen, WasShown, OneWasShown, SawMore};
@@ -16,7 +16,7 @@ use crate::outbox_rule::Outbox;
 use crate::running::Running;
 use crate::slots::{TakenElsewhere, take_out};
 use counted_slot::{Counted, Fits};
-use srt_seq::Entry;
+use srt_types::Entry;
 use std::marker::Model;
 use std::snapshot::Snapshot;
 use std::sync::{Arc, Wait};
@@ -34,7 +34,7 @@ pub struct CellTag {
 
 impl Model for CellTag {
     ghost use Rattle.std.specs.Arc.{arc_value};
-    ghost use Rattle.srt_seq.specs.Terms.{terms_of};
+    ghost use Rattle.srt_types.specs.Terms.{terms_of};
     ghost use Rattle.srt_mailbox.specs.Cells.{CellIdentity, identity_of};
 
     ghost Value = { CellIdentity };
@@ -69,7 +69,7 @@ pub struct RouteCell {
 
 impl RouteCell {
     ghost use Rattle.srt_mailbox.specs.Identities.{identity_in};
-    ghost use Rattle.srt_mailbox.specs.Visits.{asked_in, asked_last, ServedAs, VisitedAs};
+    ghost use Rattle.srt_mailbox.specs.Visits.{queried_in, queried_last, ServedAs, VisitedAs};
 
     /// Makes a cell that holds this route, with a free claim word. `index` is the route's; gates are queried for it.
     pub(crate) fn new(index: usize, boxed: Boxed, label: &CellTag) -> RouteCell
@@ -135,7 +135,7 @@ impl RouteCell {
     ) -> Result<(Served, GivenBack), TakenElsewhere>
         ensures made { IfOk result (λ r. Bears (identity_in self.now) r.1.was × ServedAs r.0 r.1.was r.1.now) }
         ensures held { IfOk result (λ r. r.0 ≡ GateRefused → Grew (G.held gate.old) (G.held gate.new)) }
-        ensures asked { IfOk result (λ r. G.asked gate.new ≡ option_map (asked_last (identity_in self.now).index r.0) (G.asked gate.old)) }
+        ensures requested { IfOk result (λ r. G.requested gate.new ≡ option_map (queried_last (identity_in self.now).index r.0) (G.requested gate.old)) }
         ensures busy { IfErr result (λ _. gate.new ≡ gate.old) }
     {
         let mut claimed = self.claim()?;
@@ -159,7 +159,7 @@ impl RouteCell {
         ensures held { IfOk result (λ r. r.0.end ≡ Some GateRefused → Grew (G.held gate.old) (G.held gate.new)) }
         ensures passed { IfOk result (λ r. r.0.end ≢ Some GateRefused → G.held gate.new ≡ G.held gate.old) }
         ensures claimed { IfOk result (λ r. r.0.end ≢ Some ClaimedElsewhere) }
-        ensures asked { IfOk result (λ r. G.asked gate.new ≡ option_map (asked_in (identity_in self.now).index r.0) (G.asked gate.old)) }
+        ensures requested { IfOk result (λ r. G.requested gate.new ≡ option_map (queried_in (identity_in self.now).index r.0) (G.requested gate.old)) }
         ensures busy { IfErr result (λ _. gate.new ≡ gate.old) }
     {
         let mut claimed = self.claim()?;
@@ -190,7 +190,7 @@ impl RouteCell {
     /// route is returned to the cell in every case. Doesn't allocate and doesn't wait for the route.
     pub fn serve<R: Wait, G: Gate>(&self, rt: &R, gate: &mut G) -> Served
         ensures held { result ≡ GateRefused → Grew (G.held gate.old) (G.held gate.new) }
-        ensures asked { G.asked gate.new ≡ option_map (asked_last (identity_in self.now).index result) (G.asked gate.old) }
+        ensures requested { G.requested gate.new ≡ option_map (queried_last (identity_in self.now).index result) (G.requested gate.old) }
     {
         match self.serve_claimed(rt, gate) {
             Ok((served, _)) => served,
@@ -208,7 +208,7 @@ impl RouteCell {
         ensures held { result.end ≡ Some GateRefused → Grew (G.held gate.old) (G.held gate.new) }
         ensures passed { result.end ≢ Some GateRefused → G.held gate.new ≡ G.held gate.old }
         ensures busy { result.end ≡ Some ClaimedElsewhere → (result.turns ≡ 0) × (gate.new ≡ gate.old) }
-        ensures asked { G.asked gate.new ≡ option_map (asked_in (identity_in self.now).index result) (G.asked gate.old) }
+        ensures requested { G.requested gate.new ≡ option_map (queried_in (identity_in self.now).index result) (G.requested gate.old) }
     {
         match self.visit_claimed(rt, gate, most) {
             Ok((visit, _)) => visit,

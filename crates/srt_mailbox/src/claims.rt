@@ -7,7 +7,7 @@ ghost use Rattle.srt_mailbox.specs.Claims.{claimed_run};
 ghost use Rattle.srt_mailbox.specs.Counts.{Grew};
 ghost use Rattle.srt_mailbox.specs.Cells.{CellIdentity, Bears};
 ghost use Rattle.srt_mailbox.specs.Looks.{WasShown};
-ghost use Rattle.srt_mailbox.specs.Visits.{asked_in, asked_last, ServedAs, VisitedAs};
+ghost use Rattle.srt_mailbox.specs.Visits.{queried_in, queried_last, ServedAs, VisitedAs};
 ghost use Rattle.srt_mailbox.specs.declared.gates.Served.TheVariants.{GateRefused, ClaimedElsewhere};
 
 use crate::cells::Boxed;
@@ -68,7 +68,7 @@ impl Claimed {
         ensures bears { (n : CellIdentity) → Bears n self.old.now → Bears n self.new.now }
         ensures turned { ServedAs result self.old.now self.new.now }
         ensures held { result ≡ GateRefused → Grew (G.held gate.old) (G.held gate.new) }
-        ensures asked { G.asked gate.new ≡ option_map (asked_last route result) (G.asked gate.old) }
+        ensures requested { G.requested gate.new ≡ option_map (queried_last route result) (G.requested gate.old) }
     {
         self.boxed.running.serve(rt, route, gate)
     }
@@ -91,7 +91,7 @@ impl Claimed {
         ensures held { result.end ≡ Some GateRefused → Grew (G.held gate.old) (G.held gate.new) }
         ensures passed { result.end ≢ Some GateRefused → G.held gate.new ≡ G.held gate.old }
         ensures claimed { result.end ≢ Some ClaimedElsewhere }
-        ensures asked { G.asked gate.new ≡ option_map (asked_in route result) (G.asked gate.old) }
+        ensures requested { G.requested gate.new ≡ option_map (queried_in route result) (G.requested gate.old) }
     {
         self.boxed.running.visit(rt, route, gate, most)
     }

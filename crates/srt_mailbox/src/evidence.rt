@@ -7,7 +7,7 @@
 ghost use Rattle.std.specs.Prelude.{◌≡◌, IfErr, IfSome, MatchResult};
 ghost use Rattle.crossbeam_queue.specs.Fifo.{Held, Learns, Pops, Pushes};
 ghost use Rattle.crossbeam_queue.specs.Passes.{view, IsPassOf, IsSamePass, ruled_capacity};
-ghost use Rattle.srt_mailbox.specs.Evidence.{AskedBy};
+ghost use Rattle.srt_mailbox.specs.Evidence.{QueriedBy};
 
 use crate::inbox_rule::{InboxEntry, InboxView};
 use crate::outbox_rule::{OutboxView, Parcel};
@@ -20,23 +20,23 @@ use std::sync::Wait;
 
 /// Evidence that a queue was full at some time during a call. It has no bytes, and can't be copied.
 pub struct WasFull<T, V> {
-    asked: Snapshot<Pass<T, V>>,
+    requested: Snapshot<Pass<T, V>>,
 }
 
 impl<T, V> Drop for WasFull<T, V> {
     fn drop(self) {
-        let Self { asked: _ } = self;
+        let Self { requested: _ } = self;
     }
 }
 
 /// Evidence that a queue was empty at some time during a call. It has no bytes, and can't be copied.
 pub struct WasEmpty<T, V> {
-    asked: Snapshot<Pass<T, V>>,
+    requested: Snapshot<Pass<T, V>>,
 }
 
 impl<T, V> Drop for WasEmpty<T, V> {
     fn drop(self) {
-        let Self { asked: _ } = self;
+        let Self { requested: _ } = self;
     }
 }
 
@@ -58,14 +58,14 @@ where
     ensures queue { IsSamePass pass.old pass.new }
     ensures rule { MatchResult result (λ _. M.then (view pass.old) value (view pass.new))
         (λ back. (back.0 ≡ value) × (view pass.new ≡ view pass.old) × Held (ruled_capacity queue.now) (M.fact (view pass.old))) }
-    ensures evidence { IfErr result (λ back. AskedBy back.1.asked.value pass.old) }
+    ensures evidence { IfErr result (λ back. QueriedBy back.1.requested.value pass.old) }
 {
     match queue.push_as::<M, R>(rt, pass, value) {
         Ok(()) => Ok(()),
         Err(back) => Err((
             back,
             WasFull {
-                asked: Snapshot::of(pass),
+                requested: Snapshot::of(pass),
             },
         )),
     }
@@ -84,11 +84,11 @@ where
     requires rule { Learns P.holds pass.old.id (view pass.old) (M.fact (view pass.old)) }
     ensures queue { IsSamePass pass.old pass.new × (view pass.new ≡ view pass.old) }
     ensures rule { IfSome result (λ _. Held (ruled_capacity queue.now) (M.fact (view pass.old))) }
-    ensures evidence { IfSome result (λ full. AskedBy full.asked.value pass.old) }
+    ensures evidence { IfSome result (λ full. QueriedBy full.requested.value pass.old) }
 {
     if queue.is_full_as::<M>(pass) {
         return Some(WasFull {
-            asked: Snapshot::of(pass),
+            requested: Snapshot::of(pass),
         });
     }
     None
@@ -111,12 +111,12 @@ where
     ensures queue { IsSamePass pass.old pass.new }
     ensures rule { MatchResult result (λ value. M.then (view pass.old) value (view pass.new))
         (λ _. (view pass.new ≡ view pass.old) × Held 0 (M.fact (view pass.old))) }
-    ensures evidence { IfErr result (λ empty. AskedBy empty.asked.value pass.old) }
+    ensures evidence { IfErr result (λ empty. QueriedBy empty.requested.value pass.old) }
 {
     match queue.pop_as::<M, R>(rt, pass) {
         Some(value) => Ok(value),
         None => Err(WasEmpty {
-            asked: Snapshot::of(pass),
+            requested: Snapshot::of(pass),
         }),
     }
 }
@@ -134,11 +134,11 @@ where
     requires rule { Learns P.holds pass.old.id (view pass.old) (M.fact (view pass.old)) }
     ensures queue { IsSamePass pass.old pass.new × (view pass.new ≡ view pass.old) }
     ensures rule { IfSome result (λ _. Held 0 (M.fact (view pass.old))) }
-    ensures evidence { IfSome result (λ empty. AskedBy empty.asked.value pass.old) }
+    ensures evidence { IfSome result (λ empty. QueriedBy empty.requested.value pass.old) }
 {
     if queue.is_empty_as::<M>(pass) {
         return Some(WasEmpty {
-            asked: Snapshot::of(pass),
+            requested: Snapshot::of(pass),
         });
     }
     None
@@ -156,7 +156,7 @@ impl Model for InboxFull {
 
     ghost Value = { FoundFull };
 
-    ghost view = { λ s. found_full s.full.asked.value.table_id s.full.asked.value.me.0.client.polled s.full.asked.value.me.0.client.ticked };
+    ghost view = { λ s. found_full s.full.requested.value.table_id s.full.requested.value.me.0.client.polled s.full.requested.value.me.0.client.ticked };
 }
 
 impl InboxFull {
@@ -165,7 +165,7 @@ impl InboxFull {
     /// Restricts the evidence to an inbox.
     #[inline(always)]
     pub(crate) fn new(full: WasFull<InboxEntry, InboxView>) -> InboxFull
-        ensures { result ≡ found_full full.asked.value.table_id full.asked.value.me.0.client.polled full.asked.value.me.0.client.ticked }
+        ensures { result ≡ found_full full.requested.value.table_id full.requested.value.me.0.client.polled full.requested.value.me.0.client.ticked }
     {
         InboxFull { full }
     }
@@ -190,7 +190,7 @@ impl Model for OutboxEmpty {
 
     ghost Value = { FoundEmpty };
 
-    ghost view = { λ s. found_empty s.empty.asked.value.table_id (replies_in s.empty.asked.value.me.0.client.drained) };
+    ghost view = { λ s. found_empty s.empty.requested.value.table_id (replies_in s.empty.requested.value.me.0.client.drained) };
 }
 
 impl OutboxEmpty {
@@ -200,7 +200,7 @@ impl OutboxEmpty {
     /// Restricts the evidence to an outbox.
     #[inline(always)]
     pub(crate) fn new(empty: WasEmpty<Parcel, OutboxView>) -> OutboxEmpty
-        ensures { result ≡ found_empty empty.asked.value.table_id (replies_in empty.asked.value.me.0.client.drained) }
+        ensures { result ≡ found_empty empty.requested.value.table_id (replies_in empty.requested.value.me.0.client.drained) }
     {
         OutboxEmpty { empty }
     }

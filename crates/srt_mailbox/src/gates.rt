@@ -1,10 +1,10 @@
 //! The permission to make a step, and the outcome of serving a route.
 
 ghost use Rattle.std.specs.Prelude.{◌≡◌, ℕ, Option, List, ◌∷◌, option_map, IsTrue, IsFalse};
-ghost use Rattle.srt_mailbox.specs.Asked.{Answer, answer};
+ghost use Rattle.srt_mailbox.specs.Queried.{Answer, answer};
 ghost use Rattle.srt_mailbox.specs.Counts.{Grew};
 
-use srt_seq::Turned;
+use srt_types::Turned;
 
 /// Permits or refuses a worker's step. It is queried before each step, while the worker has the route; a gate that
 /// waits blocks that route for other workers. Each worker has a separate gate.
@@ -13,13 +13,13 @@ pub trait Gate {
     ghost held: { Self → ℕ };
 
     /// The routes for which it was queried and its answers, newest first; `None` for a gate that keeps no record.
-    ghost asked: { Self → Option (List Answer) };
+    ghost requested: { Self → Option (List Answer) };
 
     /// Whether a step of the route with this index may be made now. If not, the number of refusals grows by one.
     fn allows(&mut self, route: usize) -> bool
         ensures refused { IsFalse result → Grew (held self.old) (held self.new) }
         ensures passed { IsTrue result → held self.new ≡ held self.old }
-        ensures asked { asked self.new ≡ option_map (λ answers. answer route result ∷ answers) (asked self.old) };
+        ensures requested { requested self.new ≡ option_map (λ answers. answer route result ∷ answers) (requested self.old) };
 
     /// Returns the number of refusals. Saturates at 2^64 - 1.
     fn held(&self) -> u64
@@ -35,7 +35,7 @@ impl Gate for Ungated {
 
     ghost held = { λ gate. 0 };
 
-    ghost asked = { λ gate. None };
+    ghost requested = { λ gate. None };
 
     fn allows(&mut self, _route: usize) -> bool {
         true

@@ -3,8 +3,8 @@
 ghost use Rattle.std.specs.Prelude.{◌≡◌, ◌<◌, ◌^◌, [], ◌∷◌, ◌++◌, IfOk, OnOk, IfErr, IfSome, MatchResult};
 ghost use Rattle.std.specs.Arc.{arc_value};
 ghost use Rattle.crossbeam_queue.specs.Fifo.{Held};
-ghost use Rattle.srt_seq.specs.Items.{told, moment_of};
-ghost use Rattle.srt_seq.specs.declared.shared.Item.TheVariants.{Datagram};
+ghost use Rattle.srt_types.specs.Items.{input_of, moment_of};
+ghost use Rattle.srt_types.specs.declared.shared.Item.TheVariants.{Datagram};
 ghost use Rattle.srt_mailbox.specs.Ends.{producer, consumer, AreNew, AreLeft};
 ghost use Rattle.srt_mailbox.specs.Inbox.{StoodAsPolled, StoodAsTicked, StoodAsTaken};
 
@@ -13,7 +13,7 @@ use crate::inbox_rule::{
     Inbox, InboxEntry, InboxPass, InboxView, ItemsLeft, Polling, Polls, PollsDatagram, Takes,
     Ticking, Ticks,
 };
-use srt_seq::{Item, Peer};
+use srt_types::{Item, Peer};
 use std::alloc::{AllocError, Global};
 use std::marker::Model;
 use std::sync::{Arc, Wait};
@@ -96,7 +96,7 @@ impl Ingress {
     /// Appends a message to the inbox. `OfferFault` returns it if the inbox was full at some time during the call;
     /// then nothing changed. Its `moment` is in microseconds, below 2^62. Doesn't allocate.
     pub fn offer<R: Wait>(&mut self, rt: &R, item: Item) -> Result<(), OfferFault>
-        requires timely { moment_of (told item) < 2 ^ 62 }
+        requires timely { moment_of (input_of item) < 2 ^ 62 }
         ensures ok { OnOk result (self.new ≡ producer self.old.queue self.old.capacity (self.old.offered ++ item ∷ [])) }
         ensures full { IfErr result (λ full. (full.item ≡ item) × (self.new ≡ self.old) × Held self.old.capacity (StoodAsPolled self.old.offered)) }
         ensures evidence { IfErr result (λ full. (full.evidence.queue ≡ self.old.queue) × (full.evidence.polled ≡ self.old.offered)) }
@@ -141,7 +141,7 @@ impl ClockEnd {
     /// Appends a message to the inbox. `OfferFault` returns it if the inbox was full at some time during the call;
     /// then nothing changed. Its `moment` is in microseconds, below 2^62. Doesn't allocate.
     pub fn offer<R: Wait>(&mut self, rt: &R, item: Item) -> Result<(), OfferFault>
-        requires timely { moment_of (told item) < 2 ^ 62 }
+        requires timely { moment_of (input_of item) < 2 ^ 62 }
         ensures ok { OnOk result (self.new ≡ producer self.old.queue self.old.capacity (self.old.offered ++ item ∷ [])) }
         ensures full { IfErr result (λ full. (full.item ≡ item) × (self.new ≡ self.old) × Held self.old.capacity (StoodAsTicked self.old.offered)) }
         ensures evidence { IfErr result (λ full. (full.evidence.queue ≡ self.old.queue) × (full.evidence.ticked ≡ self.old.offered)) }
@@ -178,7 +178,8 @@ impl InboxReceiver {
         ensures took { MatchResult result
             (λ x. self.new ≡ consumer self.old.queue self.old.capacity (self.old.taken ++ x ∷ []))
             (λ _. (self.new ≡ self.old) × Held 0 (StoodAsTaken self.old.taken)) }
-        ensures evidence { IfErr result (λ empty. (empty.asked.value.table_id ≡ self.old.queue) × (empty.asked.value.me.0.client.taken ≡ self.old.taken)) }
+        ensures evidence { IfErr result
+            (λ empty. (empty.requested.value.table_id ≡ self.old.queue) × (empty.requested.value.me.0.client.taken ≡ self.old.taken)) }
     {
         // Two loads show whether the inbox is empty. A pop copies a whole cell of the queue even if it finds none.
         if let Some(empty) = find_empty::<Takes, _, _, _>(&self.queue, &mut self.pass) {

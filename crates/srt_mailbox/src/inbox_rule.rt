@@ -3,13 +3,13 @@
 //! for proofs.
 
 ghost use Rattle.std.specs.Prelude.{◌≡◌, ◌<◌, ◌^◌};
-ghost use Rattle.srt_seq.specs.Items.{told, moment_of};
-ghost use Rattle.srt_seq.specs.declared.shared.Item.TheVariants.{Datagram};
+ghost use Rattle.srt_types.specs.Items.{input_of, moment_of};
+ghost use Rattle.srt_types.specs.declared.shared.Item.TheVariants.{Datagram};
 ghost use Rattle.srt_mailbox.specs.inside.Entries.{offered_item};
 
 use crossbeam_queue::protocol::{Join, Lesson, Outcome, Protocol, Split};
 use crossbeam_queue::{Pass, RuledArrayQueue};
-use srt_seq::{Item, Peer};
+use srt_types::{Item, Peer};
 use std::alloc::Global;
 use std::collections::LinkedList;
 use std::marker::Model;
@@ -45,7 +45,7 @@ pub struct InboxEntry {
 
 impl Model for InboxEntry {
     ghost use Rattle.std.specs.Prelude.{◌<◌, ◌^◌};
-    ghost use Rattle.srt_seq.specs.declared.shared.Item.TheVariants.{Datagram, Tick, Close};
+    ghost use Rattle.srt_types.specs.declared.shared.Item.TheVariants.{Datagram, Tick, Close};
     ghost use Rattle.srt_mailbox.specs.inside.Entries.{OfferedItem, offered_item, by_kind};
 
     ghost Value = { OfferedItem };
@@ -64,7 +64,7 @@ impl InboxEntry {
     /// Makes an entry of a message. Its `moment` is in microseconds, below 2^62. Doesn't allocate; `alloc` is that of
     /// the empty body of an entry that isn't a datagram.
     pub fn new(alloc: Global, polled: bool, item: Item) -> InboxEntry
-        requires timely { moment_of (told item) < 2 ^ 62 }
+        requires timely { moment_of (input_of item) < 2 ^ 62 }
         ensures { result ≡ offered_item polled item }
     {
         match item {
@@ -123,7 +123,7 @@ impl InboxEntry {
     #[inline(always)]
     pub fn into_item(self) -> Item
         ensures item { result ≡ self.item }
-        ensures timely { moment_of (told result) < 2 ^ 62 }
+        ensures timely { moment_of (input_of result) < 2 ^ 62 }
     {
         let InboxEntry {
             head,

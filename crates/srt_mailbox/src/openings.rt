@@ -1,8 +1,8 @@
 //! Opening a route with its two queues.
 
 ghost use Rattle.std.specs.Prelude.{◌≡◌, ◌<◌, ◌≤◌, [], None, Some, Err, IfOk, IfErr};
-ghost use Rattle.srt_seq.specs.declared.shared.OpenFault.{OpenFault as TheFault};
-ghost use Rattle.srt_seq.specs.Terms.{Terms, terms_of};
+ghost use Rattle.srt_types.specs.declared.shared.OpenFault.{OpenFault as TheFault};
+ghost use Rattle.srt_types.specs.Terms.{Terms, terms_of};
 ghost use Rattle.srt_route.specs.Opening.{fault_of};
 ghost use Rattle.srt_route.specs.Stands.{stands, waiting};
 ghost use Rattle.srt_mailbox.specs.Cells.{identity_of};
@@ -14,7 +14,7 @@ use crate::inbox::{ClockEnd, Ingress, open_inbox};
 use crate::outbox::{Drain, open_outbox};
 use crate::running::{RouteEnds, Running};
 use srt_route::Route;
-use srt_seq::{Entry, OpenFault};
+use srt_types::{Entry, OpenFault};
 use std::alloc::{AllocError, Global};
 use std::snapshot::Snapshot;
 

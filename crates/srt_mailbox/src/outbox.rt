@@ -80,7 +80,7 @@ impl OutboxSender {
         ensures ok { OnOk result (self.new ≡ pipe self.old.queue self.old.capacity (self.old.put ++ parcel.value ∷ [])) }
         ensures full { IfErr result (λ back. (back.0 ≡ parcel) × (self.new ≡ self.old) × Held self.old.capacity (StoodAsPut self.old.put)) }
         ensures evidence { IfErr result
-            (λ back. (back.1.asked.value.table_id ≡ self.old.queue) × (replies_in back.1.asked.value.me.0.client.put ≡ self.old.put)) }
+            (λ back. (back.1.requested.value.table_id ≡ self.old.queue) × (replies_in back.1.requested.value.me.0.client.put ≡ self.old.put)) }
     {
         push::<Puts, _, _, _, R>(&self.queue, rt, &mut self.pass, parcel)
     }

@@ -2,7 +2,7 @@
 
 ghost use Rattle.std.specs.Prelude.{◌≡◌, ◌≢◌, ◌≤◌, true, false, Some, None, IfOk, IfErr, IfSome};
 ghost use Rattle.srt_mailbox.specs.Counts.{Grew};
-ghost use Rattle.srt_mailbox.specs.Visits.{AskedOrEmpty, AskedOnceOrEmpty};
+ghost use Rattle.srt_mailbox.specs.Visits.{QueriedOrEmpty, QueriedOnceOrEmpty};
 ghost use Rattle.srt_mailbox.specs.Looks.{Seen, SawMore};
 ghost use Rattle.srt_mailbox.specs.declared.gates.Served.TheVariants.{GateRefused, ClaimedElsewhere};
 
@@ -10,7 +10,7 @@ use crate::cells::Serve;
 use crate::gates::{Gate, Served, Visit};
 use crate::observer::Observer;
 use crate::seats::{Attachment, Seat};
-use srt_seq::Turned;
+use srt_types::Turned;
 use std::sync::{OnceLock, OnceToken, Wait};
 
 /// A place for one route, empty until a seat is put there. The seat stays.
@@ -48,7 +48,7 @@ impl<X: Attachment + Drop> Serve for Place<X> {
         ensures held { result.end ≡ Some GateRefused → Grew (G.held gate.old) (G.held gate.new) }
         ensures passed { result.end ≢ Some GateRefused → G.held gate.new ≡ G.held gate.old }
         ensures busy { result.end ≡ Some ClaimedElsewhere → (result.turns ≡ 0) × (gate.new ≡ gate.old) }
-        ensures asked { AskedOrEmpty result (G.asked gate.old) (G.asked gate.new) }
+        ensures requested { QueriedOrEmpty result (G.requested gate.old) (G.requested gate.new) }
     {
         match self.seat.get() {
             Some(seat) => seat.cell.visit(rt, gate, most),
@@ -62,7 +62,7 @@ impl<X: Attachment + Drop> Serve for Place<X> {
 
     fn serve<R: Wait, G: Gate>(&self, rt: &R, gate: &mut G) -> Served
         ensures held { result ≡ GateRefused → Grew (G.held gate.old) (G.held gate.new) }
-        ensures asked { AskedOnceOrEmpty result (G.asked gate.old) (G.asked gate.new) }
+        ensures requested { QueriedOnceOrEmpty result (G.requested gate.old) (G.requested gate.new) }
     {
         match self.seat.get() {
             Some(seat) => seat.cell.serve(rt, gate),

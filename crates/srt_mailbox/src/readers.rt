@@ -32,12 +32,12 @@ fn item_at<T>(items: &[T], index: usize) -> &T
 }
 
 impl<'a, X: Attachment + Drop> SeatReader<'a, X> {
-    ghost use Rattle.srt_mailbox.specs.Places.{came, places_of, locks_of, is_next};
+    ghost use Rattle.srt_mailbox.specs.Places.{arrived, places_of, locks_of, is_next};
 
     /// Allocates a reader of these places that has reached none of them. The only call that allocates; the error is a
     /// failed allocation.
     pub fn new(alloc: Global, places: &'a [Place<X>]) -> Result<SeatReader<'a, X>, AllocError>
-        ensures { IfOk result (λ r. (came r ≡ []) × (places_of r ≡ places.now)) }
+        ensures { IfOk result (λ r. (arrived r ≡ []) × (places_of r ≡ places.now)) }
     {
         Ok(SeatReader {
             places,
@@ -76,7 +76,7 @@ impl<'a, X: Attachment + Drop> SeatReader<'a, X> {
     /// Takes the poller's ends of the route in the next place, if one was added there. Doesn't allocate and never
     /// waits.
     pub fn next_poller(&mut self) -> Option<PollerEnds<X>>
-        ensures some { IfSome result (λ e. (n : CellIdentity) × (came self.new ≡ came self.old ++ n ∷ []) × (n.index ≡ length (came self.old)) ×
+        ensures some { IfSome result (λ e. (n : CellIdentity) × (arrived self.new ≡ arrived self.old ++ n ∷ []) × (n.index ≡ length (arrived self.old)) ×
             IsNewPoller n e.ingress e.drain × X.belongs n.terms n.index e.companion) }
         ensures none { IfNone result (self.new ≡ self.old) }
         ensures places { places_of self.new ≡ places_of self.old }
@@ -91,7 +91,7 @@ impl<'a, X: Attachment + Drop> SeatReader<'a, X> {
 
     /// Takes the clock's end of the route in the next place, if one was added there. Doesn't allocate and never waits.
     pub fn next_clock(&mut self) -> Option<ClockHand>
-        ensures some { IfSome result (λ h. (n : CellIdentity) × (came self.new ≡ came self.old ++ n ∷ []) × (n.index ≡ length (came self.old)) ×
+        ensures some { IfSome result (λ h. (n : CellIdentity) × (arrived self.new ≡ arrived self.old ++ n ∷ []) × (n.index ≡ length (arrived self.old)) ×
             IsNewClock n h.end) }
         ensures none { IfNone result (self.new ≡ self.old) }
         ensures places { places_of self.new ≡ places_of self.old }
@@ -106,15 +106,15 @@ impl<'a, X: Attachment + Drop> SeatReader<'a, X> {
 
     /// Returns the number of routes that the reader has reached.
     pub fn routes(&self) -> usize
-        ensures { result ≡ length (came self.now) }
+        ensures { result ≡ length (arrived self.now) }
     {
         self.tokens.len()
     }
 
     /// Returns the seat of a route that the reader has reached.
     pub fn seat(&self, index: usize) -> &'a Seat<X>
-        requires { index < length (came self.now) }
-        ensures { slice_get (came self.now) index ≡ Some (identity_in result.now.cell) }
+        requires { index < length (arrived self.now) }
+        ensures { slice_get (arrived self.now) index ≡ Some (identity_in result.now.cell) }
     {
         item_at(self.places, index).seat.value(&self.tokens[index])
     }
@@ -123,19 +123,19 @@ impl<'a, X: Attachment + Drop> SeatReader<'a, X> {
     /// Does nothing.
     pub fn agree(&self, other: &SeatReader<'a, X>, index: usize)
         requires places { locks_of self.now ≡ locks_of other.now }
-        requires here { index < length (came self.now) }
-        requires there { index < length (came other.now) }
-        ensures { slice_get (came self.now) index ≡ slice_get (came other.now) index }
+        requires here { index < length (arrived self.now) }
+        requires there { index < length (arrived other.now) }
+        ensures { slice_get (arrived self.now) index ≡ slice_get (arrived other.now) index }
     {
         self.tokens[index].agrees(&other.tokens[index]);
     }
 
     /// States that the route that the reader reached at this index is that of the seat which `Place::put` put there,
     /// according to its token. Does nothing.
-    pub fn came_to(&self, index: usize, put: &OnceToken<'a, Seat<X>>)
-        requires here { index < length (came self.now) }
+    pub fn reached(&self, index: usize, put: &OnceToken<'a, Seat<X>>)
+        requires here { index < length (arrived self.now) }
         requires place { slice_get (locks_of self.now) index ≡ Some put.now.of }
-        ensures { slice_get (came self.now) index ≡ Some (identity_in put.now.value.cell) }
+        ensures { slice_get (arrived self.now) index ≡ Some (identity_in put.now.value.cell) }
     {
         self.tokens[index].agrees(put);
     }

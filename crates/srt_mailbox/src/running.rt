@@ -1,8 +1,8 @@
 //! A route with its ends of both queues, which a worker has while it has claimed the route, and one step of it.
 
 ghost use Rattle.std.specs.Prelude.{◌≡◌, ◌≢◌, ◌<◌, ◌≤◌, ◌+◌, ℕ, List, [], ◌∷◌, Some, None, length, option_map};
-ghost use Rattle.srt_seq.specs.Terms.{Terms, terms_of};
-ghost use Rattle.srt_seq.specs.Items.{Item as TheItem};
+ghost use Rattle.srt_types.specs.Terms.{Terms, terms_of};
+ghost use Rattle.srt_types.specs.Items.{Item as TheItem};
 ghost use Rattle.srt_route.specs.Stands.{stands, waiting};
 ghost use Rattle.srt_route.specs.Written.{written};
 ghost use Rattle.srt_mailbox.specs.Counts.{counted, Grew};
@@ -10,7 +10,7 @@ ghost use Rattle.srt_mailbox.specs.Evidence.{refused};
 ghost use Rattle.srt_mailbox.specs.Runs.{run, waiting_at, Replays, TurnedAs};
 ghost use Rattle.srt_mailbox.specs.Cells.{CellIdentity, Bears};
 ghost use Rattle.srt_mailbox.specs.Looks.{WasShown};
-ghost use Rattle.srt_mailbox.specs.Visits.{asked_in, asked_last, turns_of, EndedAs, ServedAs};
+ghost use Rattle.srt_mailbox.specs.Visits.{queried_in, queried_last, turns_of, EndedAs, ServedAs};
 ghost use Rattle.srt_mailbox.specs.declared.gates.Served.TheVariants.{GateRefused, ClaimedElsewhere};
 
 use crate::evidence::QueueRefusals;
@@ -21,8 +21,8 @@ use crate::outbox::OutboxSender;
 use crate::outbox_rule::Parcel;
 use crate::spares::Boxes;
 use srt_route::{Reply, Route};
-use srt_seq::limits::MAX_PAYLOAD;
-use srt_seq::{Entry, Item, Turned};
+use srt_types::limits::MAX_PAYLOAD;
+use srt_types::{Entry, Item, Turned};
 use std::marker::Model;
 use std::snapshot::Snapshot;
 use std::sync::Wait;
@@ -66,7 +66,7 @@ pub struct Running {
 
 impl Model for Running {
     ghost use Rattle.std.specs.Prelude.{◌≡◌, length};
-    ghost use Rattle.srt_seq.specs.Terms.{terms_of};
+    ghost use Rattle.srt_types.specs.Terms.{terms_of};
     ghost use Rattle.srt_route.specs.Stands.{stands};
     ghost use Rattle.srt_mailbox.specs.Counts.{counted};
     ghost use Rattle.srt_mailbox.specs.Inbox.{applied};
@@ -218,7 +218,7 @@ impl Running {
     pub fn serve<R: Wait, G: Gate>(&mut self, rt: &R, route: usize, gate: &mut G) -> Served
         ensures turned { ServedAs result self.old self.new }
         ensures held { result ≡ GateRefused → Grew (G.held gate.old) (G.held gate.new) }
-        ensures asked { G.asked gate.new ≡ option_map (asked_last route result) (G.asked gate.old) }
+        ensures requested { G.requested gate.new ≡ option_map (queried_last route result) (G.requested gate.old) }
     {
         if gate.allows(route) {
             Served::Turned(self.turn(rt))
@@ -246,7 +246,7 @@ impl Running {
         ensures passed { result.end ≢ Some GateRefused → G.held gate.new ≡ G.held gate.old }
         ensures claimed { result.end ≢ Some ClaimedElsewhere }
         ensures ended { EndedAs result.end self.old self.new }
-        ensures asked { G.asked gate.new ≡ option_map (asked_in route result) (G.asked gate.old) }
+        ensures requested { G.requested gate.new ≡ option_map (queried_in route result) (G.requested gate.old) }
     {
         let mut moved = 0;
         for turns in 0..most {

@@ -2,8 +2,8 @@
 //! route has no access to the owners' threads; it leaves the ends here, and each owner takes its own.
 
 ghost use Rattle.std.specs.Prelude.{◌≡◌, ℕ, Some, None, Err, IfSome, IfOk, IfErr};
-ghost use Rattle.srt_seq.specs.declared.shared.OpenFault.{OpenFault as TheFault};
-ghost use Rattle.srt_seq.specs.Terms.{Terms, terms_of};
+ghost use Rattle.srt_types.specs.declared.shared.OpenFault.{OpenFault as TheFault};
+ghost use Rattle.srt_types.specs.Terms.{Terms, terms_of};
 ghost use Rattle.srt_route.specs.Opening.{fault_of};
 ghost use Rattle.srt_mailbox.specs.Cells.{CellIdentity, AreEndsOf};
 ghost use Rattle.srt_mailbox.specs.Identities.{identity_in};
@@ -17,7 +17,7 @@ use crate::openings::open_route;
 use crate::outbox::Drain;
 use crate::slots::{TakenElsewhere, take_out};
 use counted_slot::{Counted, Fits};
-use srt_seq::{Entry, OpenFault};
+use srt_types::{Entry, OpenFault};
 use std::alloc::Global;
 use std::marker::Model;
 use std::snapshot::Snapshot;

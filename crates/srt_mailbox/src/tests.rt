@@ -9,7 +9,7 @@ mod seats;
 mod visits;
 
 ghost use Rattle.std.specs.Prelude.{◌≡◌, ◌<◌, ◌^◌, IfOk};
-ghost use Rattle.srt_seq.specs.Items.{told, moment_of};
+ghost use Rattle.srt_types.specs.Items.{input_of, moment_of};
 ghost use Rattle.srt_mailbox.specs.Cells.{AreEndsOf};
 ghost use Rattle.srt_mailbox.specs.Identities.{identity_in};
 
@@ -24,7 +24,7 @@ use crate::{
 };
 use srt_route::{Reply, Route};
 use srt_samples::first_difference;
-use srt_seq::{Access, Entry, Item, Mode, OpenFault, Peer, Rules, Turned};
+use srt_types::{Access, Entry, Item, Mode, OpenFault, Peer, Rules, Turned};
 use std::alloc::Global;
 use std::process::Abort;
 use std::sync::Wait;
@@ -97,7 +97,7 @@ impl Gate for Fixed {
 
     ghost held = { λ gate. gate.held };
 
-    ghost asked = { λ _. None };
+    ghost requested = { λ _. None };
 
     fn allows(&mut self, _route: usize) -> bool {
         if !self.passes {
@@ -640,7 +640,7 @@ impl Alone {
 
     /// Processes a message, and returns the number of replies.
     fn apply<R: Abort>(&mut self, rt: &R, item: &Item) -> usize
-        requires timely { moment_of (told item.now) < 2 ^ 62 }
+        requires timely { moment_of (input_of item.now) < 2 ^ 62 }
     {
         assert!(rt; !self.route.waits());
         self.route.step(item)
@@ -663,7 +663,7 @@ fn await_the_same(
     drain: &mut Drain,
     item: &Item,
 ) -> Result<usize, Fail>
-    requires timely { moment_of (told item.now) < 2 ^ 62 }
+    requires timely { moment_of (input_of item.now) < 2 ^ 62 }
 {
     let count = alone.apply(rt, item);
     for _ in 0..count {
@@ -740,17 +740,17 @@ fn serve_by_two<C: Serve + Sync, R: AllocGlobal + Threads + Wait + Abort + Sync>
     drain: &mut Drain,
 ) -> Result<(), Fail> {
     let stop = AtomicBool::new(false);
-    let told = &stop;
+    let stopped = &stop;
     let (_, (_, offered)) = join(
         rt,
-        || serve_until(rt, cell, told),
+        || serve_until(rt, cell, stopped),
         || {
             join(
                 rt,
-                || serve_until(rt, cell, told),
+                || serve_until(rt, cell, stopped),
                 || {
                     let offered = offer_and_await(rt, ingress, drain);
-                    told.store(true, Ordering::SeqCst);
+                    stopped.store(true, Ordering::SeqCst);
                     offered
                 },
             )
@@ -790,7 +790,7 @@ impl Gate for Staying<'_> {
 
     ghost held = { λ _. 0 };
 
-    ghost asked = { λ _. None };
+    ghost requested = { λ _. None };
 
     fn allows(&mut self, _route: usize) -> bool {
         self.entered.store(true, Ordering::SeqCst);

@@ -1,7 +1,7 @@
 -- The lane of the model that a lane's fields represent.
 use Rattle.std.specs.Prelude.{◌≡◌, ℕ, List}
-use Rattle.srt_seq.specs.Items.{Datagram, Item}
-use Rattle.srt_seq.specs.Terms.{Terms}
+use Rattle.srt_types.specs.Items.{Datagram, Item}
+use Rattle.srt_types.specs.Terms.{Terms}
 use Rattle.srt_hub.specs.World.{Lane}
 
 -- the queues and the waiting replies are these, the capacities are the entry's, and the route's state is that after the

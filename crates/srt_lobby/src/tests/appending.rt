@@ -5,7 +5,7 @@ use super::{
     class_of, entry, hide, opened,
 };
 use crate::{Cause, Class, Names, NewName};
-use srt_seq::OpenFault;
+use srt_types::OpenFault;
 use std::alloc::Global;
 use std::process::Abort;
 use std::test::Fail;
@@ -106,8 +106,8 @@ fn names_are_appended_up_to_511(rt: HostRuntime) -> Result<(), Fail> {
     show(&rt, &mut names, 510);
     assert_eq!(rt; class_of(alloc, &names, &last)?, Class::Route(510));
     // `route-510`
-    let asked = "00050003 74756f72 31352d65 00000030";
-    let conclusion = [HEADER, CONCLUSION, COOKIE_0, ADDRESS, HSREQ, asked];
+    let requested = "00050003 74756f72 31352d65 00000030";
+    let conclusion = [HEADER, CONCLUSION, COOKIE_0, ADDRESS, HSREQ, requested];
     assert_eq!(rt; class_of(alloc, &names, &conclusion)?, Class::Route(510));
     Ok(())
 }

@@ -2,7 +2,7 @@
 
 use crate::{Names, refusal_cause};
 use srt_samples::{Block, Caller, Offer, conclusion};
-use srt_seq::{Access, Entry, Mode, Network, NotAdmitted, Peer, Role, RoleAccess, Rules};
+use srt_types::{Access, Entry, Mode, Network, NotAdmitted, Peer, Role, RoleAccess, Rules};
 use std::alloc::Global;
 use std::process::Abort;
 use std::test::Fail;
@@ -102,7 +102,7 @@ fn assert_cause(
 }
 
 #[test]
-fn a_stranger_is_told_from_one_without_a_key(rt: HostRuntime) -> Result<(), Fail> {
+fn a_stranger_is_distinguished_from_one_without_a_key(rt: HostRuntime) -> Result<(), Fail> {
     let list = Some(NotAdmitted::Address(Role::Publish));
     let key = Some(NotAdmitted::Key(Role::Publish));
     assert_cause(&rt, FAR, "#!::r=studio,m=publish,k=in", list)?;
@@ -121,7 +121,7 @@ fn each_role_has_its_own_list_and_key(rt: HostRuntime) -> Result<(), Fail> {
 }
 
 #[test]
-fn an_unknown_name_is_told_from_none(rt: HostRuntime) -> Result<(), Fail> {
+fn an_unknown_name_is_distinguished_from_none(rt: HostRuntime) -> Result<(), Fail> {
     let unknown = Some(NotAdmitted::UnknownName);
     assert_cause(&rt, FAR, "#!::r=studi,m=publish,k=in", unknown)?;
     assert_cause(&rt, FAR, "#!::m=publish", Some(NotAdmitted::NoName))?;

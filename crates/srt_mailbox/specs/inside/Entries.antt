@@ -1,6 +1,6 @@
 -- An entry of the inbox: a message with the end that offered it.
 use Rattle.std.specs.Prelude.{Bool}
-use Rattle.srt_seq.specs.declared.shared.Item.{Item}
+use Rattle.srt_types.specs.declared.shared.Item.{Item}
 use Rattle.srt_mailbox.specs.declared.inbox_rule.EntryKind.{EntryKind}
 use Rattle.srt_mailbox.specs.declared.inbox_rule.EntryKind.TheVariants.{Datagram, Tick, Close}
 

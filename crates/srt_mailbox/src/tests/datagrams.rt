@@ -2,13 +2,13 @@
 //! doesn't check a conclusion's cookie, so it is arbitrary here.
 
 ghost use Rattle.std.specs.Prelude.{◌<◌, ◌^◌, IfOk};
-ghost use Rattle.srt_seq.specs.Items.{told, moment_of};
+ghost use Rattle.srt_types.specs.Items.{input_of, moment_of};
 
 use crate::tests::peer;
 use srt_samples::{
     Acknowledged, Block, Handshake, Offer, Phase, Sample, data_packet, full_ack, handshake_packet,
 };
-use srt_seq::{Item, MOMENT_END};
+use srt_types::{Item, MOMENT_END};
 use std::alloc::Global;
 use std::test::Fail;
 
@@ -22,7 +22,7 @@ pub struct Coming<'a> {
 
 impl Coming<'_> {
     pub fn item(&self, alloc: Global) -> Result<Item, Fail>
-        ensures timely { IfOk result (λ item. moment_of (told item) < 2 ^ 62) }
+        ensures timely { IfOk result (λ item. moment_of (input_of item) < 2 ^ 62) }
     {
         let bytes = self.sample.bytes(alloc)?;
         let moment = self.moment;
@@ -173,7 +173,7 @@ pub fn subscriber_answer<'a>() -> Expected<'a> {
 
 /// Returns the Full ACK of the data packet with this number, at this timestamp, with this available buffer size.
 fn acknowledgement<'a>(number: u32, stamp: u32, available: u32) -> Expected<'a> {
-    let told = Acknowledged {
+    let acknowledged = Acknowledged {
         point: PUBLISHER_INITIAL + 1,
         rtt: 100_000,
         variance: 50_000,
@@ -181,7 +181,7 @@ fn acknowledgement<'a>(number: u32, stamp: u32, available: u32) -> Expected<'a> 
     };
     Expected {
         port: PUBLISHER,
-        sample: full_ack(number, told).stamp(stamp).to(PUBLISHER_ID),
+        sample: full_ack(number, acknowledged).stamp(stamp).to(PUBLISHER_ID),
     }
 }
 

@@ -7,7 +7,7 @@ use crate::tests::datagrams::publisher_conclusion;
 use crate::tests::{APPLIED, Fixed, IDLE, MOVED, assert_served, offer_times, peer, studio, tick};
 use crate::{RouteCell, Serve};
 use srt_route::Route;
-use srt_seq::{Peer, Role};
+use srt_types::{Peer, Role};
 use std::process::Abort;
 use std::sync::Wait;
 use std::test::Fail;

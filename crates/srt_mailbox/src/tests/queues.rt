@@ -3,7 +3,7 @@
 //! the reference is full or empty. A contract states which queue refused, but not at which time.
 
 ghost use Rattle.std.specs.Prelude.{◌<◌, ◌^◌, IfOk};
-ghost use Rattle.srt_seq.specs.Items.{told, moment_of};
+ghost use Rattle.srt_types.specs.Items.{input_of, moment_of};
 
 use crate::gates::{Served, Visit};
 use crate::tests::datagrams::{
@@ -12,7 +12,7 @@ use crate::tests::datagrams::{
 };
 use crate::tests::{Fixed, entry, peer};
 use crate::{ClockEnd, Drain, Ingress, RouteCell, open_route};
-use srt_seq::{Item, Turned};
+use srt_types::{Item, Turned};
 use std::alloc::{AllocError, Global};
 use std::collections::VecDeque;
 use std::process::Abort;
@@ -150,7 +150,7 @@ impl Caller {
     /// Returns the conclusion, offered at this time in microseconds.
     fn item(&self, alloc: Global, moment: u64) -> Result<Item, AllocError>
         requires { moment < 2 ^ 62 }
-        ensures timely { IfOk result (λ item. moment_of (told item) < 2 ^ 62) }
+        ensures timely { IfOk result (λ item. moment_of (input_of item) < 2 ^ 62) }
     {
         Ok(Item::Datagram {
             peer: peer(self.port),
@@ -285,10 +285,10 @@ impl Both {
 
     fn take<R: Wait>(&mut self, rt: &R) -> bool {
         let is_empty = self.drain.is_empty().is_some();
-        let came = self.drain.take(rt).is_ok();
+        let arrived = self.drain.take(rt).is_ok();
         match self.plain.outbox.pop_front() {
-            None => is_empty && !came,
-            Some(asks) => !is_empty && came && self.is_at_hand(asks),
+            None => is_empty && !arrived,
+            Some(asks) => !is_empty && arrived && self.is_at_hand(asks),
         }
     }
 

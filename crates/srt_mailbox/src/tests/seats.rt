@@ -4,7 +4,7 @@
 ghost use Rattle.std.specs.Prelude.{◌≡◌, ◌≤◌, [], Some, IfOk};
 ghost use Rattle.srt_mailbox.specs.Cells.{AreEndsOf};
 ghost use Rattle.srt_mailbox.specs.Identities.{identity_in};
-ghost use Rattle.srt_mailbox.specs.Places.{came, places_of};
+ghost use Rattle.srt_mailbox.specs.Places.{arrived, places_of};
 ghost use Rattle.srt_mailbox.specs.Seats.{IsNewPoller, IsNewClock};
 
 use crate::tests::datagrams::{publisher_answer, publisher_conclusion};
@@ -14,7 +14,7 @@ use crate::{
     Account, Attachment, ClockEnd, ClockHand, Drain, Ingress, Place, PollerEnds, Seat, SeatReader,
     Serve, Served, open_seat,
 };
-use srt_seq::OpenFault;
+use srt_types::OpenFault;
 use std::alloc::Global;
 use std::process::Abort;
 use std::sync::Wait;
@@ -284,8 +284,8 @@ fn settle_first<'a, R: Wait>(
     clock: &mut SeatReader<'a, Mark>,
 ) -> Result<Account, Fail>
     requires same { places_of poller.old ≡ places_of clock.old }
-    requires poller { came poller.old ≡ [] }
-    requires clock { came clock.old ≡ [] }
+    requires poller { arrived poller.old ≡ [] }
+    requires clock { arrived clock.old ≡ [] }
 {
     let PollerEnds { ingress, drain, .. } = are_there(poller.next_poller())?;
     let ClockHand { end } = is_there(clock.next_clock())?;

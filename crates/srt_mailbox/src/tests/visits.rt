@@ -33,7 +33,7 @@ impl Gate for Noting {
 
     ghost held = { λ gate. gate.held };
 
-    ghost asked = { λ _. None };
+    ghost requested = { λ _. None };
 
     fn allows(&mut self, route: usize) -> bool {
         self.noted = self.noted.wrapping_mul(10).wrapping_add(route as u64);
@@ -109,7 +109,7 @@ fn a_long_visit_gives_the_route_back(rt: HostRuntime) -> Result<(), Fail> {
 
 /// Two messages, and the queries of a gate at a route of this index, by two steps, of which it refuses the second, and
 /// then by a batch.
-fn assert_asked_about(
+fn assert_queried_about(
     rt: &(impl AllocGlobal + Wait + Abort),
     index: usize,
     twice: u64,
@@ -127,17 +127,17 @@ fn assert_asked_about(
 /// An index, and its digit twice.
 const INDEXES: [(usize, u64); 5] = [(0, 0), (1, 11), (2, 22), (3, 33), (7, 77)];
 
-fn assert_all_asked_about(
+fn assert_all_queried_about(
     rt: &(impl AllocGlobal + Wait + Abort),
     rows: &[(usize, u64)],
 ) -> Result<(), Fail> {
     for (index, twice) in rows {
-        assert_asked_about(rt, *index, *twice)?;
+        assert_queried_about(rt, *index, *twice)?;
     }
     Ok(())
 }
 
 #[test]
 fn a_gate_is_asked_about_the_route_that_is_served(rt: HostRuntime) -> Result<(), Fail> {
-    assert_all_asked_about(&rt, &INDEXES)
+    assert_all_queried_about(&rt, &INDEXES)
 }

@@ -1,5 +1,5 @@
 use Rattle.std.proofs.Common.{◌≡◌, map, length}
-use Rattle.srt_seq.specs.Terms.{terms_of}
+use Rattle.srt_types.specs.Terms.{terms_of}
 use Rattle.srt_lobby.specs.Opening.{are_names}
 use Rattle.srt_lobby.proofs.entry_faults.are_names.Given as goal
 

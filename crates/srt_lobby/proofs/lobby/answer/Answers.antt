@@ -1,5 +1,5 @@
 use Rattle.std.proofs.Common.{◌≡◌, ◌∙◌, ap, List, ℕ, ◌++◌, [], length, take, refl, arith}
-use Rattle.srt_seq.specs.Words.{word}
+use Rattle.srt_types.specs.Words.{word}
 use Rattle.srt_hs.specs.Text.{answer_text}
 use Rattle.srt_lobby.proofs.Bytes.{length_of_answer, joined}
 use Rattle.srt_lobby.proofs.lobby.answer.Goals as goal

@@ -1,6 +1,6 @@
 use Rattle.std.proofs.Common.{◌∙◌, ap, refl, sym, arith, false, true}
 use Rattle.std.proofs.lemmas.List.{length-map}
-use Rattle.srt_seq.specs.Items.{Datagram}
+use Rattle.srt_types.specs.Items.{Datagram}
 use Rattle.srt_hub.specs.World.{Arrives, arrival_of, name_at, names_in, world_after}
 use Rattle.srt_hub.specs.Hubs.{room_at}
 use Rattle.srt_hub.proofs.Happens.{nothing_happens, answer_nowhere, drop_nowhere, refused_nowhere}

@@ -1,6 +1,6 @@
 use Rattle.std.proofs.Common.{◌≡◌, ◌<◌, Bool, true, false, List, length, sym, ap, subst, ◌∙◌, arith}
 use Rattle.std.proofs.lemmas.List.{length-map}
-use Rattle.srt_seq.specs.Items.{Close}
+use Rattle.srt_types.specs.Items.{Close}
 use Rattle.srt_lobby.specs.Names.{RouteName}
 use Rattle.srt_hub.specs.declared.answers.Closing.TheVariants as closings
 use Rattle.srt_hub.specs.World.{Closes, Offers, offer_if, names_in, name_at, is_shown_in, has_room, closing, closing_of, places_closed, world_after}

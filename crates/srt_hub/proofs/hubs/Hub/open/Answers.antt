@@ -1,6 +1,6 @@
 use Rattle.std.proofs.Common.{◌+◌, ℕ, ap, arith, map}
 use Rattle.std.proofs.lemmas.List.{take_all}
-use Rattle.srt_seq.specs.Terms.{terms_of}
+use Rattle.srt_types.specs.Terms.{terms_of}
 use Rattle.srt_hub.proofs.Opened.{lanes_grow, right_at}
 use Rattle.srt_hub.proofs.Named.{start_names}
 use Rattle.srt_hub.proofs.hubs.Hub.open.Goals as goal

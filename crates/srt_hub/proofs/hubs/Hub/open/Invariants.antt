@@ -1,5 +1,5 @@
 use Rattle.std.proofs.Common.{◌≡◌, map, take}
-use Rattle.srt_seq.specs.Terms.{terms_of}
+use Rattle.srt_types.specs.Terms.{terms_of}
 use Rattle.srt_hub.specs.inside.Queued.{item_in, reply_in}
 use Rattle.srt_hub.specs.inside.Stands.{IsLane}
 use Rattle.srt_hub.specs.Hubs.{AreLanes}

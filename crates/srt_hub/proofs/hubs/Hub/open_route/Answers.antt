@@ -1,6 +1,6 @@
 use Rattle.std.proofs.Common.{rules, ◌≡◌, true, false, ◌++◌, [], ◌∷◌, List, map, length, None, sym, ap, subst, ◌∙◌, arith}
 use Rattle.std.specs.Result.{is_ok}
-use Rattle.srt_seq.specs.Terms.{terms_of}
+use Rattle.srt_types.specs.Terms.{terms_of}
 use Rattle.srt_lobby.specs.Names.{RouteName}
 use Rattle.srt_lobby.specs.Changing.{fault_of_adding}
 use Rattle.srt_hub.specs.World.{Opens, Place, opened, names_in, name_at, opening_of, places_opened, places_after, world_after}

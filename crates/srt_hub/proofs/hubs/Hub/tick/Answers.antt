@@ -1,6 +1,6 @@
 use Rattle.std.proofs.Common.{◌∙◌, ap, Bool, cond, refl}
 use Rattle.srt_hub.specs.declared.answers.Ticked.TheVariants.{Accepted, Full}
-use Rattle.srt_seq.specs.Items.{Tick}
+use Rattle.srt_types.specs.Items.{Tick}
 use Rattle.srt_hub.specs.World.{Ticks, Offers, has_room, world_after}
 use Rattle.srt_hub.proofs.Happens.{event_happens, answer_is, tick_here, tick_elsewhere}
 use Rattle.srt_hub.proofs.hubs.Hub.tick.Goals as goal

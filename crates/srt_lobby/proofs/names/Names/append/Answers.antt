@@ -1,7 +1,7 @@
 use Rattle.std.proofs.Common.{◌≡◌, ◌∙◌, ◌++◌, ◌∷◌, [], ap, map, refl, cond, false, ℕ, ◌+◌, List, length, arith}
 use Rattle.std.proofs.lemmas.List.{map-append, length-append}
 use Rattle.srt_lobby.specs.declared.names.NamedRoute.{NamedRoute}
-use Rattle.srt_seq.specs.Access.{access_of}
+use Rattle.srt_types.specs.Access.{access_of}
 use Rattle.srt_lobby.specs.Tables.{name_in, index_in, entered}
 use Rattle.srt_lobby.proofs.Tables.{count, shown_kept, named_kept, texts_kept, appended_shown, appended_named, appended_texts}
 use Rattle.srt_lobby.proofs.names.Names.append.Goals as goal
@@ -17,7 +17,7 @@ invariant_of-self c =
     let is : (t : List ℕ) → after t ≡ entered latest name (length names) t =
     λ t. c.enter.ensures.table t
     ∙ ap (λ (n : List ℕ). entered latest n c.len-r.result t) c.args.name.same
-    ∙ ap (λ (r : ℕ). entered latest name r t) c.len-r.ensures in
+    ∙ ap (λ (r : ℕ). entered latest name r t) c.len-r.ensures.count in
     let one : NamedRoute = record { text = c.args.name.text; is_shown = false; access = c.args.name.access } in
     let pushed : c.push.new.self.items ≡ routes ++ one ∷ [] =
     c.push.ensures.items
@@ -28,6 +28,7 @@ invariant_of-self c =
     record {
       places = omega (arith, c.args.self.now.places, c.push.ensures.capacity);
       room = omega (arith, c.args.self.now.room, c.enter.ensures.room, longer);
+      few = omega (arith, c.requires, count routes, longer);
       shown = shown_kept (λ key. key.items) _ _ _ _ all refl (appended_shown names latest after name access is c.args.self.now.shown);
       named = named_kept (λ key. key.items) _ _ _ _ all refl (appended_named names latest after name access is c.args.self.now.named);
       texts = texts_kept (λ key. key.items) _ _ _ _ all refl (appended_texts names latest after name access is c.args.self.now.texts);

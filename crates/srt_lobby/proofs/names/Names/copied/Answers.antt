@@ -1,6 +1,6 @@
 use Rattle.std.proofs.Common.{◌≡◌, ◌∙◌, ◌++◌, ◌∷◌, [], sym, ap, map, slice_get, get_or, Some, take, arith, add-one, string_bytes, List}
-use Rattle.srt_seq.specs.declared.shared.Entry.{Entry}
-use Rattle.srt_seq.specs.Terms.{terms_of}
+use Rattle.srt_types.specs.declared.shared.Entry.{Entry}
+use Rattle.srt_types.specs.Terms.{terms_of}
 use Rattle.srt_lobby.specs.Opening.{text_in}
 use Rattle.srt_lobby.specs.Names.{RouteName, as_shown, new_name, index_of, name_of}
 use Rattle.srt_lobby.proofs.Finds.{name_at, route_at}

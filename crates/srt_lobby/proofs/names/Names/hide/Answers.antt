@@ -17,6 +17,12 @@ invariant_of-self c =
         length-set c.args.self.now.routes.items c.args.r
             (record { text = c.index_mut.result.now.text; is_shown = false; access = c.index_mut.result.now.access }),
       );
+      few = omega (
+        arith,
+        c.args.self.now.few,
+        length-set c.args.self.now.routes.items c.args.r
+            (record { text = c.index_mut.result.now.text; is_shown = false; access = c.index_mut.result.now.access }),
+      );
       shown = shown_kept (λ key. key.items) _ _ _ _ set refl (hidden_shown names latest c.args.r c.args.self.now.shown);
       named = named_kept (λ key. key.items) _ _ _ _ set refl (marked_named false names latest c.args.r c.args.self.now.named);
       texts = texts_kept (λ key. key.items) _ _ _ _ set refl (marked_texts false names latest c.args.r c.args.self.now.texts);

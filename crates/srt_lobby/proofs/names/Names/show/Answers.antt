@@ -28,6 +28,12 @@ invariant_of-self c =
         length-set c.args.self.now.routes.items c.args.r
             (record { text = c.index_mut.result.now.text; is_shown = true; access = c.index_mut.result.now.access }),
       );
+      few = omega (
+        arith,
+        c.args.self.now.few,
+        length-set c.args.self.now.routes.items c.args.r
+            (record { text = c.index_mut.result.now.text; is_shown = true; access = c.index_mut.result.now.access }),
+      );
       shown = shown_kept (λ key. key.items) _ _ _ _ set refl
           (again_shown names latest after c.args.r text there is c.requires.index c.requires.unused c.args.self.now.shown);
       named = named_kept (λ key. key.items) _ _ _ _ set refl (again_named names latest after c.args.r text there is c.args.self.now.named);

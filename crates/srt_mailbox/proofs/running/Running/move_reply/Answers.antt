@@ -1,6 +1,6 @@
 use Rattle.std.proofs.Common.{◌≡◌, ◌++◌, ◌∷◌, [], map, length, sym, ap, ◌∙◌, subst, arith}
 use Rattle.std.specs.Global.{Box}
-use Rattle.srt_seq.specs.Terms.{terms_of}
+use Rattle.srt_types.specs.Terms.{terms_of}
 use Rattle.srt_route.specs.declared.replies.Reply.{Reply}
 use Rattle.srt_route.specs.Stands.{waiting}
 use Rattle.srt_route.specs.Written.{written}

@@ -1,5 +1,5 @@
 use Rattle.std.proofs.Common.{arith, refl, ◌∙◌}
-use Rattle.srt_mailbox.proofs.Turns.{still_bears, taken_more, put_more, idle_at_last, blocked_at_last, asked_more}
+use Rattle.srt_mailbox.proofs.Turns.{still_bears, taken_more, put_more, idle_at_last, blocked_at_last, requested_more}
 use Rattle.srt_mailbox.proofs.running.Running.visit.Goals as goal
 use Rattle.srt_mailbox.proofs.running.Running.visit.Goals.{in-Applied, in-Moved}
 
@@ -33,5 +33,5 @@ loop-turns-preserved g c =
         | in-Applied w ↦ (taken_more _ _ _ w.in-Applied.is c.turn.ensures).2 ∙ before.5
         | in-Moved w ↦ (put_more _ _ _ w.in-Moved.is c.turn.ensures).2 ∙ before.5
       ],
-      asked_more _ _ _ _ _ before.6 c.if-not-allows.ensures.asked,
+      requested_more _ _ _ _ _ before.6 c.if-not-allows.ensures.requested,
     )

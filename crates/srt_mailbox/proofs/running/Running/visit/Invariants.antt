@@ -1,5 +1,5 @@
 use Rattle.std.proofs.Common.{◌≡◌, ◌≤◌, ◌+◌, length, option_map}
-use Rattle.srt_mailbox.specs.Asked.{passes}
+use Rattle.srt_mailbox.specs.Queried.{passes}
 use Rattle.srt_mailbox.specs.Cells.{CellIdentity, Bears}
 use Rattle.srt_mailbox.specs.Visits.{turns_of}
 use Rattle.srt_mailbox.proofs.running.Running.visit.Given as goal
@@ -12,4 +12,4 @@ invariant-loop-turns g l =
     × (turns_of l.self ≡ turns_of l.fn.self + l.turns)
     × (g.G.Gate.held l.gate ≡ g.G.Gate.held l.fn.gate)
     × (l.self.refusals ≡ l.fn.self.refusals)
-    × (g.G.Gate.asked l.gate ≡ option_map (passes l.fn.route l.turns) (g.G.Gate.asked l.fn.gate))
+    × (g.G.Gate.requested l.gate ≡ option_map (passes l.fn.route l.turns) (g.G.Gate.requested l.fn.gate))

@@ -5,7 +5,7 @@ use Rattle.srt_mailbox.specs.Identities.{identity_in}
 use Rattle.srt_mailbox.specs.Places.{locks_of}
 use Rattle.srt_mailbox.specs.declared.seats.Seat.{Seat}
 use Rattle.srt_mailbox.proofs.Tokens.{lock_of, shown_at}
-use Rattle.srt_mailbox.proofs.readers.SeatReader.came_to.Goals as goal
+use Rattle.srt_mailbox.proofs.readers.SeatReader.reached.Goals as goal
 
 pub agrees-requires : goal.agrees-requires
 agrees-requires g c =
