@@ -6,21 +6,22 @@ use Rattle.std.specs.List.{fold}
 use Rattle.std.proofs.lemmas.Bool.{cases_eq}
 use Rattle.std.proofs.lemmas.Grind.{fold-append}
 use Rattle.std.proofs.lemmas.List.{map-append, length-append, length-map}
-use Rattle.srt_seq.specs.declared.shared.Schedule.{Schedule}
-use Rattle.srt_lobby.specs.Names.{RouteName}
+use Rattle.srt_types.specs.declared.shared.Schedule.{Schedule}
+use Rattle.srt_lobby.specs.Names.{RouteName, AreDistinct}
 use Rattle.srt_lobby.specs.Changing.{AreHidden}
 use Rattle.srt_poller.specs.declared.ends.Ends.{Ends}
 use Rattle.srt_poller.specs.Devices.{joined}
+use Rattle.srt_poller.specs.Schedules.{opened}
 use Rattle.srt_poller.specs.Beginnings.{all_shown, Rests, AreClosed}
 use Rattle.srt_poller.specs.Beforehand.{AgreeBefore}
 use Rattle.srt_poller.specs.Openings.{NewRoute, ReportedRoute, reported_route, names_in, ends_in, RouteReports, route_reports_more}
 use Rattle.srt_poller.specs.Plans.{never, texts_of, is_requested, waiting, closed_from, update_at, ArePlans}
-use Rattle.srt_poller.specs.Changes.{TookNewcomers, Requested, TookClosings, Took, TookChanges, Opens, BeganWith}
+use Rattle.srt_poller.specs.Changes.{TookAddedRoutes, Requested, TookClosings, Took, TookChanges, Opens, BeganWith, BeganAfter, Started}
 use Rattle.srt_poller.proofs.Joined.{joined_none, joined_twice}
 use Rattle.srt_poller.proofs.ShownInRound.{texts_opened, texts_closed, as_many}
 use Rattle.srt_poller.proofs.Beginning.{began_closing, began_quietly}
-use Rattle.srt_poller.proofs.Replanning.{agree_none, agree_append, agree_then, wait_later, agree_closed, many_updated, requested_more, requested_other, or_true}
-use Rattle.srt_poller.proofs.Replanning.{or_false, plans_as, plans_later, plans_appended, plans_closed}
+use Rattle.srt_poller.proofs.Replanning.{agree_none, agree_append, agree_then, wait_later, agree_closed, many_updated, requested_more, requested_other}
+use Rattle.srt_poller.proofs.Replanning.{or_false, plans_later, plans_appended, plans_closed, settled_closing, settled_resting}
 
 pub hidden_more : (added : List NewRoute) (n : NewRoute) → AreHidden (names_in added) → n.name.is_shown ≡ false → AreHidden (names_in (added ++ n ∷ []))
 hidden_more [] n hidden this = (this, tt)
@@ -28,7 +29,7 @@ hidden_more (m ∷ added) n hidden this = (hidden.0, hidden_more added n hidden.
 
 -- one route more
 pub added_none : (reported : Option (List ReportedRoute)) (ps : List Schedule) (ns : List RouteName) (es : List Ends) →
-    TookNewcomers reported reported ps ps ns ns es es
+    TookAddedRoutes reported reported ps ps ns ns es es
 added_none reported ps ns es = (
   [],
   sym (joined_none reported),
@@ -38,8 +39,8 @@ added_none reported ps ns es = (
 pub added_more : (reported reported' reported'' : Option (List ReportedRoute)) (ps ps' ps'' : List Schedule) (ns ns' ns'' : List RouteName)
     (es es' es'' : List Ends)
     (n : NewRoute) → n.name.is_shown ≡ false → reported'' ≡ joined reported' (reported_route n ∷ []) → ps'' ≡ ps' ++ waiting ∷ [] →
-    ns'' ≡ ns' ++ n.name ∷ [] → es'' ≡ es' ++ n.ends ∷ [] → TookNewcomers reported reported' ps ps' ns ns' es es' →
-    TookNewcomers reported reported'' ps ps'' ns ns'' es es''
+    ns'' ≡ ns' ++ n.name ∷ [] → es'' ≡ es' ++ n.ends ∷ [] → TookAddedRoutes reported reported' ps ps' ns ns' es es' →
+    TookAddedRoutes reported reported'' ps ps'' ns ns'' es es''
 added_more reported reported' reported'' ps ps' ps'' ns ns' ns'' es es' es'' n hidden tells p q r took =
     let added = took.0 in
     let h = took.2 in (
@@ -98,9 +99,9 @@ requested_one_more round reported reported' reported'' ps ps' ps'' r within tell
 pub nothing_more : (reported : RouteReports) → reported ≡ route_reports_more reported [] []
 nothing_more reported = λ i. record { added = sym (joined_none reported.added) i; requested = sym (joined_none reported.requested) i }
 
-pub took_nothing : (round due : ℕ) (reported : RouteReports) (ps : List Schedule) (ns : List RouteName) (es : List Ends) → length ps ≡ length ns →
-    length es ≡ length ns → TookChanges round due reported reported ps ps ns ns es es
-took_nothing round due reported ps ns es known all_ends = (
+pub took_nothing : (round : ℕ) (reported : RouteReports) (ps : List Schedule) (ns : List RouteName) (es : List Ends) → length ps ≡ length ns →
+    length es ≡ length ns → TookChanges round reported reported ps ps ns ns es es
+took_nothing round reported ps ns es known all_ends = (
   [],
   [],
   nothing_more reported,
@@ -108,19 +109,19 @@ took_nothing round due reported ps ns es known all_ends = (
     agree = agree_none round ps;
     named = sym (append-nil ns);
     ended = sym (append-nil es);
-    planned = λ waits schedules requested timely h.
-        subst (λ (l : List ℕ). ArePlans (suc round) (λ r. (waits ≡ true) ⊎ (due ≤ round)) schedules (texts_of ns) l ps) (sym (append-nil requested))
-        (plans_later round (λ r. waits ≡ true) (λ r. (waits ≡ true) ⊎ (due ≤ round)) schedules (texts_of ns) requested ps (λ r w. inl w) h);
+    planned = λ starts schedules requested timely h.
+        subst (λ (l : List ℕ). ArePlans (suc round) (λ r. Unit {0}) starts schedules (texts_of ns) l ps) (sym (append-nil requested))
+        (plans_later round starts schedules (texts_of ns) requested ps h);
     known = known;
     all_ends = all_ends;
   },
 )
 
-pub took_changes : (round due : ℕ) (reported reported' : RouteReports) (ps middle ps' : List Schedule) (ns ns' : List RouteName) (es es' : List Ends) →
-    length ps ≡ length ns → length es ≡ length ns → round ≤ never → due ≤ round →
-    TookNewcomers reported.added reported'.added ps middle ns ns' es es' → TookClosings round reported.requested reported'.requested middle ps' →
-    TookChanges round due reported reported' ps ps' ns ns' es es'
-took_changes round due reported reported' ps middle ps' ns ns' es es' known all_ends small now coming closing =
+pub took_changes : (round : ℕ) (reported reported' : RouteReports) (ps middle ps' : List Schedule) (ns ns' : List RouteName) (es es' : List Ends) →
+    length ps ≡ length ns → length es ≡ length ns → round ≤ never →
+    TookAddedRoutes reported.added reported'.added ps middle ns ns' es es' → TookClosings round reported.requested reported'.requested middle ps' →
+    TookChanges round reported reported' ps ps' ns ns' es es'
+took_changes round reported reported' ps middle ps' ns ns' es es' known all_ends small coming closing =
     let added = coming.0 in
     let h = coming.2 in
     let g = closing.2 in
@@ -140,14 +141,13 @@ took_changes round due reported reported' ps middle ps' ns ns' es es' known all_
             (subst (λ (l : List Schedule). AgreeBefore round middle l []) (sym g.planned) (agree_closed round small closing.0 middle)));
         named = h.named;
         ended = h.ended;
-        planned = λ waits schedules requested timely plans.
-            let come = subst (λ (l : List Schedule). ArePlans (suc round) (λ r. Unit {0}) schedules (texts_of ns ++ texts_of (names_in added)) requested l)
+        planned = λ starts schedules requested timely plans.
+            let come = subst (λ (l : List Schedule). ArePlans (suc round) (λ r. Unit {0}) starts schedules (texts_of ns ++ texts_of (names_in added))
+            requested l)
             (sym h.planned)
-            (plans_appended round (λ r. waits ≡ true) schedules (texts_of ns) (texts_of (names_in added)) requested ps added many plans) in
-            let wait = plans_as (suc round) (λ r. Unit {0}) (λ r. (waits ≡ true) ⊎ (due ≤ round)) schedules
-            (texts_of ns ++ texts_of (names_in added)) requested middle (λ r within u. inr now) come in
-            let close = plans_closed round (λ r. (waits ≡ true) ⊎ (due ≤ round)) schedules (texts_of ns ++ texts_of (names_in added)) timely
-            closing.0 requested middle g.known wait in
+            (plans_appended round starts schedules (texts_of ns) (texts_of (names_in added)) requested ps added small many plans) in
+            let close = plans_closed round (λ r. Unit {0}) starts schedules (texts_of ns ++ texts_of (names_in added)) small timely
+            closing.0 requested middle g.known come in
             rw (texts, g.planned) close;
         known = omega (
           arith,
@@ -175,38 +175,32 @@ took_changes round due reported reported' ps middle ps' ns ns' es es' known all_
     )
 
 -- the round begins
-module _ (round due latest : ℕ) (added : List NewRoute) (requested : List ℕ) (ps ps' : List Schedule) (ns ns' : List RouteName) (es es' : List Ends)
-    (took : Took round due added requested ps ps' ns ns' es es') where
+module _ (round latest : ℕ) (added : List NewRoute) (requested : List ℕ) (ps ps' : List Schedule) (ns ns' : List RouteName) (es es' : List Ends)
+    (took : Took round added requested ps ps' ns ns' es es') where
   pub began_to_close : (new : List RouteName) (after : List Ends) → AreClosed true latest round ps' ns' new es' after →
       BeganWith true round latest added requested ps ps' ns new es after
   began_to_close new after closing = record {
     agree = took.agree;
     began = rw (sym took.named, sym took.ended) (began_closing true round latest ps' ns' ns' new es' after refl closing);
     texts = ap all_shown closing.1.names ∙ texts_closed closing.0 ns' ∙ ap all_shown took.named;
-    planned = λ waits schedules before timely plans.
-        plans_as (suc round) (λ r. (waits ≡ true) ⊎ (due ≤ round)) (λ r. (waits || true) ≡ true) schedules (texts_of (ns ++ names_in added))
-        (before ++ requested) ps' (λ r within w. or_true waits)
-        (rw (sym took.named) (took.planned waits schedules before timely plans));
+    planned = λ starts schedules before timely plans.
+        rw (sym took.named) (settled_closing round ns' (texts_of ns') ps' starts schedules (before ++ requested) timely
+        (took.planned starts schedules before timely plans));
     known = took.known ∙ sym (as_many new ns' (ap all_shown closing.1.names ∙ texts_closed closing.0 ns'));
     all_ends = closing.1.ends.as_many ∙ took.all_ends ∙ sym (as_many new ns' (ap all_shown closing.1.names ∙ texts_closed closing.0 ns'));
   }
 
-  pub began_as_before : round < due → Rests round ps' ns' → BeganWith false round latest added requested ps ps' ns ns' es es'
-  began_as_before quiet rests = record {
+  pub began_as_before : AreDistinct ns' → Rests round ps' ns' → BeganWith false round latest added requested ps ps' ns ns' es es'
+  began_as_before distinct rests = record {
     agree = took.agree;
-    began = rw (sym took.named, sym took.ended) (began_quietly round latest ps' ns' es' rests);
+    began = rw (sym took.named, sym took.ended) (began_quietly round latest ps' ns' es' distinct rests);
     texts = ap all_shown took.named;
-    planned = λ waits schedules before timely plans.
-        plans_as (suc round) (λ r. (waits ≡ true) ⊎ (due ≤ round)) (λ r. (waits || false) ≡ true) schedules (texts_of (ns ++ names_in added))
-        (before ++ requested) ps' (λ r within w. still waits w)
-        (rw (sym took.named) (took.planned waits schedules before timely plans));
+    planned = λ starts schedules before timely plans.
+        rw (sym took.named) (settled_resting round (opened round ps' ns') (texts_of ns') ps' rests.2 starts schedules (before ++ requested) timely
+        (took.planned starts schedules before timely plans));
     known = took.known;
     all_ends = took.all_ends;
   }
-    where
-      still : (waits : Bool) → (waits ≡ true) ⊎ (due ≤ round) → (waits || false) ≡ true
-      still waits (inl is) = or_false waits ∙ is
-      still waits (inr late) = absurd (omega (arith, late, quiet))
 
   pub began_to_open : (ps'' : List Schedule) (middle new : List RouteName) (after : List Ends) → Opens round ps' ps'' ns' middle →
       AreClosed false latest round ps'' middle new es' after → BeganWith false round latest added requested ps ps'' ns new es after
@@ -217,11 +211,9 @@ module _ (round due latest : ℕ) (added : List NewRoute) (requested : List ℕ)
             (agree_then round ps ps' ps'' (names_in added) [] took.agree opens.agree);
         began = rw (sym took.named, sym took.ended) (began_closing false round latest ps'' ns' middle new es' after opens.named closing);
         texts = shown ∙ ap all_shown took.named;
-        planned = λ waits schedules before timely plans.
-            let wait = plans_as (suc round) (λ r. (waits ≡ true) ⊎ (due ≤ round)) (λ r. Unit {0}) schedules (texts_of ns') (before ++ requested) ps'
-            (λ r within w. tt) (took.planned waits schedules before timely plans) in
-            plans_as (suc round) (λ r. ⊥) (λ r. (waits || false) ≡ true) schedules (texts_of (ns ++ names_in added)) (before ++ requested) ps''
-            (λ r within w. absurd w) (rw (sym took.named) (opens.planned schedules (before ++ requested) timely wait));
+        planned = λ starts schedules before timely plans.
+            rw (sym took.named, sym opens.named) (opens.planned starts schedules (before ++ requested) timely
+            (took.planned starts schedules before timely plans));
         known = opens.as_many ∙ took.known ∙ sym (as_many new ns' shown);
         all_ends = closing.1.ends.as_many ∙ took.all_ends ∙ sym (as_many new ns' shown);
       }
@@ -234,3 +226,34 @@ put_whole was lent new len same many as_many =
 
 pub opens_known : {round : ℕ} {ps ps' : List Schedule} {ns ns' : List RouteName} → length ps ≡ length ns → Opens round ps ps' ns ns' → length ns' ≡ length ns
 opens_known {round} {ps} {ps'} {ns} {ns'} known h = as_many ns' ns (ap all_shown h.named ∙ texts_opened round ps' ns)
+
+-- a round starts, after its changes: the routes stay as many
+pub started_texts : (closes_all : Bool) (round due latest : ℕ) (ps ps' : List Schedule) (ns ns' : List RouteName) (es es' : List Ends) →
+    Started closes_all round due latest ps ps' ns ns' es es' → all_shown ns' ≡ all_shown ns
+started_texts closes_all round due latest ps ps' ns ns' es es' (inl h) = ap all_shown h.2.1.names ∙ texts_closed h.2.0 ns
+started_texts closes_all round due latest ps ps' ns ns' es es' (inr h) = by h.1
+  where
+    by : ((round < due) × (ps' ≡ ps) × (ns' ≡ ns) × (es' ≡ es) × AreDistinct ns)
+        ⊎ ((shown : List RouteName) × Opens round ps ps' ns shown × AreClosed false latest round ps' shown ns' es es') → all_shown ns' ≡ all_shown ns
+    by (inl q) = ap all_shown q.2
+    by (inr q) =
+        ap all_shown q.2.1.names ∙ texts_closed q.2.0 q.0 ∙ ap all_shown q.1.named ∙ texts_opened round ps' ns
+
+-- a round began, its changes included
+pub began_after : (closes_all : Bool) (round due latest : ℕ) (reported reported' : RouteReports) (ps ps' ps'' : List Schedule)
+    (ns ns' ns'' : List RouteName) (es es' es'' : List Ends) → TookChanges round reported reported' ps ps' ns ns' es es' →
+    (round < due → Rests round ps' ns') → Started closes_all round due latest ps' ps'' ns' ns'' es' es'' →
+    BeganAfter closes_all round latest reported reported' ps ps'' ns ns'' es es''
+began_after closes_all round due latest reported reported' ps ps' ps'' ns ns' ns'' es es' es'' took rests started =
+    (took.0, took.1, took.2, by started)
+  where
+    later : closes_all ≡ false → ((round < due) × (ps'' ≡ ps') × (ns'' ≡ ns') × (es'' ≡ es') × AreDistinct ns')
+        ⊎ ((shown : List RouteName) × Opens round ps' ps'' ns' shown × AreClosed false latest round ps'' shown ns'' es' es'') →
+        BeganWith closes_all round latest took.0 took.1 ps ps'' ns ns'' es es''
+    later is (inl q) =
+        rw (is, q.1, q.2, q.3) (began_as_before round latest took.0 took.1 ps ps' ns ns' es es' took.3 q.4 (rests q.0))
+    later is (inr q) = rw is (began_to_open round latest took.0 took.1 ps ps' ns ns' es es' took.3 ps'' q.0 ns'' es'' q.1 q.2)
+
+    by : Started closes_all round due latest ps' ps'' ns' ns'' es' es'' → BeganWith closes_all round latest took.0 took.1 ps ps'' ns ns'' es es''
+    by (inl h) = rw (h.0, h.1) (began_to_close round latest took.0 took.1 ps ps' ns ns' es es' took.3 ns'' es'' h.2)
+    by (inr h) = later h.0 h.1

@@ -3,14 +3,17 @@
 use Rattle.std.proofs.Common.{◌≡◌, ℕ, zero, suc, ◌+◌, ◌<◌, ◌≤◌, ◌==◌, Bool, true, false, cond, ◌&&◌, ◌||◌, List, [], ◌∷◌, ◌++◌, length}
 use Rattle.std.proofs.Common.{refl, sym, ap, subst, ◌∙◌, arith}
 use Rattle.std.proofs.lemmas.Bool.{and_right}
-use Rattle.srt_seq.specs.declared.shared.Schedule.{Schedule}
-use Rattle.srt_lobby.specs.Names.{RouteName, as_shown}
+use Rattle.srt_types.specs.declared.shared.Schedule.{Schedule}
+use Rattle.std.proofs.lemmas.List.{map-append}
+use Rattle.srt_lobby.specs.Names.{RouteName, as_shown, AreDistinct}
 use Rattle.srt_lobby.specs.Changing.{marked_at, hidden_at, AreHidden}
 use Rattle.srt_lobby.proofs.HiddenNames.{hidden_change_nothing}
 use Rattle.srt_poller.specs.Schedules.{CloseOffer, offered_routes, opened, opened_if, is_due, due_from, due, hidden_by, closed, begun}
 use Rattle.srt_poller.specs.History.{Sorting, Event, Begins, Waits, WaitFails, ReadsNothing, ReadFails, Answers, Accepts, Overflows, Refuses, Drops}
 use Rattle.srt_poller.specs.History.{Begun, IsOver, IsReading, MaySend}
 use Rattle.srt_poller.specs.History.{Sends, Resends, State, names_by, state_by, state_after, Fits, Follow}
+use Rattle.srt_poller.specs.Starts.{RoundStart, round_start, starts_by, starts_in}
+use Rattle.srt_poller.proofs.Starting.{distinct_more, start_more, starts_more}
 use Rattle.srt_poller.specs.Beforehand.{OpenLater, AgreeBefore, AreIgnored, with_more, EarlierRoundsAreSame, LobbyIgnoresLater}
 
 -- all of these are below this number
@@ -126,6 +129,18 @@ module _ (limit : ℕ) (more : List RouteName) where
       ∙ ap (λ (ns : List ℕ). cond (is_due c k s.close_round && name.is_shown) (i ∷ ns) ns)
       (due_more (suc i) c k early schedules later names (let fewer : length schedules ≡ length names = omega (arith, many) in fewer) agree.1)
 
+-- further routes are hidden
+later_are_hidden : (limit : ℕ) (later : List Schedule) (more : List RouteName) → OpenLater limit later more → AreHidden more
+later_are_hidden limit [] [] h = tt
+later_are_hidden limit [] (x ∷ more) h = absurd h
+later_are_hidden limit (t ∷ later) [] h = absurd h
+later_are_hidden limit (t ∷ later) (x ∷ more) h = (h.1, later_are_hidden limit later more h.2)
+
+more_are_hidden : (limit : ℕ) (schedules later : List Schedule) (more : List RouteName) → AgreeBefore limit schedules later more → AreHidden more
+more_are_hidden limit [] later more agree = later_are_hidden limit later more agree
+more_are_hidden limit (s ∷ schedules) [] more agree = absurd agree
+more_are_hidden limit (s ∷ schedules) (t ∷ later) more agree = more_are_hidden limit schedules later more agree.1
+
 -- if the event begins a round, it is one before the limit
 abbrev pub IsBefore : (limit : ℕ) → State → Event → Type 0
 IsBefore limit s (Begins c moment offers) = s.round < limit
@@ -166,6 +181,8 @@ module _ (class : Sorting) (limit : ℕ) (schedules later : List Schedule) (more
         fits.1,
         fits.2 ∙ sym (due_more limit more 0 c s.round early schedules later shown (many ∙ sym (many_opened_if c s.round schedules s.names many)) agree)
             ∙ ap (due c s.round later) (sym (opened_if_more limit more c s.round early schedules later s.names many agree)),
+        subst AreDistinct (sym (opened_if_more limit more c s.round early schedules later s.names many agree))
+            (distinct_more shown more (more_are_hidden limit schedules later more agree) fits.3),
       )
   fits_more s Waits many early fits = fits
   fits_more s WaitFails many early fits = fits
@@ -221,6 +238,33 @@ module _ (class : Sorting) (limit : ℕ) (schedules later : List Schedule) (more
         (fits_more s event many early.0 follow.0, subst (λ (t : State). Follow class later t events) (sym one) rest.0),
         ap (λ (t : State). state_after later t events) one ∙ rest.1,
       )
+
+  -- and the rounds start so, with the further routes
+  start_beforehand : (s : State) (event : Event) → length schedules ≡ length s.names → IsBefore limit s event →
+      starts_by later (with_more more s) event ≡ starts_more more (starts_by schedules s event)
+  start_beforehand s (Begins c moment offers) many early =
+      ap (λ (names : List RouteName). round_start s.round c names ∷ []) (opened_if_more limit more c s.round early schedules later s.names many agree)
+  start_beforehand s Waits many early = refl
+  start_beforehand s WaitFails many early = refl
+  start_beforehand s ReadsNothing many early = refl
+  start_beforehand s ReadFails many early = refl
+  start_beforehand s (Answers arrival bytes sent) many early = refl
+  start_beforehand s (Accepts arrival route) many early = refl
+  start_beforehand s (Overflows arrival route) many early = refl
+  start_beforehand s (Refuses arrival route) many early = refl
+  start_beforehand s (Drops arrival cause) many early = refl
+  start_beforehand s (Sends route reply sent) many early = refl
+  start_beforehand s (Resends route reply sent) many early = refl
+
+  starts_beforehand : (events : List Event) (s : State) → length schedules ≡ length s.names → AreBefore limit schedules s events →
+      Follow class schedules s events → starts_in later (with_more more s) events ≡ starts_more more (starts_in schedules s events)
+  starts_beforehand [] s many early follow = refl
+  starts_beforehand (event ∷ events) s many early follow =
+      let rest = starts_beforehand events (state_by schedules s event) (still_many s event many) early.1 follow.1 in
+      ap (λ (l : List RoundStart). l ++ starts_in later (state_by later (with_more more s) event) events) (start_beforehand s event many early.0)
+      ∙ ap (λ (t : State). starts_more more (starts_by schedules s event) ++ starts_in later t events) (state_more s event many early.0 follow.0)
+      ∙ ap (λ (l : List RoundStart). starts_more more (starts_by schedules s event) ++ l) rest
+      ∙ sym (map-append (start_more more) (starts_by schedules s event) (starts_in schedules (state_by schedules s event) events))
 
 -- rounds go on
 round_grows : (schedules : List Schedule) (s : State) (event : Event) → s.round ≤ (state_by schedules s event).round
@@ -288,16 +332,12 @@ pub earlier_rounds_are_same : EarlierRoundsAreSame
 earlier_rounds_are_same class limit schedules later more agree ignores events s many follow over last =
     beforehand class limit schedules later more agree ignores events s many (all_before class schedules limit events s follow over last) follow
 
-later_are_hidden : (limit : ℕ) (later : List Schedule) (more : List RouteName) → OpenLater limit later more → AreHidden more
-later_are_hidden limit [] [] h = tt
-later_are_hidden limit [] (x ∷ more) h = absurd h
-later_are_hidden limit (t ∷ later) [] h = absurd h
-later_are_hidden limit (t ∷ later) (x ∷ more) h = (h.1, later_are_hidden limit later more h.2)
-
-more_are_hidden : (limit : ℕ) (schedules later : List Schedule) (more : List RouteName) → AgreeBefore limit schedules later more → AreHidden more
-more_are_hidden limit [] later more agree = later_are_hidden limit later more agree
-more_are_hidden limit (s ∷ schedules) [] more agree = absurd agree
-more_are_hidden limit (s ∷ schedules) (t ∷ later) more agree = more_are_hidden limit schedules later more agree.1
+pub earlier_starts_are_same : (class : Sorting) (limit : ℕ) (schedules later : List Schedule) (more : List RouteName) → AgreeBefore limit schedules later more
+    → AreIgnored class more → (events : List Event) (s : State) → length schedules ≡ length s.names → Follow class schedules s events
+    → IsOver (state_after schedules s events).phase → (state_after schedules s events).round ≤ limit
+    → starts_in later (with_more more s) events ≡ starts_more more (starts_in schedules s events)
+earlier_starts_are_same class limit schedules later more agree ignores events s many follow over last =
+    starts_beforehand class limit schedules later more agree ignores events s many (all_before class schedules limit events s follow over last) follow
 
 pub lobby_ignores_later : LobbyIgnoresLater
 lobby_ignores_later secret limit schedules later more agree names d moment =

@@ -1,7 +1,7 @@
 -- A round begins.
-use Rattle.std.proofs.Common.{◌≡◌, ◌∙◌, refl, sym, ap, ℕ, Bool, false, List, [], ◌∷◌, arith}
-use Rattle.srt_seq.specs.declared.shared.Schedule.{Schedule}
-use Rattle.srt_lobby.specs.Names.{RouteName}
+use Rattle.std.proofs.Common.{◌≡◌, ◌∙◌, refl, sym, ap, subst, ℕ, Bool, false, List, [], ◌∷◌, arith}
+use Rattle.srt_types.specs.declared.shared.Schedule.{Schedule}
+use Rattle.srt_lobby.specs.Names.{RouteName, AreDistinct}
 use Rattle.srt_poller.specs.declared.ends.Ends.{Ends}
 use Rattle.srt_poller.specs.Schedules.{opened_if, due, closed}
 use Rattle.srt_poller.specs.History.{Begins, state}
@@ -18,13 +18,14 @@ began_closing closes_all round latest schedules old middle new before after show
     let offers = closing.0 in
     let done = closing.1 in
     went_once class schedules (Begins closes_all latest offers) 0 0 _ _ refl (omega arith)
-    (over, refl, done.routes ∙ ap (λ (l : List RouteName). due closes_all round schedules l) shown)
+    (over, refl, done.routes ∙ ap (λ (l : List RouteName). due closes_all round schedules l) shown, subst AreDistinct shown done.distinct)
     (unheard _ _ _ _ refl refl (sym (joined_none _)) (sym (joined_none _))) done.ends
     (ap (λ (l : List RouteName). state l (kept_in p) round (begun_phase p) latest) (done.names ∙ ap (closed offers) shown)) refl
 
 -- there was nothing to do
-pub began_quietly : (round latest : ℕ) (schedules : List Schedule) (names : List RouteName) (ends : List Ends) → Rests round schedules names →
+pub began_quietly : (round latest : ℕ) (schedules : List Schedule) (names : List RouteName) (ends : List Ends) → AreDistinct names →
+    Rests round schedules names →
     Began false round latest schedules names names ends ends
-began_quietly round latest schedules names ends rests =
+began_quietly round latest schedules names ends distinct rests =
     began_closing false round latest schedules names names names ends ends (sym rests.0)
-    ([], record { routes = sym rests.1; names = refl; ends = are_later_none (Begins false latest [] ∷ []) ends (λ r. refl) (λ r. refl) })
+    ([], record { distinct = distinct; routes = sym rests.1; names = refl; ends = are_later_none (Begins false latest [] ∷ []) ends (λ r. refl) (λ r. refl) })

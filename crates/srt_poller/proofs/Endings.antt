@@ -1,7 +1,8 @@
 -- After some rounds.
-use Rattle.std.proofs.Common.{◌≡◌, ◌⊎◌, ◌∙◌, inl, inr, refl, sym, ap, subst, ℕ, ◌+◌, ◌*◌, ◌^◌, ◌≤◌, Bool, true, false, Option, None, List, length, arith}
+use Rattle.std.proofs.Common.{◌≡◌, ◌⊎◌, ◌∙◌, inl, inr, refl, sym, ap, subst, ℕ, ◌+◌, ◌*◌, ◌^◌, ◌≤◌, Bool, true, false, Option, None}
+use Rattle.std.proofs.Common.{List, [], ◌∷◌, ◌++◌, length, arith}
 use Rattle.std.specs.Prelude.{if◌then◌else◌}
-use Rattle.srt_seq.specs.declared.shared.Schedule.{Schedule}
+use Rattle.srt_types.specs.declared.shared.Schedule.{Schedule}
 use Rattle.srt_lobby.specs.Names.{RouteName}
 use Rattle.srt_poller.specs.declared.ends.Ends.{Ends}
 use Rattle.srt_poller.specs.declared.poller.Poller.{Poller}
@@ -11,6 +12,10 @@ use Rattle.srt_poller.specs.History.{Sorting, State, Phase, Kept, IsOver, kept_a
 use Rattle.srt_poller.specs.Reports.{nothing, counted, with_kept, total}
 use Rattle.srt_poller.specs.Rounds.{World, WentClosing, Went, world}
 use Rattle.srt_poller.specs.Pollers.{kept_in, round_state, world_of, Rounds}
+use Rattle.srt_poller.specs.Starts.{RoundStart, starts_in}
+use Rattle.srt_poller.specs.Openings.{NewRoute, names_in, RouteReports, route_reports_more}
+use Rattle.srt_poller.specs.Plans.{texts_of, ArePlans}
+use Rattle.srt_poller.specs.Changes.{with_routes, ChangedBy}
 use Rattle.srt_poller.specs.Pumped.{Before, After, PumpedUnder, before, after}
 use Rattle.srt_poller.proofs.Steps.{went_then, went_more, went_as, rounds_more}
 use Rattle.srt_poller.proofs.Sums.{all_summed}
@@ -18,15 +23,15 @@ use Rattle.srt_poller.proofs.Tallies.{tallied}
 use Rattle.srt_poller.proofs.Origins.{have_origins, kept_is}
 
 pub ended : {goes closes : Type 0} (class : Sorting) (schedules : List Schedule) (names names' : List RouteName) (source source' : Heard)
-    (wire wire' : Carried) (ends ends' : List Ends) (latest : ℕ) (phase : Phase) (p : Poller) (made closing : ℕ) (report : Report)
+    (wire wire' : Carried) (ends ends' : List Ends) (latest : ℕ) (phase : Phase) (p : Poller) (made closing : ℕ) (starts : List RoundStart) (report : Report)
     →
     made ≤ 2 ^ 48 → IsOver phase → (closing ≡ made) ⊎ goes → (closing ≡ 0) ⊎ closes →
-    WentClosing class schedules closing (made * (259 + 64 * length ends)) made made (world source wire ends (at_first names) nothing)
+    WentClosing class schedules closing starts (made * (259 + 64 * length ends)) made made (world source wire ends (at_first names) nothing)
     (world_of source' wire' ends' (round_state names' made latest) phase p)
     →
     report ≡ with_kept p.report (kept_in p)
     → PumpedUnder goes closes class schedules made (before names source wire ends) (after names' source' wire' ends' report)
-ended {goes} {closes} class schedules names names' source source' wire wire' ends ends' latest phase p made closing report small over go close went is =
+ended {goes} {closes} class schedules names names' source source' wire wire' ends ends' latest phase p made closing starts report small over go close went is =
     let events = went.0 in
     let h = went.1 in
     let first : State = at_first names in
@@ -57,6 +62,39 @@ ended {goes} {closes} class schedules names names' source source' wire wire' end
       },
     )
 
+-- the same, and its rounds started so
+pub ended_so : {goes closes : Type 0} (class : Sorting) (schedules : List Schedule) (names names' : List RouteName) (source source' : Heard)
+    (wire wire' : Carried) (ends ends' : List Ends) (latest : ℕ) (phase : Phase) (p : Poller) (made closing : ℕ) (starts : List RoundStart) (report : Report)
+    →
+    made ≤ 2 ^ 48 → IsOver phase → (closing ≡ made) ⊎ goes → (closing ≡ 0) ⊎ closes →
+    WentClosing class schedules closing starts (made * (259 + 64 * length ends)) made made (world source wire ends (at_first names) nothing)
+    (world_of source' wire' ends' (round_state names' made latest) phase p)
+    →
+    report ≡ with_kept p.report (kept_in p)
+    → (pumped : PumpedUnder goes closes class schedules made (before names source wire ends) (after names' source' wire' ends' report))
+    × (starts_in schedules (at_first names) pumped.0 ≡ starts)
+unfolding ended
+ended_so class schedules names names' source source' wire wire' ends ends' latest phase p made closing starts report small over go close went is = (
+  ended class schedules names names' source source' wire wire' ends ends' latest phase p made closing starts report small over go close went is,
+  went.1.started,
+)
+
+-- what it did while routes were added and removed
+pub changed_so : {goes closes : Type 0} {class : Sorting} {schedules : List Schedule} {rounds : ℕ} {reported reported' : RouteReports} {old : Before}
+    {new : After} {added : List NewRoute} {requested : List ℕ} {later : List Schedule} (starts : List RoundStart)
+    → reported' ≡ route_reports_more reported added requested
+    → ArePlans rounds (λ r. ⊥) starts schedules (texts_of (old.names ++ names_in added)) requested later
+    → ((pumped : PumpedUnder goes closes class later rounds (with_routes added old) new)
+    × (starts_in later (at_first (old.names ++ names_in added)) pumped.0 ≡ starts))
+    → ChangedBy goes closes class schedules rounds reported reported' old new added requested later
+changed_so {schedules = schedules} {rounds = rounds} {old = old} {added = added} {requested = requested} {later = later} starts reports planned pumped =
+    record {
+      reports = reports;
+      pumped = pumped.0;
+      planned =
+          subst (λ (l : List RoundStart). ArePlans rounds (λ r. ⊥) l schedules (texts_of (old.names ++ names_in added)) requested later) (sym pumped.1) planned;
+    }
+
 -- the number of rounds under another name
 pub as_reported : {goes closes : Type 0} {class : Sorting} {schedules : List Schedule} {made reported : ℕ} {x : Before} {y : After}
     → made ≡ reported → PumpedUnder goes closes class schedules made x y → PumpedUnder goes closes class schedules reported x y
@@ -76,13 +114,14 @@ close_more closing false (inl e) g = inl (omega (arith, e))
 close_more closing false (inr x) g = inr x
 
 -- one round more, which began and was made to its end
-pub rounds_next : {goes closes : Type 0} (class : Sorting) (schedules : List Schedule) (made routes many : ℕ) (closes_all : Bool)
-    (old now new : Phase → World) (begun : World)
-    → Rounds goes closes class schedules made routes old now
-    → ((phase : Phase) → IsOver phase → WentClosing class schedules (if closes_all then 1 else 0) 1 0 0 (now phase) begun)
+pub rounds_next : {goes closes : Type 0} (class : Sorting) (schedules : List Schedule) (starts : List RoundStart) (start : RoundStart) (made routes many : ℕ)
+    (closes_all : Bool) (old now new : Phase → World) (begun : World)
+    → Rounds goes closes class schedules starts made routes old now
+    → ((phase : Phase) → IsOver phase → WentClosing class schedules (if closes_all then 1 else 0) (start ∷ []) 1 0 0 (now phase) begun)
     → (next : Phase) × IsOver next × Went class schedules (258 + 64 * many) 1 1 begun (new next)
-    → many ≡ routes → (closes_all ≡ false → goes) → (closes_all ≡ true → closes) → Rounds goes closes class schedules (made + 1) routes old new
-rounds_next class schedules made routes many closes_all old now new begun sofar began rest same go close phase over =
+    → many ≡ routes → (closes_all ≡ false → goes) → (closes_all ≡ true → closes)
+    → Rounds goes closes class schedules (starts ++ start ∷ []) (made + 1) routes old new
+rounds_next class schedules starts start made routes many closes_all old now new begun sofar began rest same go close phase over =
     let b = sofar phase over in (
       rest.0,
       rest.1,

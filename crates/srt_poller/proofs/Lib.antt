@@ -6,9 +6,11 @@ pub mod Tallies
 pub mod Endings
 pub mod Scripted
 pub mod ShownInRound
+pub mod Starting
 pub mod Beforehand
 pub mod Extending
 pub mod Replanning
 pub mod Beginning
 pub mod Additions
 pub mod Remaking
+pub mod Unchanging

@@ -1,12 +1,12 @@
 -- Which routes a round shows and hides, name by name.
-use Rattle.std.proofs.Common.{◌≡◌, ℕ, zero, suc, ◌+◌, ◌<◌, ◌==◌, Bool, true, false, ◌&&◌, None, Some, List, [], ◌∷◌, ◌++◌, length, map}
+use Rattle.std.proofs.Common.{◌≡◌, ℕ, zero, suc, ◌+◌, ◌<◌, ◌==◌, Bool, true, false, ◌&&◌, ◌||◌, None, Some, List, [], ◌∷◌, ◌++◌, length, map}
 use Rattle.std.proofs.Common.{take, slice_get, refl, sym, ap, ◌∙◌, subst, append-nil, arith}
 use Rattle.std.specs.Prelude.{if◌then◌else◌}
 use Rattle.std.proofs.lemmas.Grind.{fold-append}
 use Rattle.std.proofs.lemmas.List.{map-append, length-map}
-use Rattle.srt_seq.specs.declared.shared.Schedule.{Schedule}
+use Rattle.srt_types.specs.declared.shared.Schedule.{Schedule}
 use Rattle.srt_lobby.specs.Names.{RouteName, as_shown, name_of, shows, is_shown_at, AreDistinct}
-use Rattle.srt_seq.specs.Terms.{Terms}
+use Rattle.srt_types.specs.Terms.{Terms}
 use Rattle.srt_lobby.specs.Opening.{fault_of}
 use Rattle.srt_lobby.proofs.Distinct.{names_are_distinct}
 use Rattle.srt_lobby.specs.Changing.{marked_at, hidden_at, shown_at}
@@ -14,7 +14,8 @@ use Rattle.srt_poller.specs.Schedules.{CloseOffer, offered, opened, opened_if, i
 use Rattle.srt_poller.specs.declared.ends.Ends.{Ends}
 use Rattle.srt_poller.specs.History.{State, Event, state_by, state_after, names_by, Begins, Waits, WaitFails, ReadsNothing, ReadFails}
 use Rattle.srt_poller.specs.History.{Answers, Accepts, Overflows, Refuses, Drops, Sends, Resends}
-use Rattle.srt_poller.specs.Beginnings.{all_shown, Rests, RouteRests, Closes, AreClosed}
+use Rattle.srt_poller.specs.Beginnings.{all_shown, Rests, NoneMayOpen, RouteRests, Closes, AreClosed}
+use Rattle.srt_poller.specs.Plans.{may_open}
 use Rattle.srt_poller.proofs.Steps.{are_later_none, closings_then}
 
 abbrev pub no_schedule : Schedule
@@ -83,14 +84,27 @@ due_step a round r ss s ns h e =
     due_from_step 0 a round r ss s ns h e ∙ ap (λ k. due a round (take r ss) ns ++ (if is_due a round s.close_round && is_shown_at ns r then k ∷ [] else [])) at
 
 -- one route more rests
+or_left : (x y : Bool) → (x || y) ≡ false → x ≡ false
+or_left true y e = e
+or_left false y e = refl
+
+none_more : (round r : ℕ) (ss : List Schedule) (s : Schedule) → slice_get ss r ≡ Some s → NoneMayOpen round (take r ss) → may_open round s ≡ false →
+    NoneMayOpen round (take (r + 1) ss)
+none_more round r [] s h before this = cc
+none_more round zero (x ∷ ss) s h before this = let same : s ≡ x = cc in (ap (may_open round) (sym same) ∙ this, tt)
+none_more round (suc r) (x ∷ ss) s h before this =
+    let count : suc (r + 1) ≡ suc r + 1 = omega arith in
+    subst (λ (n : ℕ). NoneMayOpen round (take n (x ∷ ss))) count (before.0, none_more round r ss s h before.1 this)
+
 pub rests_none : (round : ℕ) (ns : List RouteName) → Rests round [] ns
-rests_none round ns = (refl, refl)
+rests_none round ns = (refl, refl, tt)
 
 pub rests_more : (round r : ℕ) (ss : List Schedule) (s : Schedule) (ns : List RouteName) → slice_get ss r ≡ Some s → length ss ≡ length ns →
     Rests round (take r ss) ns → RouteRests round s (is_shown_at ns r) → Rests round (take (r + 1) ss) ns
 rests_more round r ss s ns h e before this = (
-  opened_step round r ss s ns h e ∙ rw this.0 before.0,
+  opened_step round r ss s ns h e ∙ rw (or_left (s.open_round == round) _ this.0) before.0,
   due_step false round r ss s ns h e ∙ rw (this.1, before.1) refl,
+  none_more round r ss s h before.2 this.0,
 )
 
 -- the texts stay
@@ -167,8 +181,16 @@ pub closed_then : (os : List CloseOffer) (o : CloseOffer) (ns : List RouteName) 
 closed_then os o ns = fold-append hidden_by ns os (o ∷ [])
 
 -- the closings of the first routes
-pub closed_none : (a : Bool) (moment round : ℕ) (ns : List RouteName) (es : List Ends) → AreClosed a moment round [] ns ns es es
-closed_none a moment round ns es = ([], record { routes = refl; names = refl; ends = are_later_none (Begins a moment [] ∷ []) es (λ r. refl) (λ r. refl) })
+pub closed_none : (a : Bool) (moment round : ℕ) (ns : List RouteName) (es : List Ends) → AreDistinct ns → AreClosed a moment round [] ns ns es es
+closed_none a moment round ns es distinct = (
+  [],
+  record {
+    distinct = distinct;
+    routes = refl;
+    names = refl;
+    ends = are_later_none (Begins a moment [] ∷ []) es (λ r. refl) (λ r. refl);
+  },
+)
 
 -- what one list has at a place the other one has too, if they have the same there
 pub below_both : {A : Type 0} (xs ys : List A) (k : ℕ) → slice_get xs k ≡ slice_get ys k → k < length ys → k < length xs
@@ -187,6 +209,7 @@ pub closed_skip : (a : Bool) (moment round r : ℕ) (ss : List Schedule) (s : Sc
 closed_skip a moment round r ss s ns now before after h e same rests c = (
   c.0,
   record {
+    distinct = c.1.distinct;
     routes =
         let here : (is_due a round s.close_round && is_shown_at ns r) ≡ false = ap (λ o. is_due a round s.close_round && shows o) (sym same) ∙ rests in
         c.1.routes ∙ sym (due_step a round r ss s ns h e ∙ rw here (append-nil _));
@@ -206,6 +229,7 @@ pub closed_more : (a : Bool) (moment round r : ℕ) (is_accepted : Bool) (ss : L
 closed_more a moment round r is_accepted ss s ns now new before middle after h e same comes c this = (
   c.0 ++ offered r is_accepted ∷ [],
   record {
+    distinct = c.1.distinct;
     routes =
         let here : (is_due a round s.close_round && is_shown_at ns r) ≡ true = ap (λ o. is_due a round s.close_round && shows o) (sym same) ∙ comes in
         let one : due a round (take (r + 1) ss) ns ≡ due a round (take r ss) ns ++ r ∷ [] = due_step a round r ss s ns h e ∙ rw here refl in

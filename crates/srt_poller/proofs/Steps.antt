@@ -3,12 +3,12 @@ use Rattle.std.proofs.Common.{◌≡◌, ◌≢◌, ◌⊎◌, inl, inr, ℕ, ze
 use Rattle.std.proofs.Common.{[], ◌∷◌, ◌++◌, length, map, slice_index_or, slice_set, refl, sym, ap, ◌∙◌, subst, append_assoc, append-nil}
 use Rattle.std.proofs.Common.{arith, add-mul}
 use Rattle.std.specs.Prelude.{if◌then◌else◌}
-use Rattle.srt_seq.specs.declared.shared.Schedule.{Schedule}
+use Rattle.srt_types.specs.declared.shared.Schedule.{Schedule}
 use Rattle.std.proofs.lemmas.Grind.{flat_map-append, fold-append}
 use Rattle.std.proofs.lemmas.List.Sums.{sum_by-append}
 use Rattle.std.proofs.lemmas.Bool.Decides.{nat_tests}
 use Rattle.std.proofs.lemmas.List.{map-append, length-append, length-set, get_or-set_same, get_or-set_other, set-get_or}
-use Rattle.srt_seq.specs.Items.{Datagram, Item, Received, Close, told}
+use Rattle.srt_types.specs.Items.{Datagram, Item, Received, Close, input_of}
 use Rattle.srt_route.specs.Written.{written}
 use Rattle.srt_route.specs.declared.replies.Reply.{Reply}
 use Rattle.srt_mailbox.specs.Ends.{Producer, Drained, drained as drained_to}
@@ -25,6 +25,7 @@ use Rattle.srt_poller.specs.History.{closes_all_by, waits_by, ready_by, reads_by
 use Rattle.srt_poller.specs.History.{Accepts, Overflows, Refuses, Drops, Sends, Resends}
 use Rattle.srt_poller.specs.Reports.{counted_by, counted}
 use Rattle.srt_poller.specs.Rounds.{World, IsLater, AreLater, Happened, WentClosing, Went}
+use Rattle.srt_poller.specs.Starts.{RoundStart, starts_by, starts_in}
 use Rattle.srt_poller.proofs.Joined.{joined_none, joined_twice}
 
 -- ends
@@ -35,7 +36,7 @@ pub later_then : (us vs : List Item) (cs ds : List Datagram) (x y z : Ends) → 
 later_then us vs cs ds x y z h k = record {
   inbox = k.inbox ∙ h.inbox;
   inbox_capacity = k.inbox_capacity ∙ h.inbox_capacity;
-  offered = k.offered ∙ ap (λ xs. xs ++ vs) h.offered ∙ append_assoc (map told x.ingress.offered) us vs;
+  offered = k.offered ∙ ap (λ xs. xs ++ vs) h.offered ∙ append_assoc (map input_of x.ingress.offered) us vs;
   outbox = k.outbox ∙ h.outbox;
   outbox_capacity = k.outbox_capacity ∙ h.outbox_capacity;
   through = k.through ∙ ap (λ xs. xs ++ ds) h.through ∙ append_assoc (map written x.drain.through) cs ds;
@@ -63,10 +64,17 @@ are_later_then us vs x y z h k = record {
 }
 
 -- no event, one event, and events after others
-pub happened_then : {class : Sorting} {schedules : List Schedule} {b c m n w v r s : ℕ} (us vs : List Event) (x y z : World)
-    → Happened class schedules b m w r us x y → Happened class schedules c n v s vs y z
-    → Happened class schedules (b + c) (m + n) (w + v) (r + s) (us ++ vs) x z
-happened_then {class} {schedules} {b} {c} {m} {n} {w} {v} {r} {s} us vs x y z h k = record {
+pub starts_then : (schedules : List Schedule) (s : State) (us vs : List Event) →
+    starts_in schedules s (us ++ vs) ≡ starts_in schedules s us ++ starts_in schedules (state_after schedules s us) vs
+starts_then schedules s [] vs = refl
+starts_then schedules s (u ∷ us) vs =
+    ap (λ (l : List RoundStart). starts_by schedules s u ++ l) (starts_then schedules (state_by schedules s u) us vs)
+    ∙ sym (append_assoc (starts_by schedules s u) (starts_in schedules (state_by schedules s u) us) _)
+
+pub happened_then : {class : Sorting} {schedules : List Schedule} {b c m n w v r s : ℕ} {p q : List RoundStart} (us vs : List Event) (x y z : World)
+    → Happened class schedules b p m w r us x y → Happened class schedules c q n v s vs y z
+    → Happened class schedules (b + c) (p ++ q) (m + n) (w + v) (r + s) (us ++ vs) x z
+happened_then {class} {schedules} {b} {c} {m} {n} {w} {v} {r} {s} {p} {q} us vs x y z h k = record {
   follow = follow_then x.state us (subst (λ (o : State). Follow class schedules o vs) h.state k.follow) h.follow;
   gave = k.gave ∙ ap (λ o. joined o (given vs)) h.gave ∙ joined_twice x.source.gave (given us) (given vs)
       ∙ ap (joined x.source.gave) (sym (flat_map-append given_by us vs));
@@ -80,6 +88,9 @@ happened_then {class} {schedules} {b} {c} {m} {n} {w} {v} {r} {s} us vs x y z h 
   state = k.state ∙ ap (λ o. state_after schedules o vs) h.state ∙ sym (fold-append (state_by schedules) x.state us vs);
   report = k.report ∙ ap (λ c. counted c vs) h.report ∙ sym (fold-append counted_by x.report us vs);
   closed = let a = h.closed in let b = k.closed in omega (arith, sum_by-append closes_all_by us vs);
+  started = starts_then schedules x.state us vs
+      ∙ ap (λ (l : List RoundStart). l ++ starts_in schedules (state_after schedules x.state us) vs) h.started
+      ∙ ap (λ (l : List RoundStart). p ++ l) (ap (λ (o : State). starts_in schedules o vs) (sym h.state) ∙ k.started);
   few = let a = h.few in let b = k.few in omega (arith, length-append us vs);
   waited = let a = h.waited in let b = k.waited in omega (arith, sum_by-append waits_by us vs);
   was_read = let a = h.was_read in let b = k.was_read in omega (arith, sum_by-append ready_by us vs, sum_by-append reads_by us vs);
@@ -103,19 +114,20 @@ went_none class schedules most x = (
     state = refl;
     report = refl;
     closed = refl;
+    started = refl;
     few = omega arith;
     waited = refl;
     was_read = omega arith;
   },
 )
 
-pub went_then : {class : Sorting} {schedules : List Schedule} {b c m n w v r s : ℕ} {x y z : World}
-    → WentClosing class schedules b m w r x y → WentClosing class schedules c n v s y z
-    → WentClosing class schedules (b + c) (m + n) (w + v) (r + s) x z
-went_then {class} {schedules} {b} {c} {m} {n} {w} {v} {r} {s} {x} {y} {z} h k = (h.0 ++ k.0, happened_then h.0 k.0 x y z h.1 k.1)
+pub went_then : {class : Sorting} {schedules : List Schedule} {b c m n w v r s : ℕ} {p q : List RoundStart} {x y z : World}
+    → WentClosing class schedules b p m w r x y → WentClosing class schedules c q n v s y z
+    → WentClosing class schedules (b + c) (p ++ q) (m + n) (w + v) (r + s) x z
+went_then {class} {schedules} {b} {c} {m} {n} {w} {v} {r} {s} {p} {q} {x} {y} {z} h k = (h.0 ++ k.0, happened_then h.0 k.0 x y z h.1 k.1)
 
-pub went_more : {class : Sorting} {schedules : List Schedule} {b m n w r s : ℕ} {x y : World}
-    → m ≤ n → s ≤ r → WentClosing class schedules b m w r x y → WentClosing class schedules b n w s x y
+pub went_more : {class : Sorting} {schedules : List Schedule} {b m n w r s : ℕ} {p : List RoundStart} {x y : World}
+    → m ≤ n → s ≤ r → WentClosing class schedules b p m w r x y → WentClosing class schedules b p n w s x y
 went_more le less h = (
   h.0,
   record {
@@ -128,6 +140,7 @@ went_more le less h = (
     state = h.1.state;
     report = h.1.report;
     closed = h.1.closed;
+    started = h.1.started;
     few = let a = h.1.few in omega arith;
     waited = h.1.waited;
     was_read = let a = h.1.was_read in omega arith;
@@ -135,9 +148,9 @@ went_more le less h = (
 )
 
 -- the number of rounds that close all, said otherwise
-pub went_as : {class : Sorting} {schedules : List Schedule} {b c m w r : ℕ} {x y : World}
-    → b ≡ c → WentClosing class schedules b m w r x y → WentClosing class schedules c m w r x y
-went_as {class} {schedules} {b} {c} {m} {w} {r} {x} {y} same h = subst (λ (n : ℕ). WentClosing class schedules n m w r x y) same h
+pub went_as : {class : Sorting} {schedules : List Schedule} {b c m w r : ℕ} {p : List RoundStart} {x y : World}
+    → b ≡ c → WentClosing class schedules b p m w r x y → WentClosing class schedules c p m w r x y
+went_as {class} {schedules} {b} {c} {m} {w} {r} {p} {x} {y} same h = subst (λ (n : ℕ). WentClosing class schedules n p m w r x y) same h
 
 -- what one event makes of the records of the devices
 pub record HasRecorded (event : Event) (source source' : Heard) (wire wire' : Carried) : Type 0 where
@@ -150,7 +163,7 @@ pub went_once : (class : Sorting) (schedules : List Schedule) (event : Event) (w
     → waits_by event ≡ w → ready_by event + r ≤ reads_by event + w →
     Fits class schedules x.state event → HasRecorded event x.source y.source x.wire y.wire → AreLater (event ∷ []) x.ends y.ends
     → y.state ≡ state_by schedules x.state event → y.report ≡ counted_by x.report event
-    → WentClosing class schedules (closes_all_by event) 1 w r x y
+    → WentClosing class schedules (closes_all_by event) (starts_by schedules x.state event) 1 w r x y
 went_once class schedules event w r x y waits reads fits recorded ends state report = (
   event ∷ [],
   record {
@@ -163,6 +176,7 @@ went_once class schedules event w r x y waits reads fits recorded ends state rep
     state = state;
     report = report;
     closed = omega arith;
+    started = append-nil (starts_by schedules x.state event);
     few = omega arith;
     waited = omega (arith, waits);
     was_read = omega (arith, reads);
@@ -172,7 +186,7 @@ went_once class schedules event w r x y waits reads fits recorded ends state rep
 pub went_one : (class : Sorting) (schedules : List Schedule) (event : Event) (x y : World) → Fits class schedules x.state event
     → HasRecorded event x.source y.source x.wire y.wire → AreLater (event ∷ []) x.ends y.ends → y.state ≡ state_by schedules x.state event
     → y.report ≡ counted_by x.report event
-    → WentClosing class schedules (closes_all_by event) 1 (waits_by event) (reads_by event) x y
+    → WentClosing class schedules (closes_all_by event) (starts_by schedules x.state event) 1 (waits_by event) (reads_by event) x y
 went_one class schedules event x y fits recorded ends state report =
     went_once class schedules event (waits_by event) (reads_by event) x y refl (owed event) fits recorded ends state report
   where
@@ -372,7 +386,7 @@ nothing_here event k es d z below a b ingress drain =
     one_changed event k es d z below (λ r other. a r) (λ r other. b r) (rw (a k, b k) (record {
       inbox = ap (λ (x : Producer). x.queue) ingress;
       inbox_capacity = ap (λ (x : Producer). x.capacity) ingress;
-      offered = ap (λ (x : Producer). map told x.offered) ingress ∙ sym (append-nil _);
+      offered = ap (λ (x : Producer). map input_of x.offered) ingress ∙ sym (append-nil _);
       outbox = ap (λ (x : Drained). x.queue) drain;
       outbox_capacity = ap (λ (x : Drained). x.capacity) drain;
       through = ap (λ (x : Drained). map written x.through) drain ∙ sym (append-nil _);
@@ -380,7 +394,7 @@ nothing_here event k es d z below a b ingress drain =
 
 pub accepted_now : (a : Arrival) (x y : Ends) →
     (y.ingress.queue ≡ x.ingress.queue) × (y.ingress.capacity ≡ x.ingress.capacity) ×
-    (map told y.ingress.offered ≡ map told x.ingress.offered ++ Received a.datagram a.moment ∷ [])
+    (map input_of y.ingress.offered ≡ map input_of x.ingress.offered ++ Received a.datagram a.moment ∷ [])
     → y.drain ≡ x.drain
     → IsLater (Received a.datagram a.moment ∷ []) [] x y
 accepted_now a x y h drain = record {

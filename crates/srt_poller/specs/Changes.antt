@@ -1,21 +1,22 @@
 -- The rounds of a poller while routes are added and removed.
-use Rattle.std.specs.Prelude.{◌≡◌, ◌⊎◌, ℕ, suc, ◌+◌, ◌<◌, ◌≤◌, ◌||◌, Bool, true, Option, List, [], ◌++◌, length, map}
+use Rattle.std.specs.Prelude.{◌≡◌, ◌⊎◌, ℕ, suc, ◌+◌, ◌<◌, ◌≤◌, Bool, true, false, Option, List, [], ◌∷◌, ◌++◌, length, map}
 use Rattle.std.specs.List.{fold}
-use Rattle.srt_seq.specs.declared.shared.Schedule.{Schedule}
-use Rattle.srt_lobby.specs.Names.{RouteName}
+use Rattle.srt_types.specs.declared.shared.Schedule.{Schedule}
+use Rattle.srt_lobby.specs.Names.{RouteName, AreDistinct}
 use Rattle.srt_lobby.specs.Changing.{shown_at, IsUnused, AreHidden}
 use Rattle.srt_poller.specs.declared.ends.Ends.{Ends}
 use Rattle.srt_poller.specs.declared.changing.Plans.{Plans}
 use Rattle.srt_poller.specs.Devices.{joined}
-use Rattle.srt_poller.specs.Schedules.{opened}
-use Rattle.srt_poller.specs.History.{Sorting, Phase}
+use Rattle.srt_poller.specs.Schedules.{opened, opened_if}
+use Rattle.srt_poller.specs.History.{Sorting, Phase, at_first}
 use Rattle.srt_poller.specs.Rounds.{World}
-use Rattle.srt_poller.specs.Pollers.{Rounds}
-use Rattle.srt_poller.specs.Beginnings.{all_shown, Began}
+use Rattle.srt_poller.specs.Pollers.{Rounds, RoundState, RoundMade}
+use Rattle.srt_poller.specs.Beginnings.{all_shown, AreClosed, Began}
 use Rattle.srt_poller.specs.Beforehand.{AgreeBefore}
 use Rattle.srt_poller.specs.Openings.{NewRoute, ReportedRoute, reported_route, names_in, ends_in, RouteReports, route_reports_more}
 use Rattle.srt_poller.specs.Plans.{never, schedule_of, texts_of, is_requested, waiting, closed_from, with_open_round, update_at, AreTimely}
-use Rattle.srt_poller.specs.Plans.{ArePlans, Replanned}
+use Rattle.srt_poller.specs.Plans.{ArePlans, Replanned, Settled}
+use Rattle.srt_poller.specs.Starts.{RoundStart, round_start, starts_in}
 use Rattle.srt_poller.specs.Pumped.{Before, After, before, PumpedUnder}
 
 -- the plans of all routes, in the order of their indexes
@@ -29,9 +30,9 @@ pub record Appended (added : List NewRoute) (plans plans' : List Schedule) (name
   pub ended : ends' ≡ ends ++ ends_in added
   pub hidden : AreHidden (names_in added)
 
-abbrev pub TookNewcomers : (reported reported' : Option (List ReportedRoute)) → (plans plans' : List Schedule) → (names names' : List RouteName) →
+abbrev pub TookAddedRoutes : (reported reported' : Option (List ReportedRoute)) → (plans plans' : List Schedule) → (names names' : List RouteName) →
     (ends ends' : List Ends) → Type 0
-TookNewcomers reported reported' plans plans' names names' ends ends' =
+TookAddedRoutes reported reported' plans plans' names names' ends ends' =
     (added : List NewRoute) × (reported' ≡ joined reported (map reported_route added)) × Appended added plans plans' names names' ends ends'
 
 -- these routes, which are there, were requested to close before this round begins
@@ -42,23 +43,25 @@ pub record Requested (round : ℕ) (requested : List ℕ) (plans plans' : List S
 abbrev pub TookClosings : (round : ℕ) → (reported reported' : Option (List ℕ)) → (plans plans' : List Schedule) → Type 0
 TookClosings round reported reported' plans plans' = (requested : List ℕ) × (reported' ≡ joined reported requested) × Requested round requested plans plans'
 
--- Before this round begins these routes were added, which wait after the others, hidden, and these were requested to close. `due` is the first round in which
--- there may be something to do
-pub record Took (round due : ℕ) (added : List NewRoute) (requested : List ℕ) (plans plans' : List Schedule) (names names' : List RouteName)
+-- at least 511 routes were requested to close, as many as are taken before a round
+abbrev pub TookMany : (reported reported' : Option (List ℕ)) → Type 0
+TookMany reported reported' = (requested : List ℕ) × (reported' ≡ joined reported requested) × (511 ≤ length requested)
+
+-- Before this round begins these routes were added, which wait after the others, hidden, and these were requested to close
+pub record Took (round : ℕ) (added : List NewRoute) (requested : List ℕ) (plans plans' : List Schedule) (names names' : List RouteName)
     (ends ends' : List Ends) : Type 0 where
   pub agree : AgreeBefore round plans plans' (names_in added)
   pub named : names' ≡ names ++ names_in added
   pub ended : ends' ≡ ends ++ ends_in added
-  pub planned : (waits : Bool) →
-      Replanned round (λ r. waits ≡ true) (λ r. (waits ≡ true) ⊎ (due ≤ round)) requested (texts_of names) (texts_of names') plans plans'
+  pub planned : Replanned round requested (texts_of names) (texts_of names') plans plans'
   pub known : length plans' ≡ length names'
   pub all_ends : length ends' ≡ length names'
 
-abbrev pub TookChanges : (round due : ℕ) → (reported reported' : RouteReports) → (plans plans' : List Schedule) → (names names' : List RouteName) →
+abbrev pub TookChanges : (round : ℕ) → (reported reported' : RouteReports) → (plans plans' : List Schedule) → (names names' : List RouteName) →
     (ends ends' : List Ends) → Type 0
-TookChanges round due reported reported' plans plans' names names' ends ends' =
+TookChanges round reported reported' plans plans' names names' ends ends' =
     (added : List NewRoute) × (requested : List ℕ) × (reported' ≡ route_reports_more reported added requested)
-    × Took round due added requested plans plans' names names' ends ends'
+    × Took round added requested plans plans' names names' ends ends'
 
 -- a route becomes visible in this round; or another visible route has its name, and it waits
 abbrev pub OpensOne : (round r : ℕ) → (plans plans' : List Schedule) → (names names' : List RouteName) → Type 0
@@ -66,14 +69,28 @@ OpensOne round r plans plans' names names' =
     ((plans' ≡ update_at (with_open_round round) plans r) × (names' ≡ shown_at r names))
     ⊎ ((IsUnused r names → ⊥) × (plans' ≡ update_at (with_open_round never) plans r) × (names' ≡ names))
 
--- the routes became visible that open in this round by the plans that they have then; each route that is alone with its name, and waited, opened
+-- the routes became visible that open in this round by the plans that they have then; each one that waited opened, unless another visible route has its name
 pub record Opens (round : ℕ) (plans plans' : List Schedule) (names names' : List RouteName) : Type 0 where
   pub as_many : length plans' ≡ length plans
   pub agree : AgreeBefore round plans plans' []
   pub named : names' ≡ opened round plans' names
-  pub planned : (schedules : List Schedule) (requested : List ℕ) → AreTimely schedules →
-      ArePlans (suc round) (λ r. Unit {0}) schedules (texts_of names) requested plans →
-      ArePlans (suc round) (λ r. ⊥) schedules (texts_of names) requested plans'
+  pub planned : Settled (round_start round false names') (texts_of names) plans plans'
+
+-- A round began with these plans, after its changes: it closes all; or it is before `due`, the first round in which there may be something to do, and nothing
+-- changed; or routes became visible, and then some were closed
+abbrev pub Started : (closes_all : Bool) → (round due latest : ℕ) → (plans plans' : List Schedule) → (names names' : List RouteName) →
+    (ends ends' : List Ends) → Type 0
+Started closes_all round due latest plans plans' names names' ends ends' =
+    ((closes_all ≡ true) × (plans' ≡ plans) × AreClosed true latest round plans names names' ends ends')
+    ⊎ ((closes_all ≡ false) × (((round < due) × (plans' ≡ plans) × (names' ≡ names) × (ends' ≡ ends) × AreDistinct names)
+    ⊎ ((shown : List RouteName) × Opens round plans plans' names shown × AreClosed false latest round plans' shown names' ends ends')))
+
+-- a round began with these plans, after its changes, and was made to its end
+abbrev pub RoundWent : Sorting → (closes_all : Bool) → (round due : ℕ) → (plans plans' : List Schedule) → (names names' : List RouteName) →
+    (ends : List Ends) → (begun : Phase) → (old : List Ends → RoundState → Phase → World) → (new : RoundState → Phase → World) → (before after : ℕ) → Type 0
+RoundWent class closes_all round due plans plans' names names' ends begun old new before after =
+    (middle : List Ends) × Started closes_all round due before plans plans' names names' ends middle
+    × RoundMade class names' (length middle) begun (old middle) new before after
 
 -- this round began, after these routes were added and these were requested to close
 pub record BeganWith (closes_all : Bool) (round latest : ℕ) (added : List NewRoute) (requested : List ℕ) (plans plans' : List Schedule)
@@ -81,8 +98,10 @@ pub record BeganWith (closes_all : Bool) (round latest : ℕ) (added : List NewR
   pub agree : AgreeBefore round plans plans' (names_in added)
   pub began : Began closes_all round latest plans' (names ++ names_in added) names' (ends ++ ends_in added) ends'
   pub texts : all_shown names' ≡ all_shown (names ++ names_in added)
-  pub planned : (waits : Bool) →
-      Replanned round (λ r. waits ≡ true) (λ r. (waits || closes_all) ≡ true) requested (texts_of names) (texts_of (names ++ names_in added)) plans plans'
+  pub planned : (starts : List RoundStart) (schedules : List Schedule) (before : List ℕ) → AreTimely schedules
+      → ArePlans round (λ r. ⊥) starts schedules (texts_of names) before plans
+      → ArePlans (suc round) (λ r. ⊥) (starts ++ round_start round closes_all (opened_if closes_all round plans' (names ++ names_in added)) ∷ []) schedules
+      (texts_of (names ++ names_in added)) (before ++ requested) plans'
   pub known : length plans' ≡ length names'
   pub all_ends : length ends' ≡ length names'
 
@@ -95,34 +114,36 @@ BeganAfter closes_all round latest reported reported' plans plans' names names' 
     × BeganWith closes_all round latest added requested plans plans' names names' ends ends'
 
 -- Rounds were made, the first of which has this number, after these routes were added and these were requested to close: as if that had been written down
--- in advance, as `later` states
+-- in advance, as `later` states; the rounds started so
 pub record RoundsWith (goes closes : Type 0) (class : Sorting) (first rounds : ℕ) (schedules : List Schedule) (reported reported' : RouteReports)
     (names : List RouteName)
     (ends : List Ends) (old : List RouteName → List Ends → Phase → World) (new : Phase → World) (added : List NewRoute) (requested : List ℕ)
-    (later : List Schedule) : Type 0 where
+    (later : List Schedule) (starts : List RoundStart) : Type 0 where
   pub reports : reported' ≡ route_reports_more reported added requested
-  pub planned : ArePlans (first + rounds) (λ r. closes) schedules (texts_of (names ++ names_in added)) requested later
-  pub went : Rounds goes closes class later rounds (length ends + length added) (old (names ++ names_in added) (ends ++ ends_in added)) new
+  pub planned : ArePlans (first + rounds) (λ r. ⊥) starts schedules (texts_of (names ++ names_in added)) requested later
+  pub went : Rounds goes closes class later starts rounds (length ends + length added) (old (names ++ names_in added) (ends ++ ends_in added)) new
 
 abbrev pub RoundsChanging : (goes closes : Type 0) → Sorting → (first rounds : ℕ) → List Schedule → (reported reported' : RouteReports) → List RouteName →
     List Ends →
     (old : List RouteName → List Ends → Phase → World) → (new : Phase → World) → Type 0
 RoundsChanging goes closes class first rounds schedules reported reported' names ends old new =
-    (added : List NewRoute) × (requested : List ℕ) × (later : List Schedule)
-    × RoundsWith goes closes class first rounds schedules reported reported' names ends old new added requested later
+    (added : List NewRoute) × (requested : List ℕ) × (later : List Schedule) × (starts : List RoundStart)
+    × RoundsWith goes closes class first rounds schedules reported reported' names ends old new added requested later starts
 
 -- the same, had these routes been there from the beginning on, hidden, after the others
 abbrev pub with_routes : List NewRoute → Before → Before
 with_routes added b = before (b.names ++ names_in added) b.source b.wire (b.ends ++ ends_in added)
 
 -- What a poller did in this many rounds in which these routes were added and these were requested to close: all that it does in a run whose routes
--- and schedules had been known in advance. `later` are these schedules; where a route was left as it was they are its own (`ArePlans`)
+-- and schedules had been known in advance. `later` are these schedules; where a route was left as it was they are its own, and otherwise it opens as soon as
+-- its name is free (`ArePlans`)
 pub record ChangedBy (goes closes : Type 0) (class : Sorting) (schedules : List Schedule) (rounds : ℕ) (reported reported' : RouteReports) (old : Before)
     (new : After)
     (added : List NewRoute) (requested : List ℕ) (later : List Schedule) : Type 0 where
   pub reports : reported' ≡ route_reports_more reported added requested
-  pub planned : ArePlans rounds (λ r. closes) schedules (texts_of (old.names ++ names_in added)) requested later
   pub pumped : PumpedUnder goes closes class later rounds (with_routes added old) new
+  pub planned : ArePlans rounds (λ r. ⊥) (starts_in later (at_first (old.names ++ names_in added)) pumped.0) schedules
+      (texts_of (old.names ++ names_in added)) requested later
 
 -- some routes were added, some were requested to close, and there are such schedules
 abbrev pub PumpedChanging : (goes closes : Type 0) → Sorting → List Schedule → (rounds : ℕ) → (reported reported' : RouteReports) → Before → After → Type 0

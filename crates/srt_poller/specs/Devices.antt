@@ -1,7 +1,7 @@
 -- What a source and a wire record.
 use Rattle.std.specs.Prelude.{ℕ, ◌<◌, ◌≤◌, ◌^◌, Option, List, [], ◌∷◌, ◌++◌, take, option_map}
-use Rattle.srt_seq.specs.declared.shared.Peer.{Peer}
-use Rattle.srt_seq.specs.Items.{Datagram as TheDatagram}
+use Rattle.srt_types.specs.declared.shared.Peer.{Peer}
+use Rattle.srt_types.specs.Items.{Datagram as TheDatagram}
 use Rattle.srt_mailbox.specs.Counts.{Grew}
 use Rattle.srt_poller.specs.declared.devices.Polled.{Polled}
 use Rattle.srt_poller.specs.declared.devices.Polled.TheVariants as polled

@@ -2,9 +2,9 @@
 use Rattle.std.specs.Prelude.{◌≡◌, ◌⊎◌, ℕ, suc, ◌+◌, ◌<◌, ◌==◌, Bool, true, false, Option, None, Some, List, [], ◌∷◌, map, max, filter, if◌then◌else◌}
 use Rattle.std.specs.Option.{is_some}
 use Rattle.std.specs.List.{flat_map, fold, sum_by}
-use Rattle.srt_seq.specs.declared.shared.Schedule.{Schedule}
-use Rattle.srt_seq.specs.Items.{Datagram, Item, Received, Close}
-use Rattle.srt_lobby.specs.Names.{RouteName}
+use Rattle.srt_types.specs.declared.shared.Schedule.{Schedule}
+use Rattle.srt_types.specs.Items.{Datagram, Item, Received, Close}
+use Rattle.srt_lobby.specs.Names.{RouteName, AreDistinct}
 use Rattle.srt_lobby.specs.declared.classes.Class.{Class}
 use Rattle.srt_lobby.specs.declared.classes.Class.TheVariants.{Answer, Route, Dropped}
 use Rattle.srt_lobby.specs.declared.classes.Cause.{Cause}
@@ -178,7 +178,8 @@ state_after schedules s events = fold (state_by schedules) s events
 abbrev pub class_in : Sorting → State → Arrival → Class
 class_in class s arrival = class s.names arrival.datagram arrival.moment
 
--- A round begins where none has begun or the one before is over. It makes the routes visible that open in it, and then offers Close, of the greatest
+-- A round begins where none has begun or the one before is over. It makes the routes visible that open in it, no two of which then have the same name with
+-- another visible one, and then offers Close, of the greatest
 -- timestamp of the source, once to each visible route whose closing round is this one or an earlier one, in the order of their indexes; if it closes all,
 -- it makes none visible, and offers Close so to each visible route. If a reply is kept
 -- then, it is sent again, once, before the wait. The source waits once. Unless that failed, it is read until a read returns nothing or fails, or 256
@@ -187,6 +188,7 @@ class_in class s arrival = class s.names arrival.datagram arrival.moment
 abbrev pub Fits : Sorting → List Schedule → State → Event → Type 0
 Fits class schedules s (Begins closes_all moment offers) =
     IsOver s.phase × (moment ≡ s.latest) × (offered_routes offers ≡ due closes_all s.round schedules (opened_if closes_all s.round schedules s.names))
+    × AreDistinct (opened_if closes_all s.round schedules s.names)
 Fits class schedules s Waits = s.phase ≡ Begun false
 Fits class schedules s WaitFails = s.phase ≡ Begun false
 Fits class schedules s ReadsNothing = IsReading s.phase

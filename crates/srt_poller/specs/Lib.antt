@@ -3,6 +3,7 @@ pub mod Devices
 pub mod Openings
 pub mod Schedules
 pub mod Plans
+pub mod Starts
 pub mod History
 pub mod Reports
 pub mod Tallies

@@ -1,6 +1,6 @@
 -- What devices in memory note of their calls.
 use Rattle.std.specs.Prelude.{ℕ, List, ◌==◌, if◌then◌else◌, slice_index}
-use Rattle.srt_seq.specs.declared.shared.Peer.{Peer}
+use Rattle.srt_types.specs.declared.shared.Peer.{Peer}
 use Rattle.srt_poller.specs.declared.devices.Sent.{Sent}
 use Rattle.srt_poller.specs.declared.devices.Sent.TheVariants.{Taken, Later, Failed}
 use Rattle.srt_poller.specs.Devices.{datagram, arrival, Attempt, attempt, Call, WaitEnded, WaitFailed, ReadGave, ReadEmpty, ReadFailed}

@@ -3,7 +3,7 @@ use Rattle.std.specs.Prelude.{ℕ, Option, None, Some, List, [], ◌∷◌, map}
 use Rattle.srt_lobby.specs.Names.{RouteName, new_name}
 use Rattle.srt_mailbox.specs.Ends.{Producer, Pipe, pipe}
 use Rattle.srt_poller.specs.declared.ends.Ends.{Ends}
-use Rattle.srt_poller.specs.declared.openings.Newcomer.{Newcomer}
+use Rattle.srt_poller.specs.declared.openings.AddedRoute.{AddedRoute}
 use Rattle.srt_poller.specs.Devices.{joined}
 
 -- an added route: its name, and the poller's ends of its queues
@@ -11,7 +11,7 @@ pub record NewRoute : Type 0 where
   pub name : RouteName
   pub ends : Ends
 
-abbrev pub new_route : Newcomer → NewRoute
+abbrev pub new_route : AddedRoute → NewRoute
 new_route n = record { name = new_name n.name; ends = n.ends }
 
 -- what is reported of it: all but the reply that its end of the outbox has at hand. The outbox is reported as the end that put what was drained
@@ -29,7 +29,7 @@ reported_route n =
     }
 
 -- the route that is added next, if one is
-abbrev pub additions : Option Newcomer → List NewRoute
+abbrev pub additions : Option AddedRoute → List NewRoute
 additions None = []
 additions (Some n) = new_route n ∷ []
 
@@ -55,3 +55,7 @@ route_reports added requested = record { added = added; requested = requested }
 -- the same, after these were added and these were requested to close
 abbrev pub route_reports_more : RouteReports → (added : List NewRoute) → (requested : List ℕ) → RouteReports
 route_reports_more n added requested = route_reports (joined n.added (map reported_route added)) (joined n.requested requested)
+
+-- what openings report that return nothing
+abbrev pub no_reports : RouteReports
+no_reports = route_reports (Some []) (Some [])

@@ -2,10 +2,11 @@
 use Rattle.std.specs.Prelude.{◌≡◌, ◌⊎◌, ℕ, zero, suc, ◌<◌, ◌≤◌, ◌-◌, ◌^◌, ◌==◌, ◌&&◌, ◌||◌, if◌then◌else◌, nat_lt, min, not}
 use Rattle.std.specs.Prelude.{Bool, true, false, Option, None, Some, List, [], ◌∷◌, ◌++◌, length, map, slice_get}
 use Rattle.std.specs.List.{list_any}
-use Rattle.srt_seq.specs.declared.shared.Schedule.{Schedule}
+use Rattle.srt_types.specs.declared.shared.Schedule.{Schedule}
 use Rattle.srt_lobby.specs.Names.{RouteName}
 use Rattle.srt_poller.specs.declared.plans.Plan.{Plan}
 use Rattle.srt_poller.specs.Schedules.{has_come}
+use Rattle.srt_poller.specs.Starts.{RoundStart, IsUsedIn, IsKeptIn}
 
 -- the number of no round: a route with this opening round opens in none
 abbrev pub never : ℕ
@@ -31,49 +32,70 @@ abbrev pub IsBefore : (round : ℕ) → Option ℕ → Type 0
 IsBefore round (Some close_round) = close_round < round
 IsBefore round None = ⊥
 
--- What the schedule of a route has become before this round. While no other route has its name, the route opens in the round of its schedule, or,
--- if it was requested to close before that, never. It opens in no earlier round, and in none at all only if its round has passed or it was requested to close.
+-- From the round `came` on, the route opens in the first round that comes before its closing round and in which nothing keeps it from that: no
+-- other visible route has its name, and not all are closed. `waits` is another reason not to have opened in the round that ended last
+abbrev pub OpensInTime : (round came : ℕ) → (waits : Type 0) → List RoundStart → (r : ℕ) → Schedule → Type 0
+OpensInTime round came waits starts r t =
+    (k : ℕ) → came ≤ k → k < round → k < t.open_round → has_come k t.close_round ≡ false → IsKeptIn starts r k ⊎ ((suc k ≡ round) × waits)
+
+-- What the schedule of a route has become before this round. Unless another visible route has its name then, the route opens in the round of its
+-- schedule, or, if it was requested to close before that, never. It opens in no earlier round, and in none at all only if its round has passed or it
+-- was requested to close. If its name is in use in its round, it opens in the first round in which it isn't.
 -- If it wasn't requested to close, it closes as its schedule states; if it was, it closes no later, and in a round before this one
-pub record Became (round : ℕ) (is_alone : Type 0) (requested : Bool) (s t : Schedule) : Type 0 where
-  pub same : is_alone → (t.open_round ≡ s.open_round) ⊎ ((requested ≡ true) × (t.open_round ≡ never))
+pub record Became (round : ℕ) (waits : Type 0) (starts : List RoundStart) (r : ℕ) (requested : Bool) (s t : Schedule) : Type 0 where
+  pub same : (IsUsedIn starts r s.open_round → ⊥) → (t.open_round ≡ s.open_round) ⊎ ((requested ≡ true) × (t.open_round ≡ never))
+  pub in_time : OpensInTime round s.open_round waits starts r t
+  pub opened : (t.open_round ≡ s.open_round) ⊎ ((t.open_round < round) ⊎ (t.open_round ≡ never))
   pub later : s.open_round ≤ t.open_round
   pub missed : t.open_round ≡ never → (s.open_round < round) ⊎ (requested ≡ true)
   pub kept : requested ≡ false → t.close_round ≡ s.close_round
   pub sooner : (k : ℕ) → has_come k s.close_round ≡ true → has_come k t.close_round ≡ true
   pub closes : requested ≡ true → IsBefore round t.close_round
 
--- The schedule of a route that was added while the poller ran. If no other route has its name, and it wasn't requested to close, it has opened before
--- this round, or else there is a reason to wait. It closes only if it was requested to, and then in a round before this one
-pub record IsNewPlan (round : ℕ) (waits is_alone : Type 0) (requested : Bool) (t : Schedule) : Type 0 where
-  pub opens : is_alone → requested ≡ false → (t.open_round < round) ⊎ ((t.open_round ≡ never) × waits)
+-- The schedule of a route that was added before one of the rounds before this one. From then on it opens in the first round in which no other visible
+-- route has its name, unless that closes all, and in no earlier one. It closes only if it was requested to, and then in a round before this one
+pub record IsNewPlan (round : ℕ) (waits : Type 0) (starts : List RoundStart) (r : ℕ) (requested : Bool) (t : Schedule) : Type 0 where
+  pub came : ℕ
+  pub is_early : came ≤ round - 1
+  pub in_time : OpensInTime round came waits starts r t
+  pub opened : (t.open_round < round) ⊎ (t.open_round ≡ never)
+  pub later : came ≤ t.open_round
   pub kept : requested ≡ false → t.close_round ≡ None
   pub closes : requested ≡ true → IsBefore round t.close_round
 
 -- the same of a route that was there from the beginning on, or wasn't
-abbrev pub IsPlanOf : (round : ℕ) → (waits is_alone : Type 0) → (requested : Bool) → Option Schedule → Schedule → Type 0
-IsPlanOf round waits is_alone requested (Some s) t = Became round is_alone requested s t
-IsPlanOf round waits is_alone requested None t = IsNewPlan round waits is_alone requested t
+abbrev pub IsPlanOf : (round : ℕ) → (waits : Type 0) → List RoundStart → (r : ℕ) → (requested : Bool) → Option Schedule → Schedule → Type 0
+IsPlanOf round waits starts r requested (Some s) t = Became round waits starts r requested s t
+IsPlanOf round waits starts r requested None t = IsNewPlan round waits starts r requested t
 
 -- What the schedules of all routes are before this round, in the order of their indexes: of those that were there from the beginning on, which had
--- these schedules then, and after them of the added ones. `waits` has for each route the reason why it may wait to be opened
-pub record ArePlans (round : ℕ) (waits : ℕ → Type 0) (schedules : List Schedule) (texts : List (List ℕ)) (requested : List ℕ) (later : List Schedule)
-    : Type 0 where
+-- these schedules then, and after them of the added ones. The rounds before it started so. `waits` has for each route another reason why it may not
+-- have been opened in the round before
+pub record ArePlans (round : ℕ) (waits : ℕ → Type 0) (starts : List RoundStart) (schedules : List Schedule) (texts : List (List ℕ))
+    (requested : List ℕ) (later : List Schedule) : Type 0 where
   pub as_many : length later ≡ length texts
   pub fewer : length schedules ≤ length later
   pub known : (r : ℕ) → is_requested requested r ≡ true → r < length later
   pub each : (r : ℕ) (t : Schedule) → slice_get later r ≡ Some t →
-      IsPlanOf round (waits r) (IsAlone texts r) (is_requested requested r) (slice_get schedules r) t
+      IsPlanOf round (waits r) starts r (is_requested requested r) (slice_get schedules r) t
 
 -- each of these routes opens in some round
 abbrev pub AreTimely : List Schedule → Type 0
 AreTimely schedules = (r : ℕ) (s : Schedule) → slice_get schedules r ≡ Some s → s.open_round < never
 
--- What plans have become at the beginning of this round, by what was requested then
-abbrev pub Replanned : (round : ℕ) → (waits waits' : ℕ → Type 0) → (requested : List ℕ) → (texts texts' : List (List ℕ)) → (plans plans' : List Schedule) →
-    Type 0
-Replanned round waits waits' requested texts texts' plans plans' =
-    (schedules : List Schedule) (before : List ℕ) → AreTimely schedules → ArePlans round waits schedules texts before plans →
-    ArePlans (suc round) waits' schedules texts' (before ++ requested) plans'
+-- What plans have become once the changes before this round were made, by what was requested then: which routes open in it isn't decided yet
+abbrev pub Replanned : (round : ℕ) → (requested : List ℕ) → (texts texts' : List (List ℕ)) → (plans plans' : List Schedule) → Type 0
+Replanned round requested texts texts' plans plans' =
+    (starts : List RoundStart) (schedules : List Schedule) (before : List ℕ) → AreTimely schedules
+    → ArePlans round (λ r. ⊥) starts schedules texts before plans
+    → ArePlans (suc round) (λ r. Unit {0}) starts schedules texts' (before ++ requested) plans'
+
+-- what plans have become at the start of this round, which is the last one of these
+abbrev pub Settled : (start : RoundStart) → (texts : List (List ℕ)) → (plans plans' : List Schedule) → Type 0
+Settled start texts plans plans' =
+    (starts : List RoundStart) (schedules : List Schedule) (requested : List ℕ) → AreTimely schedules
+    → ArePlans (suc start.round) (λ r. Unit {0}) starts schedules texts requested plans
+    → ArePlans (suc start.round) (λ r. ⊥) (starts ++ start ∷ []) schedules texts requested plans'
 
 -- the plan of an added route: it waits until no visible route has its name
 abbrev pub waiting : Schedule

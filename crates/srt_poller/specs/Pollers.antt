@@ -2,8 +2,8 @@
 use Rattle.std.specs.Prelude.{◌≡◌, ◌⊎◌, ℕ, suc, ◌+◌, ◌*◌, ◌<◌, ◌≤◌, Bool, true, false, Option, List, ◌++◌, [], ◌∷◌, map, take, max, option_map}
 use Rattle.std.specs.Option.{is_some}
 use Rattle.crossbeam_queue.specs.Fifo.{Held}
-use Rattle.srt_seq.specs.declared.shared.Schedule.{Schedule}
-use Rattle.srt_seq.specs.Items.{Received, Close, told}
+use Rattle.srt_types.specs.declared.shared.Schedule.{Schedule}
+use Rattle.srt_types.specs.Items.{Received, Close, input_of}
 use Rattle.srt_cookie.specs.declared.secret.Secret.{Secret}
 use Rattle.srt_cookie.specs.Cookie.{secret_bytes}
 use Rattle.srt_lobby.specs.Names.{RouteName, names_of}
@@ -22,6 +22,7 @@ use Rattle.srt_poller.specs.Buffers.{Allocates}
 use Rattle.srt_poller.specs.Devices.{Arrival, arrival, Heard, heard_more, Carried, ReadGave}
 use Rattle.srt_poller.specs.History.{Sorting, Kept, kept, Phase, Begun, Reading, Sending, IsOver, reading, state}
 use Rattle.srt_poller.specs.Rounds.{World, world, WentClosing, Went}
+use Rattle.srt_poller.specs.Starts.{RoundStart}
 
 -- the classes that the lobby of this secret assigns to datagrams
 abbrev pub sorting : Secret → Sorting
@@ -121,12 +122,12 @@ RoundMade class names routes begun old new before after =
     (next : Phase) × IsOver next
     × Went class schedules (258 + 64 * routes) 1 1 (old (round_state names round before) begun) (new (round_state names (suc round) after) next)
 
--- This many rounds were made of a poller with this many routes, the last of which may end here. Rounds that close all began only if `closes` is
--- known, and others only if `goes` is
-abbrev pub Rounds : (goes closes : Type 0) → Sorting → List Schedule → (rounds routes : ℕ) → (old new : Phase → World) → Type 0
-Rounds goes closes class schedules rounds routes old new =
+-- This many rounds were made of a poller with this many routes, the last of which may end here. They started so. Rounds that close all began only if `closes`
+-- is known, and others only if `goes` is
+abbrev pub Rounds : (goes closes : Type 0) → Sorting → List Schedule → (starts : List RoundStart) → (rounds routes : ℕ) → (old new : Phase → World) → Type 0
+Rounds goes closes class schedules starts rounds routes old new =
     (phase : Phase) → IsOver phase → (next : Phase) × IsOver next × (closing : ℕ) × ((closing ≡ rounds) ⊎ goes) × ((closing ≡ 0) ⊎ closes) ×
-    WentClosing class schedules closing (rounds * (259 + 64 * routes)) rounds rounds (old phase) (new next)
+    WentClosing class schedules closing starts (rounds * (259 + 64 * routes)) rounds rounds (old phase) (new next)
 
 -- the inbox was full at some time, with these items of the poller's accepted
 abbrev pub WasFull : Producer → Type 0
@@ -141,11 +142,12 @@ IsOf p full = (full.queue ≡ p.queue) × (full.polled ≡ p.offered)
 abbrev pub OfferedAs : Offered → Arrival → Buffers → (body : List ℕ) → Producer → Producer → Type 0
 OfferedAs Accepted a buffers body old new =
     (new.queue ≡ old.queue) × (new.capacity ≡ old.capacity) ×
-    (map told new.offered ≡ map told old.offered ++ Received a.datagram a.moment ∷ [])
+    (map input_of new.offered ≡ map input_of old.offered ++ Received a.datagram a.moment ∷ [])
 OfferedAs (Full full) a buffers body old new = (new ≡ old) × WasFull old × IsOf old full
 OfferedAs Refused a buffers body old new = (new ≡ old) × Allocates buffers body
 
 -- the same of an offer of Close: it is in the inbox; or nothing changed, and the inbox was full
 abbrev pub ClosedAs : (is_accepted : Bool) → (moment : ℕ) → Producer → Producer → Type 0
-ClosedAs true moment old new = (new.queue ≡ old.queue) × (new.capacity ≡ old.capacity) × (map told new.offered ≡ map told old.offered ++ Close moment ∷ [])
+ClosedAs true moment old new =
+    (new.queue ≡ old.queue) × (new.capacity ≡ old.capacity) × (map input_of new.offered ≡ map input_of old.offered ++ Close moment ∷ [])
 ClosedAs false moment old new = (new ≡ old) × WasFull old

@@ -1,7 +1,7 @@
 -- All that a poller touches, before and after some events.
 use Rattle.std.specs.Prelude.{◌≡◌, ℕ, ◌+◌, ◌<◌, ◌≤◌, List, [], ◌++◌, length, map, slice_index_or}
-use Rattle.srt_seq.specs.declared.shared.Schedule.{Schedule}
-use Rattle.srt_seq.specs.Items.{Datagram, Item, told}
+use Rattle.srt_types.specs.declared.shared.Schedule.{Schedule}
+use Rattle.srt_types.specs.Items.{Datagram, Item, input_of}
 use Rattle.srt_route.specs.Written.{written}
 use Rattle.srt_poller.specs.declared.ends.Ends.{Ends}
 use Rattle.srt_supervision.specs.declared.report.Report.{Report}
@@ -9,6 +9,7 @@ use Rattle.srt_poller.specs.Devices.{Heard, Carried, joined}
 use Rattle.srt_poller.specs.History.{Sorting, Event, State, Follow, state_after, given, calls, handed, datagrams, attempts, accepted}
 use Rattle.srt_poller.specs.History.{drained, closes_all_in, waits_in, ready_in, reads_in}
 use Rattle.srt_poller.specs.Reports.{counted}
+use Rattle.srt_poller.specs.Starts.{RoundStart, starts_in}
 
 -- what the source and the wire have recorded, the ends of all routes, what the next event depends on, and the report
 pub record World : Type 0 where
@@ -25,7 +26,7 @@ world source wire ends state report = record { source = source; wire = wire; end
 pub record IsLater (accepted : List Item) (drained : List Datagram) (old new : Ends) : Type 0 where
   pub inbox : new.ingress.queue ≡ old.ingress.queue
   pub inbox_capacity : new.ingress.capacity ≡ old.ingress.capacity
-  pub offered : map told new.ingress.offered ≡ map told old.ingress.offered ++ accepted
+  pub offered : map input_of new.ingress.offered ≡ map input_of old.ingress.offered ++ accepted
   pub outbox : new.drain.queue ≡ old.drain.queue
   pub outbox_capacity : new.drain.capacity ≡ old.drain.capacity
   pub through : map written new.drain.through ≡ map written old.drain.through ++ drained
@@ -36,9 +37,10 @@ pub record AreLater (events : List Event) (old new : List Ends) : Type 0 where
   pub each : (r : ℕ) (e : Ends) → r < length old → IsLater (accepted r events) (drained r events) (slice_index_or old r e) (slice_index_or new r e)
   pub others : (r : ℕ) → length old ≤ r → (accepted r events ≡ []) × (drained r events ≡ [])
 
--- These events lead from the old world to the new one. They are at most `most`, `waits` of them are waits, and `closing` of them begin a round
--- that closes all. The number of reads plus `waits` is at least the number of waits without a failure plus `reads`
-pub record Happened (class : Sorting) (schedules : List Schedule) (closing most waits reads : ℕ) (events : List Event) (old new : World) : Type 0 where
+-- These events lead from the old world to the new one. They are at most `most`, `waits` of them are waits, `closing` of them begin a round
+-- that closes all, and the rounds that began started so. The number of reads plus `waits` is at least the number of waits without a failure plus `reads`
+pub record Happened (class : Sorting) (schedules : List Schedule) (closing : ℕ) (starts : List RoundStart) (most waits reads : ℕ) (events : List Event)
+    (old new : World) : Type 0 where
   pub follow : Follow class schedules old.state events
   pub gave : new.source.gave ≡ joined old.source.gave (given events)
   pub called : new.source.calls ≡ joined old.source.calls (calls events)
@@ -48,14 +50,16 @@ pub record Happened (class : Sorting) (schedules : List Schedule) (closing most 
   pub state : new.state ≡ state_after schedules old.state events
   pub report : new.report ≡ counted old.report events
   pub closed : closes_all_in events ≡ closing
+  pub started : starts_in schedules old.state events ≡ starts
   pub few : length events ≤ most
   pub waited : waits_in events ≡ waits
   pub was_read : ready_in events + reads ≤ reads_in events + waits
 
--- some events lead from the old world to the new one, and this many rounds that close all began
-abbrev pub WentClosing : Sorting → List Schedule → (closing most waits reads : ℕ) → World → World → Type 0
-WentClosing class schedules closing most waits reads old new = (events : List Event) × Happened class schedules closing most waits reads events old new
+-- some events lead from the old world to the new one; rounds that began started so, and this many of them close all
+abbrev pub WentClosing : Sorting → List Schedule → (closing : ℕ) → (starts : List RoundStart) → (most waits reads : ℕ) → World → World → Type 0
+WentClosing class schedules closing starts most waits reads old new =
+    (events : List Event) × Happened class schedules closing starts most waits reads events old new
 
--- the same, and no round that closes all began
+-- the same, and no round began
 abbrev pub Went : Sorting → List Schedule → (most waits reads : ℕ) → World → World → Type 0
-Went class schedules most waits reads old new = WentClosing class schedules 0 most waits reads old new
+Went class schedules most waits reads old new = WentClosing class schedules 0 [] most waits reads old new

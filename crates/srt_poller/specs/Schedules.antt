@@ -1,7 +1,7 @@
 -- Which routes open and close at the beginning of a poller's round.
 use Rattle.std.specs.Prelude.{ℕ, suc, Bool, false, Option, None, Some, List, [], ◌∷◌, nat_le, ◌==◌, ◌&&◌, ◌||◌, if◌then◌else◌, map}
 use Rattle.std.specs.List.{fold}
-use Rattle.srt_seq.specs.declared.shared.Schedule.{Schedule}
+use Rattle.srt_types.specs.declared.shared.Schedule.{Schedule}
 use Rattle.srt_lobby.specs.Names.{RouteName, AreDistinct, as_shown}
 use Rattle.srt_lobby.specs.Changing.{hidden_at}
 

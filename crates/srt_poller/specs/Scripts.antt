@@ -1,7 +1,7 @@
 -- What devices in memory do and record.
 use Rattle.std.specs.Prelude.{ℕ, ◌+◌, ◌-◌, ◌^◌, min, Option, None, Some, List, [], ◌∷◌, length, take, slice_get, slice_index}
 use Rattle.std.specs.List.{flat_map}
-use Rattle.srt_seq.specs.Items.{Datagram as TheDatagram}
+use Rattle.srt_types.specs.Items.{Datagram as TheDatagram}
 use Rattle.srt_poller.specs.declared.devices.Polled.{Polled}
 use Rattle.srt_poller.specs.declared.devices.Polled.TheVariants as polled
 use Rattle.srt_poller.specs.declared.devices.Read.{Read}

@@ -1,69 +1,77 @@
-//! The beginning of a round while routes are added and removed.
+//! The plans of all routes: which of them open and close at the beginning of a round, and the changes before it.
 
-ghost use Rattle.std.specs.Prelude.{◌≡◌, ◌<◌, ◌≤◌, ◌+◌, ◌∷◌, [], ◌++◌, length};
+ghost use Rattle.std.specs.Prelude.{◌≡◌, ◌⊎◌, ◌<◌, ◌≤◌, ◌+◌, ◌∷◌, [], ◌++◌, length};
 ghost use Rattle.std.specs.Vec.{vec_capacity};
 ghost use Rattle.srt_lobby.specs.Names.{names_of, new_name};
 
+use crate::context::PollerTask;
 use crate::ends::Ends;
-use crate::openings::{Newcomer, Openings};
-use crate::plans::{NEVER, Plan, Planned, close, next_due};
-use crate::schedule::Latest;
+use crate::latest::Latest;
+use crate::openings::{AddedRoute, Openings};
+use crate::plans::{Closing, NEVER, Plan, close, next_due};
 use crate::signals::Hints;
+use arrayvec::ArrayVec;
 use srt_lobby::Names;
-use srt_seq::Schedule;
-use srt_seq::limits::MAX_ROUTES;
-use std::alloc::{AllocError, Global};
+use srt_types::Schedule;
+use srt_types::product_limits::MAX_ROUTES;
 use std::sync::Wait;
 
-/// When the routes of a run open and close while routes are added and removed: room for the plans of 511 routes. Their
-/// content before a run is ignored.
+/// When the routes of a run open and close, also those that are added. They stand in the value itself.
 #[derive(Drop)]
-pub struct Plans {
+pub(crate) struct Plans {
     // one for each route, in the order of their indexes
-    pub(crate) plans: Vec<Plan>,
+    plans: ArrayVec<Plan, MAX_ROUTES>,
     // the first round in which a route may open or close
-    pub(crate) due: u64,
-    // the latest arrival so far; a Close gets its timestamp
+    due: u64,
+    /// The latest arrival so far; a Close gets its timestamp.
     pub(crate) latest: Latest,
-    pub(crate) ghost room: { 511 ≤ vec_capacity plans },
 }
 
 impl Plans {
-    ghost use Rattle.std.specs.Prelude.{IfOk};
+    ghost use Rattle.std.specs.Prelude.{Some, slice_get, slice_set};
     ghost use Rattle.srt_poller.specs.Beginnings.{RestBetween, AreClosed};
     ghost use Rattle.srt_poller.specs.Openings.{route_reports};
     ghost use Rattle.srt_poller.specs.Plans.{never, waiting, closed_from, update_at, AreTimely};
-    ghost use Rattle.srt_poller.specs.Changes.{plans_in, TookNewcomers, TookClosings, TookChanges, OpensOne, Opens, BeganAfter};
+    ghost use Rattle.srt_poller.specs.Changes.{plans_in, TookAddedRoutes, TookClosings, TookMany, TookChanges, OpensOne, Opens, Started};
 
-    /// Allocates room for the plans of 511 routes.
-    pub fn new(alloc: Global) -> Result<Plans, AllocError>
-        ensures { IfOk result (λ plans. plans_in plans ≡ []) }
+    /// Returns the plans of routes with these names and schedules, before the first round.
+    pub(crate) fn new(names: &Names, schedules: &[Schedule]) -> Plans
+        requires { length schedules.now ≡ length (names_of names.now) }
+        ensures plans { plans_in result ≡ schedules.now }
+        ensures timely { AreTimely schedules.now }
+        ensures due { result.due ≡ 0 }
+        ensures latest { result.latest.moment ≡ 0 }
     {
-        Ok(Plans {
-            plans: Vec::with_capacity(alloc, MAX_ROUTES)?,
+        let mut plans = ArrayVec::new();
+        for route in 0..names.len() {
+            plans.push(Plan::of(schedules[route]));
+        }
+        Plans {
+            plans,
             due: 0,
             latest: Latest { moment: 0 },
-        })
+        }
     }
 
-    /// Makes them those of routes with these schedules, before the first round. Doesn't allocate.
-    pub(crate) fn start(&mut self, schedules: &[Schedule])
-        requires { length schedules.now ≤ 511 }
-        ensures plans { plans_in self.new ≡ schedules.now }
-        ensures timely { AreTimely schedules.now }
-        ensures due { self.new.due ≡ 0 }
-        ensures latest { self.new.latest.moment ≡ 0 }
+    // Returns the plan of a route.
+    fn plan(&self, route: usize) -> Plan
+        requires { route < length (plans_in self.now) }
+        ensures { slice_get self.now.plans.items route ≡ Some result }
     {
-        self.plans.clear();
-        for schedule in schedules {
-            self.plans.push(schedule.plan()).unwrap();
-        }
-        self.due = 0;
-        self.latest = Latest { moment: 0 };
+        self.plans[route]
+    }
+
+    // Changes the plan of a route.
+    fn set(&mut self, route: usize, plan: Plan)
+        requires { route < length (plans_in self.old) }
+        ensures plans { self.new.plans.items ≡ slice_set self.old.plans.items route plan }
+        ensures latest { self.new.latest ≡ self.old.latest }
+    {
+        self.plans[route] = plan;
     }
 
     // Appends a route, which waits until no visible route has its name. Doesn't allocate.
-    fn append(&mut self, names: &mut Names, ends: &mut Vec<Ends>, newcomer: Newcomer)
+    fn append(&mut self, names: &mut Names, ends: &mut Vec<Ends>, newcomer: AddedRoute)
         requires known { length (plans_in self.old) ≡ length (names_of names.old) }
         requires ends { length ends.old.items ≡ length (names_of names.old) }
         requires few { length (names_of names.old) < 511 }
@@ -74,7 +82,7 @@ impl Plans {
         ensures room { 511 ≤ vec_capacity ends.new }
         ensures latest { self.new.latest ≡ self.old.latest }
     {
-        let Newcomer {
+        let AddedRoute {
             name,
             ends: newcomers,
         } = newcomer;
@@ -84,7 +92,7 @@ impl Plans {
             open_round: NEVER,
             close_round: None,
         };
-        self.plans.push(plan).unwrap();
+        self.plans.push(plan);
     }
 
     // Appends all routes that are added, as long as there are fewer than 511. Doesn't allocate.
@@ -97,9 +105,10 @@ impl Plans {
         requires known { length (plans_in self.old) ≡ length (names_of names.old) }
         requires ends { length ends.old.items ≡ length (names_of names.old) }
         requires room { 511 ≤ vec_capacity ends.old }
-        ensures added { TookNewcomers (O.added openings.old) (O.added openings.new) (plans_in self.old) (plans_in self.new)
+        ensures added { TookAddedRoutes (O.added openings.old) (O.added openings.new) (plans_in self.old) (plans_in self.new)
             (names_of names.old) (names_of names.new) ends.old.items ends.new.items }
         ensures requested { O.requested openings.new ≡ O.requested openings.old }
+        ensures all { O.no_more openings.new ⊎ (511 ≤ length (names_of names.new)) }
         ensures room { 511 ≤ vec_capacity ends.new }
         ensures latest { self.new.latest ≡ self.old.latest }
     {
@@ -117,13 +126,15 @@ impl Plans {
         ensures plans { plans_in self.new ≡ update_at (closed_from round) (plans_in self.old) route }
         ensures latest { self.new.latest ≡ self.old.latest }
     {
-        self.plans[route] = self.plans[route].closed_from(round);
+        let plan = self.plan(route).closed_from(round);
+        self.set(route, plan);
     }
 
     // Closes the routes that are requested to close, at most 511, from this round on, which hasn't begun.
     fn take_closings<O: Openings>(&mut self, openings: &mut O, round: u64)
         ensures requested { TookClosings round (O.requested openings.old) (O.requested openings.new) (plans_in self.old) (plans_in self.new) }
         ensures added { O.added openings.new ≡ O.added openings.old }
+        ensures all { O.none_to_close openings.new ⊎ TookMany (O.requested openings.old) (O.requested openings.new) }
         ensures latest { self.new.latest ≡ self.old.latest }
     {
         for _ in 0..MAX_ROUTES {
@@ -134,9 +145,10 @@ impl Plans {
         }
     }
 
-    // Takes all changes before a round begins.
+    /// Takes all changes before a round begins: routes that are added, and those that are to close. Costs a call of
+    /// `has_changes` if there are none.
     #[inline(always)]
-    fn take_changes<O: Openings>(
+    pub(crate) fn take_changes<O: Openings>(
         &mut self,
         openings: &mut O,
         names: &mut Names,
@@ -147,7 +159,7 @@ impl Plans {
         requires ends { length ends.old.items ≡ length (names_of names.old) }
         requires room { 511 ≤ vec_capacity ends.old }
         requires rest { RestBetween round self.old.due (plans_in self.old) (names_of names.old) }
-        ensures took { TookChanges round self.new.due (route_reports (O.added openings.old) (O.requested openings.old))
+        ensures took { TookChanges round (route_reports (O.added openings.old) (O.requested openings.old))
             (route_reports (O.added openings.new) (O.requested openings.new))
             (plans_in self.old) (plans_in self.new) (names_of names.old) (names_of names.new) ends.old.items ends.new.items }
         ensures rest { RestBetween round self.new.due (plans_in self.new) (names_of names.new) }
@@ -169,11 +181,14 @@ impl Plans {
         ensures opens { OpensOne round route (plans_in self.old) (plans_in self.new) (names_of names.old) (names_of names.new) }
         ensures latest { self.new.latest ≡ self.old.latest }
     {
+        let mut plan = self.plan(route);
         if names.is_unused(route) {
             names.show(route);
-            self.plans[route].open_round = round;
+            plan.open_round = round;
+            self.set(route, plan);
         } else {
-            self.plans[route].open_round = NEVER;
+            plan.open_round = NEVER;
+            self.set(route, plan);
         }
     }
 
@@ -186,7 +201,7 @@ impl Plans {
         ensures latest { self.new.latest ≡ self.old.latest }
     {
         for route in 0..self.plans.len() {
-            if self.plans[route].may_open(round) {
+            if self.plan(route).may_open(round) {
                 self.open_one(names, route, round);
             }
         }
@@ -195,73 +210,62 @@ impl Plans {
     // Closes the routes that are to close in this round.
     fn close<R: Wait, G: Hints>(
         &mut self,
-        rt: &R,
-        signals: &G,
+        task: &PollerTask<R, G>,
         names: &mut Names,
-        ends: &mut Vec<Ends>,
+        ends: &mut [Ends],
         round: u64,
         closes_all: bool,
     )
         requires known { length (plans_in self.old) ≡ length (names_of names.old) }
-        requires ends { length ends.old.items ≡ length (names_of names.old) }
-        requires room { 511 ≤ vec_capacity ends.old }
+        requires ends { length ends.old ≡ length (names_of names.old) }
         ensures closed { AreClosed closes_all self.old.latest.moment round (plans_in self.old) (names_of names.old) (names_of names.new)
-            ends.old.items ends.new.items }
-        ensures room { 511 ≤ vec_capacity ends.new }
+            ends.old ends.new }
         ensures rest { RestBetween (round + 1) self.new.due (plans_in self.new) (names_of names.new) }
         ensures plans { plans_in self.new ≡ plans_in self.old }
         ensures latest { self.new.latest ≡ self.old.latest }
     {
         let plans = self.plans.as_slice();
-        close(
-            plans,
-            self.latest,
-            rt,
-            signals,
-            names,
-            ends.as_mut_slice(),
+        let closing = Closing {
             round,
             closes_all,
-        );
+            latest: self.latest,
+        };
+        close(task, plans, closing, names, ends);
         self.due = next_due(plans, names, round);
     }
 
-    /// Begins a round: takes the routes that are added and those that are to close, and then does what the beginning of a
-    /// round is without changes. A route becomes visible only while no other visible route has its name; an added one, or
-    /// one in its opening round, waits until then. Costs a call of `has_changes` and two comparisons in a round with
-    /// nothing to do, otherwise some for each route, and so in each round in which one waits.
+    /// Begins a round, after its changes: makes the routes visible that open in it, and then offers Close to each visible
+    /// route that is due, in the order of their indexes. A route becomes visible only while no other visible route has
+    /// its name; an added one, or one in its opening round, waits until then. A route whose inbox accepts Close is hidden;
+    /// one whose inbox is full is offered it again in the next round. If the round closes all, none opens, and each
+    /// visible route is closed so. Costs two comparisons in a round with nothing to do, otherwise some for each route, and
+    /// so in each round in which one waits.
     #[inline(always)]
-    pub(crate) fn begin<R: Wait, G: Hints, O: Openings>(
+    pub(crate) fn begin<R: Wait, G: Hints>(
         &mut self,
-        rt: &R,
-        signals: &G,
-        openings: &mut O,
+        task: &PollerTask<R, G>,
         names: &mut Names,
-        ends: &mut Vec<Ends>,
+        ends: &mut [Ends],
         round: u64,
         closes_all: bool,
     )
         requires known { length (plans_in self.old) ≡ length (names_of names.old) }
-        requires ends { length ends.old.items ≡ length (names_of names.old) }
-        requires room { 511 ≤ vec_capacity ends.old }
+        requires ends { length ends.old ≡ length (names_of names.old) }
         requires rest { RestBetween round self.old.due (plans_in self.old) (names_of names.old) }
         requires fits { round < never }
-        ensures began { BeganAfter closes_all round self.old.latest.moment (route_reports (O.added openings.old) (O.requested openings.old))
-            (route_reports (O.added openings.new) (O.requested openings.new)) (plans_in self.old) (plans_in self.new)
-            (names_of names.old) (names_of names.new) ends.old.items ends.new.items }
+        ensures started { Started closes_all round self.old.due self.old.latest.moment (plans_in self.old) (plans_in self.new)
+            (names_of names.old) (names_of names.new) ends.old ends.new }
         ensures rest { RestBetween (round + 1) self.new.due (plans_in self.new) (names_of names.new) }
-        ensures room { 511 ≤ vec_capacity ends.new }
         ensures latest { self.new.latest ≡ self.old.latest }
     {
-        self.take_changes(openings, names, ends, round);
         if closes_all {
-            self.close(rt, signals, names, ends, round, true);
+            self.close(task, names, ends, round, true);
             return;
         }
         if round < self.due {
             return;
         }
         self.open(names, round);
-        self.close(rt, signals, names, ends, round, false);
+        self.close(task, names, ends, round, false);
     }
 }

@@ -1,11 +1,29 @@
-//! The inputs of a round, apart from its devices and the ends of the routes.
+//! The inputs of a poller and of a round, apart from the devices, the names and the ends of the routes.
 
 ghost use Rattle.std.specs.Prelude.{◌≤◌};
 
 use crate::signals::Hints;
 use srt_cookie::Secret;
 use srt_lobby::Names;
+use srt_types::Schedule;
 use std::alloc::Global;
+
+/// What a poller does, and with what: the same in all its rounds.
+#[derive(Drop)]
+pub struct PollerTask<'a, R, G> {
+    /// The host, whose locks the queues use.
+    pub rt: &'a R,
+    /// Allocates copies of datagrams.
+    pub alloc: Global,
+    /// The secret of the lobby's cookies.
+    pub secret: &'a Secret,
+    /// The rounds in which each of the first routes opens and closes, in the order of their indexes.
+    pub schedules: &'a [Schedule],
+    /// The most rounds: it makes as many unless the order is to end.
+    pub rounds: u64,
+    /// The orders and hints that it gets, and what it reports.
+    pub signals: &'a G,
+}
 
 /// The inputs of the lobby's classification.
 #[derive(Clone, Copy)]

@@ -2,7 +2,7 @@
 
 ghost use Rattle.std.specs.Prelude.{◌≡◌, ◌<◌, ◌≤◌, ◌^◌, take};
 
-use srt_seq::Peer;
+use srt_types::Peer;
 
 /// The outcome of a wait for datagrams.
 #[derive(Clone, Copy, Debug, PartialEq, Eq)]
@@ -75,7 +75,7 @@ pub trait Source {
 /// Sends datagrams.
 pub trait Wire {
     ghost use Rattle.std.specs.Prelude.{ℕ, Option, List};
-    ghost use Rattle.srt_seq.specs.Items.{Datagram};
+    ghost use Rattle.srt_types.specs.Items.{Datagram};
     ghost use Rattle.srt_mailbox.specs.Counts.{Grew};
     ghost use Rattle.std.specs.Prelude.{[], ◌∷◌};
     ghost use Rattle.srt_poller.specs.Devices.{datagram, handed_by_send, Attempt, attempt, joined};

@@ -4,9 +4,9 @@ ghost use Rattle.std.specs.Prelude.{◌≡◌, ◌<◌, ◌≤◌, ◌^◌, true
 
 use crate::buffers::Buffers;
 use crate::context::RoundContext;
-use crate::schedule::Latest;
+use crate::latest::Latest;
 use srt_mailbox::{Drain, InboxFull, Ingress};
-use srt_seq::{Item, Peer};
+use srt_types::{Item, Peer};
 use std::sync::Wait;
 
 /// The poller's ends of the queues of one route.

@@ -10,17 +10,18 @@
 //! share one UDP socket.
 //!
 //! Calls: open the routes (`srt_mailbox::open_route`), hide those that open later (`srt_lobby::Names::hide`), bind or
-//! make the devices, then `pump` once for n rounds; or `pump_under`, until the order is to end. Routes open and close at
-//! the beginning of the rounds that their `srt_seq::Schedule` has. With `pump_changing` routes are added and removed too,
-//! as its `Openings` report; it keeps their `Plans`.
+//! make the devices, then `pump` once for n rounds; or `pump_under` with a `PollerTask`, until the order is to end. Routes
+//! open and close at the beginning of the rounds that their `srt_types::Schedule` has. With `pump_changing` routes are added
+//! and removed too, as its `Openings` report.
 //!
-//! Files: the beginning of a round is in `schedule.rt`, and while routes are added and removed in `changing.rt`; what both
-//! do with the plans of all routes is in `plans.rt`, openings are in `openings.rt`. The other steps are in `poller.rt` (the
-//! reply that is kept), their inputs in `context.rt`, the memory of copies in `buffers.rt`, the rounds in `pumping.rt` and
-//! `changing_rounds.rt`, the counts in `report.rt`, the calls that devices in memory record in `journal.rt`, how a socket's
-//! source waits in `pace.rt` and `density.rt`, tuned constants in `tuning.rt`, laws of the definitions in `laws.rt`.
-//! `specs/History.antt` has the events of a poller, `specs/Plans.antt` what becomes of schedules while routes are added and
-//! removed.
+//! Files: `rounds.rt` has a poller between two rounds, what happens in one, and the loop over them. The beginning of a
+//! round is in `changing.rt`, with the plans of all routes; the plan of one is in `plans.rt`, the ends of all routes with
+//! their changes in `tables.rt`, openings in `openings.rt`. The other steps are in `poller.rt`
+//! (the reply that is kept), the inputs in `context.rt`, the memory of copies in `buffers.rt`, the calls in `pumping.rt` and
+//! `changing_rounds.rt`, the counts in `report.rt`, the greatest timestamp in `latest.rt`, the calls that devices in memory record in
+//! `journal.rt`, how a socket's source waits in `pace.rt` and `density.rt`, tuned constants in `tuning.rt`, laws of the
+//! definitions in `laws.rt`. `specs/History.antt` has the events of a poller, `specs/Plans.antt` what becomes of schedules
+//! while routes are added and removed.
 #![tactic(auto)]
 
 mod buffers;
@@ -31,6 +32,7 @@ mod density;
 mod devices;
 mod ends;
 mod journal;
+mod latest;
 pub mod laws;
 mod openings;
 mod pace;
@@ -38,17 +40,18 @@ mod plans;
 mod poller;
 mod pumping;
 mod report;
-mod schedule;
+mod rounds;
 mod scripts;
 mod signals;
 mod sockets;
+mod tables;
 mod tuning;
 
-pub use changing::Plans;
 pub use changing_rounds::pump_changing;
+pub use context::PollerTask;
 pub use devices::{Clock, Polled, Read, Sent, Source, Wire};
 pub use ends::Ends;
-pub use openings::{Newcomer, Openings, Unchanged};
+pub use openings::{AddedRoute, Openings, Unchanged};
 pub use pumping::{Pumping, pump, pump_under};
 pub use scripts::{
     ClockScript, ScriptDatagram, SentDatagram, SourceScript, SourceStep, WireScript,

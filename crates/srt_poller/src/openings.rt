@@ -8,7 +8,7 @@ use srt_lobby::NewName;
 /// A route that is added while a poller runs: its name, which is hidden until the poller makes it visible, and the
 /// poller's ends of its queues.
 #[derive(Drop)]
-pub struct Newcomer {
+pub struct AddedRoute {
     /// Its name, with the clients that it admits.
     pub name: NewName,
     /// The ends of its queues.
@@ -17,7 +17,7 @@ pub struct Newcomer {
 
 /// Passes a poller the routes that are added, and those that are to close. Calls come from the poller's thread.
 pub trait Openings {
-    ghost use Rattle.std.specs.Prelude.{◌≡◌, ◌<◌, ℕ, Option, List, map, IfSome};
+    ghost use Rattle.std.specs.Prelude.{◌≡◌, ◌<◌, ℕ, Option, List, map, IfSome, IfNone};
     ghost use Rattle.srt_poller.specs.Devices.{joined};
     ghost use Rattle.srt_poller.specs.Openings.{ReportedRoute, reported_route, additions, closings};
 
@@ -28,21 +28,29 @@ pub trait Openings {
     /// them.
     ghost requested: { Self → Option (List ℕ) };
 
+    /// What is known of openings that have returned no added route when they were asked for the next one. By default nothing.
+    ghost no_more: { Self → Type 0 } = { λ _. Unit {0} };
+
+    /// The same, when they were asked for the next one that is to close.
+    ghost none_to_close: { Self → Type 0 } = { λ _. Unit {0} };
+
     /// Whether there may be a route that is added or is to close. Polled before each round, so it should cost no more than
     /// a load or two. If it is wrong, changes are made in a later round.
     fn has_changes(&self) -> bool;
 
     /// Returns the next route that is added, if there is one. It has the next index.
-    fn next(&mut self) -> Option<Newcomer>
+    fn next(&mut self) -> Option<AddedRoute>
         ensures added { added self.new ≡ joined (added self.old) (map reported_route (additions result)) }
-        ensures requested { requested self.new ≡ requested self.old };
+        ensures requested { requested self.new ≡ requested self.old }
+        ensures all { IfNone result (no_more self.new) };
 
     /// Returns the index of the next route that is to close, if there is one. There are this many routes, the added ones
     /// among them; an index beyond them isn't returned.
     fn next_close(&mut self, routes: usize) -> Option<usize>
         ensures known { IfSome result (λ r. r < routes) }
         ensures added { added self.new ≡ added self.old }
-        ensures requested { requested self.new ≡ joined (requested self.old) (closings result) };
+        ensures requested { requested self.new ≡ joined (requested self.old) (closings result) }
+        ensures all { IfNone result (none_to_close self.new) };
 }
 
 /// No route is added, and none is requested to close.
@@ -60,7 +68,7 @@ impl Openings for Unchanged {
         false
     }
 
-    fn next(&mut self) -> Option<Newcomer> {
+    fn next(&mut self) -> Option<AddedRoute> {
         None
     }
 

@@ -1,4 +1,4 @@
-//! When routes open and close: what the beginning of a round does with the plans of all routes.
+//! When routes open and close: the plan of a route, and what the beginning of a round does with those of all routes.
 
 ghost use Rattle.std.specs.Prelude.{◌≡◌, ◌<◌, ◌≤◌, ◌+◌, ◌^◌, ℕ, length, map};
 ghost use Rattle.srt_lobby.specs.Names.{names_of};
@@ -6,18 +6,19 @@ ghost use Rattle.srt_poller.specs.Schedules.{offered, is_due};
 ghost use Rattle.srt_poller.specs.Plans.{schedule_of};
 ghost use Rattle.srt_poller.specs.Beginnings.{RouteRests, RestBetween, Closes, AreClosed};
 
+use crate::context::PollerTask;
 use crate::ends::Ends;
-use crate::schedule::Latest;
+use crate::latest::Latest;
 use crate::signals::Hints;
 use srt_lobby::Names;
-use srt_seq::Schedule;
+use srt_types::Schedule;
 use std::sync::Wait;
 
 /// The number of no round: a route with this opening round hasn't opened, and opens only once it gets another one.
 pub(crate) const NEVER: u64 = u64::MAX;
 
 /// When a route opens and closes.
-#[derive(Clone, Copy)]
+#[derive(Clone, Copy, Default)]
 pub(crate) struct Plan {
     /// The round in which it becomes visible, or `NEVER`.
     pub(crate) open_round: u64,
@@ -25,57 +26,37 @@ pub(crate) struct Plan {
     pub(crate) close_round: Option<u64>,
 }
 
-/// Has a plan for a route.
-pub(crate) trait Planned {
-    ghost use Rattle.std.specs.Prelude.{◌≡◌};
-    ghost use Rattle.srt_seq.specs.declared.shared.Schedule.{Schedule as TheSchedule};
-    ghost use Rattle.srt_poller.specs.Plans.{schedule_of};
-
-    /// The plan, as a schedule.
-    ghost schedule: { Self → TheSchedule };
-
-    /// The plan.
-    fn plan(&self) -> Plan
-        ensures same { schedule_of result ≡ schedule self.now };
+/// In which round routes are closed, and with which timestamp.
+#[derive(Clone, Copy)]
+pub(crate) struct Closing {
+    /// The number of the round.
+    pub(crate) round: u64,
+    /// The round closes all visible routes.
+    pub(crate) closes_all: bool,
+    /// The timestamp of Close.
+    pub(crate) latest: Latest,
 }
 
-impl Planned for Schedule {
-    ghost use Rattle.std.specs.Prelude.{◌<◌, ◌^◌};
-    ghost use Rattle.srt_poller.specs.Plans.{schedule_of};
+impl Plan {
+    ghost use Rattle.std.specs.Prelude.{◌==◌, ◌&&◌, not, true, false};
+    ghost use Rattle.srt_poller.specs.Schedules.{has_come};
+    ghost use Rattle.srt_poller.specs.Plans.{never, may_open, closed_from};
 
-    ghost schedule = { λ s. s };
-
+    /// Returns the plan of a route with this schedule.
     #[inline(always)]
-    fn plan(&self) -> Plan
-        ensures same { schedule_of result ≡ self.now }
+    pub(crate) fn of(schedule: Schedule) -> Plan
+        ensures same { schedule_of result ≡ schedule }
         ensures limit { result.open_round < 2 ^ 32 }
     {
-        let close_round = match self.close_round {
+        let close_round = match schedule.close_round {
             Some(close_round) => Some(close_round as u64),
             None => None,
         };
         Plan {
-            open_round: self.open_round as u64,
+            open_round: schedule.open_round as u64,
             close_round,
         }
     }
-}
-
-impl Planned for Plan {
-    ghost use Rattle.srt_poller.specs.Plans.{schedule_of};
-
-    ghost schedule = { λ p. schedule_of p };
-
-    #[inline(always)]
-    fn plan(&self) -> Plan {
-        *self
-    }
-}
-
-impl Plan {
-    ghost use Rattle.std.specs.Prelude.{◌==◌, ◌&&◌, not};
-    ghost use Rattle.srt_poller.specs.Schedules.{has_come};
-    ghost use Rattle.srt_poller.specs.Plans.{never, may_open, closed_from};
 
     /// Whether its closing round is this one or an earlier one.
     #[inline(always)]
@@ -91,8 +72,8 @@ impl Plan {
     /// Whether the route is closed in this round, if it is visible: the round closes all, or the route's closing round is
     /// this one or an earlier one.
     #[inline(always)]
-    fn is_over(self, round: u64, closes_all: bool) -> bool
-        ensures { result ≡ is_due closes_all round self.close_round }
+    fn is_over(&self, round: u64, closes_all: bool) -> bool
+        ensures { result ≡ is_due closes_all round self.now.close_round }
     {
         closes_all | self.closes_by(round)
     }
@@ -135,38 +116,54 @@ impl Plan {
         }
     }
 
-    /// Returns the first round after this one in which the route may open or close, if the rounds until then don't close
-    /// all; 2^64 - 1 if there is none.
-    fn next_of(self, is_shown: bool, round: u64) -> u64
-        ensures { (k : ℕ) → round < k → k < result → RouteRests k (schedule_of self) is_shown }
+    /// Returns the first round after this one in which the route may become visible: the next one if it waits for its name.
+    /// 2^64 - 1 if there is none.
+    fn opens_next(&self, round: u64) -> u64
+        ensures rests { (k : ℕ) → round < k → k < result → may_open k (schedule_of self.now) ≡ false }
+        ensures waits { may_open (round + 1) (schedule_of self.now) ≡ true → result ≤ round + 1 }
     {
-        let mut next = NEVER;
-        if self.open_round > round {
-            next = self.open_round;
-        }
         if self.waits(round) {
-            next = round.saturating_add(1);
+            return round.saturating_add(1);
         }
+        if self.open_round > round {
+            return self.open_round;
+        }
+        NEVER
+    }
+
+    /// Returns the first round after this one in which the route is closed, if the rounds until then don't close all; 2^64 - 1
+    /// if there is none.
+    fn closes_next(&self, is_shown: bool, round: u64) -> u64
+        ensures { (k : ℕ) → round < k → k < result → (has_come k self.now.close_round && is_shown) ≡ false }
+    {
         match self.close_round {
             Some(close_round) => {
                 if close_round > round {
-                    next.min(close_round)
+                    close_round
                 } else if is_shown {
-                    next.min(round.saturating_add(1))
+                    round.saturating_add(1)
                 } else {
-                    next
+                    NEVER
                 }
             }
-            None => next,
+            None => NEVER,
         }
+    }
+
+    /// Returns the first round after this one in which the route may open or close, if the rounds until then don't close
+    /// all; 2^64 - 1 if there is none.
+    fn next_of(&self, is_shown: bool, round: u64) -> u64
+        ensures { (k : ℕ) → round < k → k < result → RouteRests k (schedule_of self.now) is_shown }
+    {
+        self.opens_next(round)
+            .min(self.closes_next(is_shown, round))
     }
 }
 
 // Offers Close with the latest timestamp to a route, and hides it if its inbox accepted that. Returns whether it did.
 fn close_one<R: Wait, G: Hints>(
+    task: &PollerTask<R, G>,
     latest: Latest,
-    rt: &R,
-    signals: &G,
     names: &mut Names,
     ends: &mut [Ends],
     route: usize,
@@ -175,33 +172,31 @@ fn close_one<R: Wait, G: Hints>(
     requires route { route < length ends.old }
     ensures { Closes latest.moment (offered route result) (names_of names.old) (names_of names.new) ends.old ends.new }
 {
-    let Ok(()) = ends[route].offer_close(rt, latest) else {
+    let Ok(()) = ends[route].offer_close(task.rt, latest) else {
         return false;
     };
-    signals.polled(route);
+    task.signals.polled(route);
     names.hide(route);
     true
 }
 
 /// Offers Close to each visible route that is due, or to each visible one, in the order of their indexes.
-pub(crate) fn close<P: Planned, R: Wait, G: Hints>(
-    plans: &[P],
-    latest: Latest,
-    rt: &R,
-    signals: &G,
+pub(crate) fn close<R: Wait, G: Hints>(
+    task: &PollerTask<R, G>,
+    plans: &[Plan],
+    closing: Closing,
     names: &mut Names,
     ends: &mut [Ends],
-    round: u64,
-    closes_all: bool,
 )
     requires known { length plans.now ≡ length (names_of names.old) }
     requires ends { length ends.old ≡ length (names_of names.old) }
-    ensures { AreClosed closes_all latest.moment round (map P.schedule plans.now) (names_of names.old) (names_of names.new) ends.old ends.new }
+    ensures { AreClosed closing.closes_all closing.latest.moment closing.round (map schedule_of plans.now) (names_of names.old) (names_of names.new)
+        ends.old ends.new }
 {
     let mut route = 0;
-    for planned in plans {
-        if planned.plan().is_over(round, closes_all) && names.shows(route) {
-            let _ = close_one(latest, rt, signals, names, ends, route);
+    for plan in plans {
+        if plan.is_over(closing.round, closing.closes_all) && names.shows(route) {
+            let _ = close_one(task, closing.latest, names, ends, route);
         }
         route += 1;
     }
@@ -209,14 +204,14 @@ pub(crate) fn close<P: Planned, R: Wait, G: Hints>(
 
 /// Returns the first round after this one in which a route may open or close, if the rounds until then don't close all;
 /// 2^64 - 1 if there is none.
-pub(crate) fn next_due<P: Planned>(plans: &[P], names: &Names, round: u64) -> u64
+pub(crate) fn next_due(plans: &[Plan], names: &Names, round: u64) -> u64
     requires { length plans.now ≡ length (names_of names.now) }
-    ensures { RestBetween (round + 1) result (map P.schedule plans.now) (names_of names.now) }
+    ensures { RestBetween (round + 1) result (map schedule_of plans.now) (names_of names.now) }
 {
     let mut next = u64::MAX;
     let mut route = 0;
-    for planned in plans {
-        next = next.min(planned.plan().next_of(names.shows(route), round));
+    for plan in plans {
+        next = next.min(plan.next_of(names.shows(route), round));
         route += 1;
     }
     next

@@ -9,16 +9,16 @@ use crate::buffers::Buffers;
 use crate::context::{Classifier, RoundContext};
 use crate::devices::{Polled, Read, Sent, Source, Wire};
 use crate::ends::{Ends, Offered};
+use crate::latest::Latest;
 use crate::report::{
     count_accepted, count_answer, count_dropped, count_fault, count_full, count_refused,
     count_reply,
 };
-use crate::schedule::Latest;
 use crate::signals::{Hints, InlineService, PollerObserver, Signals};
 use crate::tuning::{READS_PER_ROUND, REPLIES_PER_ROUTE, ROUNDS_PER_FULL_CHECK};
 use srt_lobby::{Class, classify};
-use srt_seq::Peer;
 use srt_supervision::Report;
+use srt_types::Peer;
 use std::alloc::Global;
 use std::sync::Wait;
 

@@ -1,23 +1,22 @@
 //! The poller's rounds.
 
-ghost use Rattle.std.specs.Prelude.{◌≡◌, ◌+◌, ◌^◌, ◌<◌, ◌≤◌, ◌⊎◌, true, false, IfSome, IfNone, length};
+ghost use Rattle.std.specs.Prelude.{◌≡◌, ◌^◌, ◌≤◌, ◌⊎◌, length};
 ghost use Rattle.srt_lobby.specs.Names.{names_of};
 ghost use Rattle.srt_poller.specs.Schedules.{AllDiffer};
-ghost use Rattle.srt_poller.specs.Pollers.{sorting, round_state, listening, Rounds};
+ghost use Rattle.srt_poller.specs.Pollers.{sorting};
 ghost use Rattle.srt_poller.specs.Devices.{heard, carried};
-ghost use Rattle.srt_poller.specs.Beginnings.{RestBetween};
 ghost use Rattle.srt_poller.specs.Pumped.{Pumped, PumpedUnder, before, after};
 
-use crate::context::{Classifier, RoundContext};
+use crate::context::PollerTask;
 use crate::devices::{Source, Wire};
 use crate::ends::Ends;
-use crate::poller::Poller;
-use crate::schedule::RouteSchedules;
-use crate::signals::{Orders, Signals, Unsignalled};
+use crate::rounds::PollerRounds;
+use crate::signals::{Signals, Unsignalled};
+use crate::tables::FixedRoutes;
 use srt_cookie::Secret;
 use srt_lobby::Names;
-use srt_seq::Schedule;
-use srt_supervision::{Order, Report};
+use srt_supervision::Report;
+use srt_types::Schedule;
 use std::alloc::Global;
 use std::sync::Wait;
 
@@ -64,18 +63,16 @@ pub fn pump<R: Wait, S: Source, W: Wire>(
         (before (names_of names.old) (heard (S.gave source.old) (S.calls source.old)) (carried (W.handed wire.old) (W.attempts wire.old)) ends.old)
         (after (names_of names.new) (heard (S.gave source.new) (S.calls source.new)) (carried (W.handed wire.new) (W.attempts wire.new)) ends.new result) }
 {
-    let pumping = pump_under(
+    let signals = Unsignalled;
+    let task = PollerTask {
         rt,
         alloc,
         secret,
-        names,
         schedules,
-        source,
-        wire,
-        ends,
-        rounds as u64,
-        &Unsignalled,
-    );
+        rounds: rounds as u64,
+        signals: &signals,
+    };
+    let pumping = pump_under(&task, names, ends, source, wire);
     pumping.report
 }
 
@@ -83,108 +80,30 @@ pub fn pump<R: Wait, S: Source, W: Wire>(
 /// makes no route visible, and offers `Close` to each visible one. Outboxes without a hint are skipped, except in every
 /// 64th round, the first among them, and in the round after one that left an outbox before it was found empty.
 pub fn pump_under<R: Wait, S: Source, W: Wire, G: Signals>(
-    rt: &R,
-    alloc: Global,
-    secret: &Secret,
+    task: &PollerTask<R, G>,
     names: &mut Names,
-    schedules: &[Schedule],
+    ends: &mut [Ends],
     source: &mut S,
     wire: &mut W,
-    ends: &mut [Ends],
-    rounds: u64,
-    signals: &G,
 ) -> Pumping
     requires ends { length ends.old ≡ length (names_of names.old) }
-    requires schedules { length schedules.now ≡ length (names_of names.old) }
+    requires schedules { length task.now.schedules.now ≡ length (names_of names.old) }
     requires differ { AllDiffer (names_of names.old) }
-    requires few { rounds ≤ 2 ^ 48 }
-    ensures pumped { PumpedUnder (G.goes signals.now) (G.closes signals.now) (sorting secret.now) schedules.now result.rounds
+    requires few { task.now.rounds ≤ 2 ^ 48 }
+    ensures pumped { PumpedUnder (G.goes task.now.signals.now) (G.closes task.now.signals.now) (sorting task.now.secret.now) task.now.schedules.now
+        result.rounds
         (before (names_of names.old) (heard (S.gave source.old) (S.calls source.old)) (carried (W.handed wire.old) (W.attempts wire.old)) ends.old)
         (after (names_of names.new) (heard (S.gave source.new) (S.calls source.new)) (carried (W.handed wire.new) (W.attempts wire.new))
         ends.new result.report) }
-    ensures rounds { result.rounds ≤ rounds }
-    ensures whole { (result.rounds ≡ rounds) ⊎ G.stops signals.now }
+    ensures rounds { result.rounds ≤ task.now.rounds }
+    ensures whole { (result.rounds ≡ task.now.rounds) ⊎ G.stops task.now.signals.now }
 {
-    let mut poller = Poller::new(alloc);
-    let mut route_schedules = RouteSchedules::new(schedules);
-    let made = pump_from(
-        rt,
-        alloc,
-        secret,
-        names,
-        source,
-        wire,
-        ends,
-        &mut route_schedules,
-        &mut poller,
-        0,
-        rounds,
-        signals,
-    );
-    let counts = poller.report();
+    let mut rounds = PollerRounds::new(task.alloc, names, task.schedules);
+    let mut table = FixedRoutes { ends };
+    let made = rounds.make(task, &mut table, names, source, wire);
+    let counts = rounds.poller.report();
     Pumping {
         report: counts,
         rounds: made,
     }
-}
-
-/// Whether the next round closes all. `None` if the order is to end.
-#[inline(always)]
-pub(crate) fn ask<G: Orders>(signals: &G) -> Option<bool>
-    ensures round { IfSome result (λ closes_all. (closes_all ≡ false → G.goes signals.now) × (closes_all ≡ true → G.closes signals.now)) }
-    ensures end { IfNone result (G.stops signals.now) }
-{
-    match signals.order() {
-        Order::GoOn => Some(false),
-        Order::CloseAll => Some(true),
-        Order::End => None,
-    }
-}
-
-/// Makes at most `rounds` rounds, and returns how many were made. The first has the number `first`.
-#[inline(always)]
-pub(crate) fn pump_from<R: Wait, S: Source, W: Wire, G: Signals>(
-    rt: &R,
-    alloc: Global,
-    secret: &Secret,
-    names: &mut Names,
-    source: &mut S,
-    wire: &mut W,
-    ends: &mut [Ends],
-    route_schedules: &mut RouteSchedules,
-    poller: &mut Poller,
-    first: u64,
-    rounds: u64,
-    signals: &G,
-) -> u64
-    requires ends { length ends.old ≡ length (names_of names.old) }
-    requires schedules { length route_schedules.old.schedules.now ≡ length (names_of names.old) }
-    requires differ { AllDiffer (names_of names.old) }
-    requires rest { RestBetween first route_schedules.old.due route_schedules.old.schedules.now (names_of names.old) }
-    requires fits { first + rounds < 2 ^ 64 }
-    ensures went { Rounds (G.goes signals.now) (G.closes signals.now) (sorting secret.now) route_schedules.old.schedules.now result (length ends.old)
-        (listening (heard (S.gave source.old) (S.calls source.old)) (carried (W.handed wire.old) (W.attempts wire.old)) ends.old poller.old
-        (round_state (names_of names.old) first route_schedules.old.latest.moment))
-        (listening (heard (S.gave source.new) (S.calls source.new)) (carried (W.handed wire.new) (W.attempts wire.new)) ends.new poller.new
-        (round_state (names_of names.new) (first + result) route_schedules.new.latest.moment)) }
-    ensures rounds { result ≤ rounds }
-    ensures whole { (result ≡ rounds) ⊎ G.stops signals.now }
-{
-    for made in 0..rounds {
-        poller.report_counts(signals);
-        let Some(closes_all) = ask(signals) else {
-            return made;
-        };
-        let round = first + made;
-        route_schedules.begin(rt, signals, names, ends, round, closes_all);
-        let context = RoundContext {
-            rt,
-            alloc,
-            lobby: Classifier { secret, names },
-            signals,
-            all: poller.checks_all(round),
-        };
-        poller.make_round(&context, source, wire, ends, &mut route_schedules.latest);
-    }
-    rounds
 }

@@ -6,7 +6,7 @@ ghost use Rattle.srt_poller.specs.Notes.{outcome};
 
 use crate::devices::{Clock, Polled, Read, Sent, Source, Wire};
 use crate::journal::Journal;
-use srt_seq::Peer;
+use srt_types::Peer;
 use std::alloc::Global;
 
 /// A datagram of a source in memory.

@@ -3,8 +3,8 @@
 ghost use Rattle.std.specs.Prelude.{◌≡◌};
 
 use srt_lobby::Names;
-use srt_seq::Peer;
 use srt_supervision::{Order, Report};
+use srt_types::Peer;
 
 /// Orders to a poller. Calls come from the poller's thread.
 pub trait Orders {

@@ -1,8 +1,10 @@
 //! A source and a wire over one UDP socket, IPv4.
 
-ghost use Rattle.std.specs.Prelude.{◌≡◌, ◌++◌, IfOk};
+ghost use Rattle.std.specs.Prelude.{◌≡◌, ◌++◌, ◌∷◌, ◌==◌, [], ℕ, IfOk, IfSome, IfNone, length};
 ghost use Rattle.std.specs.Net.Addr.{ipv4_octets};
-ghost use Rattle.srt_poller.specs.inside.Sockets.{mapped};
+ghost use Rattle.srt_types.specs.declared.shared.Peer.{Peer as ThePeer};
+ghost use Rattle.srt_poller.specs.declared.devices.Read.TheVariants.{Datagram};
+ghost use Rattle.srt_poller.specs.inside.Sockets.{mapped, HasAddress, HasIpv4};
 
 use crate::devices::{Clock, Polled, Read, Sent, Source, Wire};
 use crate::pace::{Pace, Pause};
@@ -11,7 +13,7 @@ use libc::net;
 use libc::types::timespec;
 use mio::net::UdpSocket;
 use mio::{Events, Interest, Poll, Token};
-use srt_seq::Peer;
+use srt_types::Peer;
 use std::alloc::{AllocError, Global};
 use std::io::ErrorKind;
 use std::net::{IpAddr, Ipv4Addr, Net, SocketAddr, SocketAddrV4};
@@ -105,7 +107,9 @@ fn peer_at(ip: Ipv4Addr, port: u16) -> Peer
 }
 
 /// The peer that a datagram came from.
-fn peer_of(from: SocketAddr) -> Peer {
+fn peer_of(from: SocketAddr) -> Peer
+    ensures { HasAddress result from }
+{
     match from.ip() {
         IpAddr::V4(ip) => peer_at(ip, from.port()),
         IpAddr::V6(ip) => Peer {
@@ -116,12 +120,40 @@ fn peer_of(from: SocketAddr) -> Peer {
 }
 
 /// The socket address of this peer. `None` if it isn't of the form `::ffff:a.b.c.d`.
-fn address_of(peer: Peer) -> Option<SocketAddr> {
+fn address_of(peer: Peer) -> Option<SocketAddr>
+    ensures address { IfSome result (λ address. HasIpv4 peer address) }
+    ensures none { IfNone result ((a b c d : ℕ) → peer.ip ≡ mapped (a ∷ b ∷ c ∷ d ∷ []) → ⊥) }
+{
     let [0, 0, 0, 0, 0, 0, 0, 0, 0, 0, 255, 255, a, b, c, d] = peer.ip else {
         return None;
     };
     let ip = Ipv4Addr::new(a, b, c, d);
     Some(SocketAddr::V4(SocketAddrV4::new(ip, peer.port)))
+}
+
+/// A datagram that the socket gave, with its length and its sender.
+fn datagram_read(received: (usize, SocketAddr), moment: u64) -> Read
+    ensures { (peer : ThePeer) × HasAddress peer received.1 × (result ≡ Datagram peer received.0 moment) }
+{
+    let (len, from) = received;
+    Read::Datagram(peer_of(from), len, moment)
+}
+
+/// What the socket gets to send: the address and the bytes. `None` if the peer has no IPv4 address.
+fn outgoing<'a>(to: Peer, bytes: &'a [u8]) -> Option<(SocketAddr, &'a [u8])>
+    ensures address { IfSome result (λ sent. HasIpv4 to sent.0) }
+    ensures bytes { IfSome result (λ sent. sent.1.now ≡ bytes.now) }
+    ensures none { IfNone result ((a b c d : ℕ) → to.ip ≡ mapped (a ∷ b ∷ c ∷ d ∷ []) → ⊥) }
+{
+    let target = address_of(to)?;
+    Some((target, bytes))
+}
+
+/// Whether the socket took these bytes whole.
+fn is_whole(taken: usize, bytes: &[u8]) -> bool
+    ensures { result ≡ (taken == length bytes.now) }
+{
+    taken == bytes.len()
 }
 
 impl Shared {
@@ -247,10 +279,10 @@ impl<C: Clock> Source for MioSource<C> {
 
     fn next(&mut self, buffer: &mut [u8; 2048]) -> Read {
         match self.shared.socket.recv_from(buffer.as_mut_slice()) {
-            Ok((len, from)) => {
+            Ok(received) => {
                 let moment = self.clock.next();
                 self.pace.arrived(moment);
-                Read::Datagram(peer_of(from), len, moment)
+                datagram_read(received, moment)
             }
             Err(error) => {
                 self.pace.ended();
@@ -290,13 +322,16 @@ impl Wire for MioWire {
 
     ghost attempts = { λ w. None };
 
-    /// Also fails if the peer has no IPv4 address.
+    /// Also fails if the peer has no IPv4 address, or if the socket took fewer bytes.
     fn send(&mut self, to: Peer, bytes: &[u8]) -> Sent {
-        let Some(target) = address_of(to) else {
+        let Some((target, whole)) = outgoing(to, bytes) else {
             return self.fail();
         };
-        match self.shared.socket.send_to(bytes, target) {
-            Ok(_) => {
+        match self.shared.socket.send_to(whole, target) {
+            Ok(taken) => {
+                if !is_whole(taken, bytes) {
+                    return self.fail();
+                }
                 self.shared.count_sent();
                 Sent::Taken
             }

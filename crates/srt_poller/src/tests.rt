@@ -23,7 +23,7 @@ use crate::tests::datagrams::{
     standby_answer, stray_shutdown,
 };
 use crate::{
-    BindFault, ClockScript, Ends, MioSource, MioWire, Polled, Pumping, Read, Report,
+    BindFault, ClockScript, Ends, MioSource, MioWire, Polled, PollerTask, Pumping, Read, Report,
     ScriptDatagram, Sent, Signals, Source, SourceScript, SourceStep, Wire, WireScript, pump,
     pump_under,
 };
@@ -32,7 +32,7 @@ use srt_cookie::Secret;
 use srt_lobby::Names;
 use srt_mailbox::{RouteCell, Serve, Served, Ungated, open_route};
 use srt_samples::{Block, Sample, first_difference};
-use srt_seq::{Access, Entry, Mode, Peer, Rules, Schedule, Turned};
+use srt_types::{Access, Entry, Mode, Peer, Rules, Schedule, Turned};
 use std::alloc::Global;
 use std::net::{Ipv4Addr, Net, SocketAddr, SocketAddrV4};
 use std::process::Abort;
@@ -188,18 +188,16 @@ fn pumped_under<S: Source, W: Wire, G: Signals>(
     let alloc = rt.alloc();
     let entries = [entry(alloc, &ROUTES[0])?, entry(alloc, &ROUTES[1])?];
     let mut names = named(alloc, &entries, schedules[0])?;
-    Ok(pump_under(
+    let secret = Secret::new(SECRET);
+    let task = PollerTask {
         rt,
         alloc,
-        &Secret::new(SECRET),
-        &mut names,
-        &schedules,
-        source,
-        wire,
-        ends,
+        secret: &secret,
+        schedules: &schedules,
         rounds,
         signals,
-    ))
+    };
+    Ok(pump_under(&task, &mut names, ends, source, wire))
 }
 
 /// The report of this many rounds in which the source does these steps.

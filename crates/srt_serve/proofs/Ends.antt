@@ -1,7 +1,7 @@
 -- What is known of the clocks, and of the rounds that were made, at the end of a run.
 use Rattle.std.proofs.Common.{◌≡◌, ◌⊎◌, ◌≤◌, ℕ, Bool, Option, List, ◌++◌, refl, sym, ap, subst, ◌∙◌, true, false, inl, inr}
-use Rattle.srt_seq.specs.declared.shared.Schedule.{Schedule}
-use Rattle.srt_seq.specs.Terms.{Terms}
+use Rattle.srt_types.specs.declared.shared.Schedule.{Schedule}
+use Rattle.srt_types.specs.Terms.{Terms}
 use Rattle.srt_mailbox.specs.declared.accounts.Account.{Account}
 use Rattle.srt_mailbox.specs.Cells.{CellIdentity}
 use Rattle.srt_mailbox.specs.Ends.{Producer}
@@ -33,25 +33,22 @@ same_test false true there back = back refl
 same_test false false there back = refl
 
 -- what is known of the rounds that were made
-pub rounds_for : {closes : Type 0} (class : Sorting) (schedules : List Schedule) (rounds made : ℕ) (reported reported' : RouteReports) (before : Before)
-    (after : After)
-    → Polled closes class schedules rounds made reported reported' before after → (made ≤ rounds) × ((made ≡ rounds) ⊎ closes)
+pub rounds_for : (watched closes stops : Type 0) (class : Sorting) (schedules : List Schedule) (rounds made : ℕ) (reported reported' : RouteReports)
+    (before : Before) (after : After)
+    → Polled watched closes stops class schedules rounds made reported reported' before after → (made ≤ rounds) × ((made ≡ rounds) ⊎ stops)
 unfolding Polled
-rounds_for class schedules rounds made reported reported' before after polled = (polled.1, polled.2)
-
-never : {A : Type 0} → false ≡ true → A
-never h = absurd (let bad : false ≡ true = h in cc)
+rounds_for watched closes stops class schedules rounds made reported reported' before after polled = (polled.1, polled.2)
 
 -- nobody watched: all rounds were made, and none closed all
 pub all_made : (class : Sorting) (schedules : List Schedule) (entries : List Terms) (rounds made : ℕ) (old new : Recorded) (report : Report)
     (accounts : List Account)
     →
-    (made ≤ rounds) × ((made ≡ rounds) ⊎ (false ≡ true)) → RanUnder (false ≡ true) class schedules entries made old new report accounts
+    (made ≤ rounds) × ((made ≡ rounds) ⊎ ⊥) → RanUnder ⊥ class schedules entries made old new report accounts
     → Ran class schedules entries rounds old new report accounts
 all_made class schedules entries rounds made old new report accounts whole ran =
     let same : made ≡ rounds = elim whole.1 [
       | inl all ↦ all
-      | inr bad ↦ never bad
+      | inr bad ↦ absurd bad
     ] in
     subst (λ (n : ℕ). Ran class schedules entries n old new report accounts) same (
       ran.0,
@@ -59,6 +56,6 @@ all_made class schedules entries rounds made old new report accounts whole ran =
       ran.2,
       elim ran.3 [
         | inl none ↦ none
-        | inr bad ↦ never bad
+        | inr bad ↦ absurd bad
       ],
     )

@@ -1,5 +1,6 @@
 -- Routes come one after another.
 use Rattle.std.proofs.Common.{◌≡◌, inl, inr, ℕ, ◌<◌, List, [], ◌∷◌, ◌++◌, length, get_or, sym, subst, ◌∙◌, arith}
+use Rattle.std.specs.Prelude.{Option, Some, None, IfSome, IfNone}
 use Rattle.std.proofs.Math.Seq.{get_or-append_seam}
 use Rattle.std.proofs.lemmas.Bool.{cases_lt}
 use Rattle.std.proofs.lemmas.List.{get_or_append_left, length-append}
@@ -26,3 +27,12 @@ indexed_grow routes routes' n grew index h = subst AreIndexed (sym grew) (λ r m
       let here : get_or (routes ++ n ∷ []) r m ≡ n = rw (← last) (get_or-append_seam routes n [] m) in
       rw here (index ∙ last)
 ])
+
+-- perhaps one route more
+pub next_indexed : {E : Type 0} (Q : E → Type 0) (N : Type 0) (found : Option E) (routes routes' : List CellIdentity)
+    → ((e : E) → Q e → (n : CellIdentity) × (routes' ≡ routes ++ n ∷ []) × (n.index ≡ length routes)) → (N → routes' ≡ routes)
+    → IfSome found Q → IfNone found N → AreIndexed routes → AreIndexed routes'
+next_indexed Q N (Some e) routes routes' more same some none indexed =
+    let one = more e some in
+    indexed_grow routes routes' one.0 one.1 one.2 indexed
+next_indexed Q N None routes routes' more same some none indexed = subst AreIndexed (sym (same none)) indexed

@@ -1,11 +1,11 @@
 -- Routes added after the poller's last round: it did what it does if they had been there, hidden, from the beginning on.
-use Rattle.std.proofs.Common.{◌≡◌, ◌⊎◌, inl, inr, sym, ap, subst, ◌∙◌, ℕ, ◌+◌, ◌*◌, ◌^◌, ◌<◌, ◌≤◌, false}
+use Rattle.std.proofs.Common.{◌≡◌, ◌⊎◌, inl, inr, sym, ap, subst, ◌∙◌, ℕ, ◌+◌, ◌*◌, ◌^◌, ◌≤◌, false}
 use Rattle.std.proofs.Common.{List, [], ◌∷◌, ◌++◌, length, map, append-nil, arith}
 use Rattle.std.proofs.Math.Nat.{mul-le-mul_left}
 use Rattle.std.proofs.lemmas.List.{map-append, length-append, length-map}
 use Rattle.std.proofs.lemmas.List.Sums.{sum_by-cons}
 use Rattle.srt_cookie.specs.declared.secret.Secret.{Secret}
-use Rattle.srt_seq.specs.declared.shared.Schedule.{Schedule}
+use Rattle.srt_types.specs.declared.shared.Schedule.{Schedule}
 use Rattle.srt_lobby.specs.Names.{RouteName}
 use Rattle.srt_lobby.specs.Changing.{AreHidden}
 use Rattle.srt_poller.specs.declared.ends.Ends.{Ends}
@@ -18,13 +18,15 @@ use Rattle.srt_poller.specs.Openings.{NewRoute, reported_route, names_in, ends_i
 use Rattle.srt_poller.specs.Plans.{never, texts_of, ArePlans, waiting}
 use Rattle.srt_poller.specs.Pollers.{sorting}
 use Rattle.srt_poller.specs.Pumped.{Before, After, PumpedUnder, after}
-use Rattle.srt_poller.proofs.Beforehand.{earlier_rounds_are_same, lobby_ignores_later}
+use Rattle.srt_poller.specs.Starts.{RoundStart, starts_in}
+use Rattle.srt_poller.proofs.Starting.{starts_more, grow_none}
+use Rattle.srt_poller.proofs.Beforehand.{earlier_rounds_are_same, earlier_starts_are_same, lobby_ignores_later}
 use Rattle.srt_poller.proofs.Additions.{hidden_more, nothing_more}
 use Rattle.srt_poller.proofs.Extending.{are_later_more}
 use Rattle.srt_poller.proofs.Joined.{joined_none}
 use Rattle.srt_poller.proofs.Remaking.{all_names, all_ends, reports_twice}
-use Rattle.srt_poller.proofs.Replanning.{agree_append, wait_later, plans_with}
-use Rattle.srt_serve.specs.inside.Polled.{Polled}
+use Rattle.srt_poller.proofs.Replanning.{agree_append, wait_later, plans_as, plans_late}
+use Rattle.srt_serve.specs.inside.Polled.{Polled, PolledLate, PumpedLate}
 
 -- the number of the round is that of the waits
 round_more : (round : ℕ) (event : Event) → round_by round event ≡ round + waits_by event
@@ -66,6 +68,12 @@ with_late more a = after (a.names ++ names_in more) a.source a.wire (a.ends ++ e
 le_then : {a b c : ℕ} → a ≤ b → b ≤ c → a ≤ c
 le_then first second = omega (arith, first, second)
 
+-- what a poller did, and what became of the routes' schedules
+abbrev Planned : (closes : Type 0) (secret : Secret) (made : ℕ) (schedules later : List Schedule) (requested : List ℕ) → Before → After → Type 0
+Planned closes secret made schedules later requested old new =
+    (pumped : PumpedUnder (Unit {0}) closes (sorting secret) later made old new)
+    × ArePlans made (λ r. Unit {0}) (starts_in later (at_first old.names) pumped.0) schedules (texts_of old.names) requested later
+
 module _ {closes : Type 0} (secret : Secret) (made : ℕ) (more : List NewRoute) (hidden : AreHidden (names_in more)) where
   -- what a poller did, had these routes been there
   pumped_with : (b : Before) (a : After) (plans : List Schedule) → made ≤ never → length plans ≡ length b.names
@@ -106,10 +114,27 @@ module _ {closes : Type 0} (secret : Secret) (made : ℕ) (more : List NewRoute)
         },
       )
 
-  changed_with : (schedules : List Schedule) (b : Before) (a : After) (reported reported' : RouteReports) → closes → made ≤ never
+  -- its rounds started so
+  starts_with : (b : Before) (a : After) (plans : List Schedule) → made ≤ never → length plans ≡ length b.names
+      → (pumped : PumpedUnder (Unit {0}) closes (sorting secret) plans made b a)
+      → starts_in (plans ++ map (λ n. waiting) more) (at_first (b.names ++ names_in more)) pumped.0
+      ≡ starts_more (names_in more) (starts_in plans (at_first b.names) pumped.0)
+  starts_with b a plans small many pumped =
+      let events = pumped.0 in
+      let p = pumped.1 in
+      let later = plans ++ map (λ n. waiting) more in
+      let agree : AgreeBefore made plans later (names_in more) =
+      agree_append made plans (map (λ n. waiting) more) (names_in more) (wait_later made small more hidden) in
+      let rounds = round_after plans (at_first b.names) events in
+      let ignores = lobby_ignores_later secret made plans later (names_in more) agree in
+      earlier_starts_are_same (sorting secret) made plans later (names_in more) agree ignores events (at_first b.names) many p.follow p.over
+      (omega (arith, rounds, p.waits))
+
+  changed_with : (schedules : List Schedule) (b : Before) (a : After) (reported reported' : RouteReports) → made ≤ never
       → PumpedChanging (Unit {0}) closes (sorting secret) schedules made reported reported' b a
-      → PumpedChanging (Unit {0}) closes (sorting secret) schedules made reported (route_reports_more reported' more []) b (with_late more a)
-  changed_with schedules b a reported reported' known small changed =
+      → PumpedLate closes (sorting secret) schedules made reported (route_reports_more reported' more []) b (with_late more a)
+  unfolding pumped_with
+  changed_with schedules b a reported reported' small changed =
       let added = changed.0 in
       let requested = changed.1 in
       let plans = changed.2 in
@@ -118,27 +143,40 @@ module _ {closes : Type 0} (secret : Secret) (made : ℕ) (more : List NewRoute)
       let later = plans ++ map (λ n. waiting) more in
       let many : length plans ≡ length first = by.planned.as_many ∙ length-map first (λ name. name.text) in
       let others : length (texts_of (names_in more)) ≡ length more = length-map (names_in more) (λ name. name.text) ∙ length-map more (λ n. n.name) in
-      let planned : ArePlans made (λ r. closes) schedules (texts_of first ++ texts_of (names_in more)) requested later =
-      plans_with made closes schedules (texts_of first) (texts_of (names_in more)) requested plans more known others by.planned in
-      let texts : texts_of first ++ texts_of (names_in more) ≡ texts_of (b.names ++ names_in (added ++ more)) =
-      sym (map-append (λ name. name.text) first (names_in more)) ∙ ap texts_of (all_names b.names added more) in (
+      let starts = starts_in plans (at_first first) by.pumped.0 in
+      let longer = starts_more (names_in more) starts in
+      let late : ArePlans made (λ r. length plans ≤ r) longer schedules (texts_of first ++ texts_of (names_in more)) requested later =
+      plans_late made starts schedules (texts_of first) (texts_of (names_in more)) requested plans more small others by.planned in
+      let may_wait : ArePlans made (λ r. Unit {0}) longer schedules (texts_of first ++ texts_of (names_in more)) requested later =
+      plans_as made (λ r. length plans ≤ r) (λ r. Unit {0}) longer longer schedules (texts_of first ++ texts_of (names_in more)) requested later
+      (λ r below some. tt) (grow_none longer) late in
+      let named : ArePlans made (λ r. Unit {0}) longer schedules (texts_of (first ++ names_in more)) requested later =
+      subst (λ (ts : List (List ℕ)). ArePlans made (λ r. Unit {0}) longer schedules ts requested later)
+      (sym (map-append (λ name. name.text) first (names_in more))) may_wait in
+      let planned : ArePlans made (λ r. Unit {0}) (starts_in later (at_first (first ++ names_in more)) by.pumped.0) schedules
+      (texts_of (first ++ names_in more)) requested later =
+      subst (λ (l : List RoundStart). ArePlans made (λ r. Unit {0}) l schedules (texts_of (first ++ names_in more)) requested later)
+      (sym (starts_with (with_routes added b) a plans small many by.pumped)) named in
+      let both : Planned closes secret made schedules later requested (with_routes (added ++ more) b) (with_late more a) =
+      subst (λ (old : Before). Planned closes secret made schedules later requested old (with_late more a)) (routes_with b added more)
+      (pumped_with (with_routes added b) a plans small many by.pumped, planned) in (
         added ++ more,
         requested,
         later,
         record {
           reports = ap (λ (n : RouteReports). route_reports_more n more []) by.reports ∙ reported_with reported added more requested;
-          planned = subst (λ (ts : List (List ℕ)). ArePlans made (λ r. closes) schedules ts requested later) texts planned;
-          pumped =
-              subst (λ (old : Before). PumpedUnder (Unit {0}) closes (sorting secret) later made old (with_late more a)) (routes_with b added more)
-              (pumped_with (with_routes added b) a plans small many by.pumped);
+          pumped = both.0;
+          planned = both.1;
         },
       )
 
-  -- the same of a poller to which no routes may have been reported
-  polled_with : (schedules : List Schedule) (rounds : ℕ) (b : Before) (a : After) (reported reported' : RouteReports) → rounds ≤ 2 ^ 48 → (more ≡ []) ⊎ closes
-      → Polled closes (sorting secret) schedules rounds made reported reported' b a
-      → Polled closes (sorting secret) schedules rounds made reported (route_reports_more reported' more []) b (with_late more a)
-  unfolding Polled
+-- What a poller did, after these routes were taken. They were added only if `watched` is known
+module _ (watched closes stops : Type 0) (secret : Secret) (made : ℕ) (more : List NewRoute) (hidden : AreHidden (names_in more)) where
+  polled_with : (schedules : List Schedule) (rounds : ℕ) (b : Before) (a : After) (reported reported' : RouteReports) → rounds ≤ 2 ^ 48
+      → (more ≡ []) ⊎ watched
+      → Polled watched closes stops (sorting secret) schedules rounds made reported reported' b a
+      → PolledLate watched closes stops (sorting secret) schedules rounds made reported (route_reports_more reported' more []) b (with_late more a)
+  unfolding Polled PolledLate
   polled_with schedules rounds b a reported reported' small may polled =
       let within = polled.1 in
       let early : made ≤ never = omega (arith, small, within) in (
@@ -159,32 +197,30 @@ module _ {closes : Type 0} (secret : Secret) (made : ℕ) (more : List NewRoute)
                 )
             | inr known ↦ absurd (none.0 known)
           ]
-          | inr some ↦ inr (some.0, changed_with schedules b a reported reported' some.0 early some.1)
+          | inr some ↦ inr (some.0, changed_with secret made more hidden schedules b a reported reported' early some.1)
         ],
         polled.1,
         polled.2,
       )
 
--- What a poller did, after these routes were taken. They were added only if `watched` is known
-pub polled_late : {closes watched : Type 0} (secret : Secret) (schedules : List Schedule) (rounds made : ℕ) (b : Before) (a : After) (ends : List Ends)
+pub polled_late : (watched closes stops : Type 0) (secret : Secret) (schedules : List Schedule) (rounds made : ℕ) (b : Before) (a : After) (ends : List Ends)
     (reported reported' reported'' : RouteReports)
     →
-    rounds ≤ 2 ^ 48 → (watched → closes)
+    rounds ≤ 2 ^ 48
     → (late : (more : List NewRoute) × ((more ≡ []) ⊎ watched) × AreHidden (names_in more) × (reported'' ≡ route_reports_more reported' more [])
     × (ends ≡ a.ends ++ ends_in more))
-    → Polled closes (sorting secret) schedules rounds made reported reported' b a
-    → Polled closes (sorting secret) schedules rounds made reported reported'' b (after (a.names ++ names_in late.0) a.source a.wire ends a.report)
-polled_late {closes} secret schedules rounds made b a ends reported reported' reported'' small known late polled =
-    let may : (late.0 ≡ []) ⊎ closes = elim late.1 [
-      | inl nothing ↦ inl nothing
-      | inr some ↦ inr (known some)
-    ] in
+    → Polled watched closes stops (sorting secret) schedules rounds made reported reported' b a
+    → PolledLate watched closes stops (sorting secret) schedules rounds made reported reported'' b
+    (after (a.names ++ names_in late.0) a.source a.wire ends a.report)
+polled_late watched closes stops secret schedules rounds made b a ends reported reported' reported'' small late polled =
     subst
     (λ (es : List Ends).
-    Polled closes (sorting secret) schedules rounds made reported reported'' b (after (a.names ++ names_in late.0) a.source a.wire es a.report))
+    PolledLate watched closes stops (sorting secret) schedules rounds made reported reported'' b
+    (after (a.names ++ names_in late.0) a.source a.wire es a.report))
     (sym late.4)
-    (subst (λ (reports : RouteReports). Polled closes (sorting secret) schedules rounds made reported reports b (with_late late.0 a)) (sym late.3)
-    (polled_with secret made late.0 late.2 schedules rounds b a reported reported' small may polled))
+    (subst
+    (λ (reports : RouteReports). PolledLate watched closes stops (sorting secret) schedules rounds made reported reports b (with_late late.0 a)) (sym late.3)
+    (polled_with watched closes stops secret made late.0 late.2 schedules rounds b a reported reported' small late.1 polled))
 
 -- these routes were taken so far
 abbrev pub TakenLate : (reported reported' : RouteReports) → (ends ends' : List Ends) → Type 0

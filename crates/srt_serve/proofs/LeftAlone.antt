@@ -9,10 +9,13 @@ use Rattle.std.specs.Option.{option_map}
 use Rattle.std.proofs.lemmas.List.Elements.{filter-append}
 use Rattle.std.proofs.lemmas.List.{map-append, length-map}
 use Rattle.std.proofs.lemmas.Slice.Eq.{bytes_eq-Decides}
+use Rattle.std.proofs.lemmas.Bool.{eqb-true}
+use Rattle.std.proofs.Math.Logic.{∥∥₁_elim}
+use mathlib.Core.Bool.{Bool-set}
 use Rattle.std.proofs.lemmas.Option.{slice_get-map, slice_get_within, slice_get-get_or}
-use Rattle.srt_seq.specs.declared.shared.Schedule.{Schedule}
-use Rattle.srt_seq.specs.Items.{Item, Close}
-use Rattle.srt_seq.specs.Terms.{Terms}
+use Rattle.srt_types.specs.declared.shared.Schedule.{Schedule}
+use Rattle.srt_types.specs.Items.{Item, Close}
+use Rattle.srt_types.specs.Terms.{Terms}
 use Rattle.srt_lobby.specs.Names.{RouteName, name_of, as_hidden, has_name_at}
 use Rattle.srt_lobby.proofs.Distinct.{names_are_distinct}
 use Rattle.srt_poller.proofs.ShownInRound.{shown_again}
@@ -21,11 +24,16 @@ use Rattle.srt_poller.specs.Schedules.{CloseOffer}
 use Rattle.srt_poller.specs.History.{Event, Begins, Waits, WaitFails, ReadsNothing, ReadFails, Answers, Accepts, Overflows, Refuses, Drops, Sends, Resends}
 use Rattle.srt_poller.specs.History.{at_route, closing_by, closings, accepted_by, accepted}
 use Rattle.srt_poller.specs.Plans.{texts_of, IsAlone, is_requested, Became, IsPlanOf, ArePlans, never}
+use Rattle.srt_poller.specs.Starts.{RoundStart, IsUsedIn}
+use Rattle.srt_poller.specs.History.{at_first}
+use Rattle.srt_poller.proofs.Starting.{starts_alone}
 use Rattle.srt_serve.specs.NamesAtStart.{until, later_hidden, first_names}
 use Rattle.srt_serve.specs.Unchanged.{sorted_by, sorted_to, missed_by, missed, is_received, received, item_of, OwnScheduleDecides, AcceptedAreSorted}
 use Rattle.srt_serve.specs.Unchanged.{closes_route, beginning_by, beginnings, own_marks, LeftAsItWas, NothingChanged, ChangingRunsAreSo, UnchangingRunsAreSo}
-use Rattle.srt_serve.specs.Unchanged.{is_closed_in, HeardAlike, SortsByOwnName}
+use Rattle.srt_serve.specs.Unchanged.{UnansweredStaysOpen}
+use Rattle.srt_serve.specs.Unchanged.{is_closed_in, HeardAlike, SortsByOwnName, starts_of}
 use Rattle.srt_serve.specs.Unchanged.{NamesAreAlone, RefusedChangesNothing, AsIfNothingHappened, SentAsIfNothingHappened}
+use Rattle.srt_supervision.specs.Answers.{Answer, Closes}
 use Rattle.srt_serve.proofs.NamesAtStart.{as_many_later, texts_at_start}
 use Rattle.srt_serve.proofs.Isolation.{routes_are_isolated, same_items_are_taken}
 use Rattle.srt_serve.proofs.OwnNames.{lobby_sorts_by_own_name}
@@ -167,50 +175,69 @@ same_opening : (requested : Bool) (s t : Schedule) → requested ≡ false → (
 same_opening requested s t unrequested (inl same) = same
 same_opening requested s t unrequested (inr bad) = let both : false ≡ true = sym unrequested ∙ bad.0 in cc
 
-kept_as : (rounds : ℕ) (alone : Type 0) (requested : Bool) (s t : Schedule) → alone → requested ≡ false → Became rounds alone requested s t → t ≡ s
-kept_as rounds alone requested s t is unrequested became =
-    same_schedule s t (same_opening requested s t unrequested (became.same is)) (became.kept unrequested)
+kept_as : (rounds : ℕ) (waits : Type 0) (starts : List RoundStart) (r : ℕ) (requested : Bool) (s t : Schedule) → (IsUsedIn starts r s.open_round → ⊥)
+    → requested ≡ false → Became rounds waits starts r requested s t → t ≡ s
+kept_as rounds waits starts r requested s t free unrequested became =
+    same_schedule s t (same_opening requested s t unrequested (became.same free)) (became.kept unrequested)
 
-schedule_kept : (rounds : ℕ) (schedules : List Schedule) (texts : List (List ℕ)) (requested : List ℕ) (later : List Schedule) (r : ℕ) (s : Schedule)
-    → ArePlans rounds (λ k. Unit {0}) schedules texts requested later → slice_get schedules r ≡ Some s → is_requested requested r ≡ false → IsAlone texts r
-    → slice_get later r ≡ Some s
-schedule_kept rounds schedules texts requested later r s plans at unrequested alone = by (slice_get later r) refl
+schedule_kept : (rounds : ℕ) (starts : List RoundStart) (schedules : List Schedule) (texts : List (List ℕ)) (requested : List ℕ) (later : List Schedule)
+    (r : ℕ) (s : Schedule) → ArePlans rounds (λ k. Unit {0}) starts schedules texts requested later → slice_get schedules r ≡ Some s
+    → is_requested requested r ≡ false → (IsUsedIn starts r s.open_round → ⊥) → slice_get later r ≡ Some s
+schedule_kept rounds starts schedules texts requested later r s plans at unrequested free = by (slice_get later r) refl
   where
     by : (o : Option Schedule) → slice_get later r ≡ o → slice_get later r ≡ Some s
     by (Some t) h =
-        h ∙ ap Some (kept_as rounds (IsAlone texts r) (is_requested requested r) s t alone unrequested
-        (subst (λ (o : Option Schedule). IsPlanOf rounds (Unit {0}) (IsAlone texts r) (is_requested requested r) o t) at (plans.each r t h)))
+        h ∙ ap Some (kept_as rounds (Unit {0}) starts r (is_requested requested r) s t free unrequested
+        (subst (λ (o : Option Schedule). IsPlanOf rounds (Unit {0}) starts r (is_requested requested r) o t) at (plans.each r t h)))
     by None h =
         let within : r < length schedules = slice_get_within schedules r s at in
         let bad : Some (get_or later r s) ≡ None = sym (slice_get-get_or later r s (omega (arith, within, plans.fewer))) ∙ h in
         cc
 
 pub left_as_it_was : LeftAsItWas
-left_as_it_was schedules entries added requested t is r terms s there at unrequested alone = (
+left_as_it_was schedules entries added requested t is r terms s there at unrequested free = (
   record {
     named =
         ap (λ (ns : List RouteName). slice_get ns r) is.names_are
         ∙ get_left (first_names schedules entries) (map (λ e. as_hidden (name_of e)) added) r (until s.open_round (name_of terms))
         (name_at_first schedules entries r s terms at there);
-    alone = alone;
-    scheduled = schedule_kept t.rounds schedules (texts_of t.names) requested t.schedules r s is.planned at unrequested alone;
+    scheduled = schedule_kept t.rounds (starts_of t) schedules (texts_of t.names) requested t.schedules r s is.planned at unrequested free;
   },
   ap (λ (es : List Terms). slice_get es r) is.entries_are ∙ get_left entries added r terms there,
 )
 
 pub nothing_changed : NothingChanged
-nothing_changed schedules entries t is r terms s there at alone = (
+nothing_changed schedules entries t is r terms s there at = (
   record {
     named = ap (λ (ns : List RouteName). slice_get ns r) is.names_are ∙ name_at_first schedules entries r s terms at there;
-    alone = alone;
     scheduled = ap (λ (ss : List Schedule). slice_get ss r) is.schedules_are ∙ at;
   },
   ap (λ (es : List Terms). slice_get es r) is.entries_are ∙ there,
 )
 
-pub changing_runs_are_so : ChangingRunsAreSo
-changing_runs_are_so class schedules entries rounds old new report accounts ran =
-    (ran.0, ran.1, ran.2, ran.3, ran.4, record { names_are = refl; entries_are = refl; planned = ran.5; ran = ran.6 })
+pub changing_runs_are_so : (answered : Answer → Type 0) → ChangingRunsAreSo answered
+changing_runs_are_so answered class schedules entries rounds old new report accounts ran = (
+  ran.0,
+  ran.1,
+  ran.2,
+  ran.3,
+  ran.4,
+  record { names_are = refl; entries_are = refl; planned = ran.5; ran = ran.6 },
+  ran.7,
+  ran.8,
+)
+
+unasked_by : (answered : Answer → Type 0) (q r : ℕ) (b rest : Bool) → (q == r) ≡ b → ∥ answered (Closes q) ∥₁ → (answered (Closes r) → ⊥) → rest ≡ false
+    → (b || rest) ≡ false
+unasked_by answered q r true rest same known none h =
+    let one : q ≡ r = eqb-true q r same in
+    ∥∥₁_elim known (Bool-set _ _) (λ answer. absurd (none (subst (λ (n : ℕ). answered (Closes n)) one answer)))
+unasked_by answered q r false rest same known none h = h
+
+pub unanswered_stays_open : (answered : Answer → Type 0) → UnansweredStaysOpen answered
+unanswered_stays_open answered [] r known none = refl
+unanswered_stays_open answered (q ∷ requested) r known none =
+    unasked_by answered q r (q == r) (is_requested requested r) refl known.0 none (unanswered_stays_open answered requested r known.1 none)
 
 pub unchanging_runs_are_so : UnchangingRunsAreSo
 unchanging_runs_are_so class schedules entries rounds old new report accounts ran =
@@ -258,16 +285,15 @@ refused_changes_nothing schedules entries t sound many is =
       entries_are = is.entries_are ∙ append-nil entries;
       schedules_are =
           same_places schedules t.schedules as_many
-          (λ r s at. schedule_kept t.rounds schedules (texts_of t.names) [] t.schedules r s is.planned at refl (alone r));
+          (λ r s at. schedule_kept t.rounds (starts_of t) schedules (texts_of t.names) [] t.schedules r s is.planned at refl
+          (starts_alone t.schedules (at_first t.names) t.events r s.open_round (alone r)));
       ran = is.ran;
     }
 
 pub as_if_nothing_happened : AsIfNothingHappened
 as_if_nothing_happened secret schedules entries added requested t u r terms s h =
-    let is = (left_as_it_was schedules entries added requested t h.changing r terms s h.there h.scheduled h.unrequested h.alone).0 in
-    let alone_there : IsAlone (texts_of u.names) r =
-    subst (λ (ns : List RouteName). IsAlone (texts_of ns) r) (sym h.unchanging.names_are) (names_are_alone schedules entries h.sound r) in
-    let is' = (nothing_changed schedules entries u h.unchanging r terms s h.there h.scheduled alone_there).0 in
+    let is = (left_as_it_was schedules entries added requested t h.changing r terms s h.there h.scheduled h.unrequested h.free).0 in
+    let is' = (nothing_changed schedules entries u h.unchanging r terms s h.there h.scheduled).0 in
     let heard : HeardAlike t u =
     record {
       sorts = subst SortsByOwnName (sym h.sorts) (lobby_sorts_by_own_name secret);

@@ -6,7 +6,7 @@ pub mod NamesAtStart
 pub mod Settlings
 pub mod Callers
 pub mod Routes
-pub mod Newcomers
+pub mod AddedRoutes
 pub mod Latecomers
 pub mod Ends
 pub mod Sends

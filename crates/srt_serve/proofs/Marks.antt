@@ -4,7 +4,7 @@ use Rattle.std.proofs.Common.{◌≢◌, ◌⊎◌, inl, inr}
 use Rattle.std.specs.Prelude.{if◌then◌else◌}
 use Rattle.std.specs.List.{list_any}
 use Rattle.std.proofs.lemmas.Bool.{cases_eq, eq-eqb, ne_eqb}
-use Rattle.srt_seq.specs.declared.shared.Schedule.{Schedule}
+use Rattle.srt_types.specs.declared.shared.Schedule.{Schedule}
 use Rattle.srt_lobby.specs.Names.{RouteName, as_shown, shows, is_shown_at}
 use Rattle.srt_lobby.specs.Changing.{hidden_at}
 use Rattle.srt_lobby.proofs.Changing.{is_hidden, stays}

@@ -3,8 +3,8 @@ use Rattle.std.proofs.Common.{◌≡◌, ℕ, zero, suc, ◌+◌, ◌<◌, ◌==
 use Rattle.std.proofs.Common.{if◌then◌else◌, refl, sym, ap, subst, ◌∙◌, arith}
 use Rattle.std.proofs.lemmas.Bool.{cond-true, cond-false, eq-eqb, ne_eqb}
 use Rattle.std.proofs.lemmas.List.{length-map}
-use Rattle.srt_seq.specs.declared.shared.Schedule.{Schedule}
-use Rattle.srt_seq.specs.Terms.{Terms}
+use Rattle.srt_types.specs.declared.shared.Schedule.{Schedule}
+use Rattle.srt_types.specs.Terms.{Terms}
 use Rattle.srt_lobby.specs.Changing.{hidden_at}
 use Rattle.srt_lobby.specs.Names.{RouteName, AreDistinct, name_of, as_shown}
 use Rattle.srt_lobby.specs.Opening.{fault_of}

@@ -5,7 +5,7 @@ use Rattle.std.specs.Prelude.{if◌then◌else◌}
 use Rattle.std.specs.List.{list_any}
 use Rattle.std.proofs.lemmas.Bool.Decides.{nat_tests}
 use Rattle.std.proofs.lemmas.List.Sums.{sum_by-cons}
-use Rattle.srt_seq.specs.declared.shared.Schedule.{Schedule}
+use Rattle.srt_types.specs.declared.shared.Schedule.{Schedule}
 use Rattle.srt_lobby.specs.Names.{RouteName}
 use Rattle.srt_poller.specs.Devices.{Call, WaitEnded, WaitFailed, ReadGave, ReadEmpty, ReadFailed}
 use Rattle.srt_poller.specs.Schedules.{CloseOffer, offered_routes, opened_if, has_come, due_from}

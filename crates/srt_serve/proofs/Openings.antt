@@ -5,8 +5,8 @@ use Rattle.std.proofs.Math.Seq.{get_or-append_seam}
 use Rattle.std.proofs.lemmas.Bool.{cases_lt}
 use Rattle.std.proofs.lemmas.List.{take_more, map-append, get_or_append_left, length-append, length-map}
 use Rattle.srt_mailbox.proofs.Tokens.{one_shown, shown_at}
-use Rattle.srt_seq.specs.declared.shared.Entry.{Entry}
-use Rattle.srt_seq.specs.Terms.{Terms, terms_of}
+use Rattle.srt_types.specs.declared.shared.Entry.{Entry}
+use Rattle.srt_types.specs.Terms.{Terms, terms_of}
 use Rattle.srt_mailbox.specs.Cells.{CellIdentity}
 use Rattle.srt_mailbox.specs.Ends.{Producer, producer, drained}
 use Rattle.srt_poller.specs.declared.ends.Ends.{Ends}

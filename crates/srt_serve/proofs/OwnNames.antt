@@ -6,34 +6,36 @@ use Rattle.std.proofs.lemmas.Bool.Decides.{nat_tests}
 use Rattle.std.proofs.lemmas.List.Sums.{position_or_len_is}
 use Rattle.std.proofs.lemmas.Option.{get_or_from_slice_get, slice_get-get_or, slice_get_within}
 use Rattle.srt_packet.specs.Reading.{packet_in}
-use Rattle.srt_lobby.specs.Names.{RouteName, is_asked, index_of, has_name}
+use Rattle.srt_lobby.specs.Names.{RouteName, is_requested, index_of, has_name}
 use Rattle.srt_lobby.specs.Lobby.{class_of}
 use Rattle.srt_lobby.proofs.Finds.{no_name, found_name}
 use Rattle.srt_lobby.proofs.Kept.{IsFoundAgain, packet_follows}
 use Rattle.srt_serve.specs.Unchanged.{HasOwnName, LobbySortsByOwnName}
 
 -- a name that no other visible route has is found
-other_before : (names : List RouteName) (r : ℕ) (name : RouteName) (asked : List ℕ)
-    → HasOwnName names r name → is_asked asked name ≡ true → r < length names → (k : ℕ) → k < r → is_asked asked (get_or names k no_name) ≡ false
-other_before names r name asked has is inside k below =
+other_before : (names : List RouteName) (r : ℕ) (name : RouteName) (requested : List ℕ)
+    → HasOwnName names r name → is_requested requested name ≡ true → r < length names → (k : ℕ) → k < r
+    → is_requested requested (get_or names k no_name) ≡ false
+other_before names r name requested has is inside k below =
     false_from_ne_true _ (λ same.
-    let e : k ≡ r = has.only k asked (ap (has_name asked) has.named ∙ is)
-    (ap (has_name asked) (slice_get-get_or names k no_name (omega (arith, below, inside))) ∙ same) in
+    let e : k ≡ r = has.only k requested (ap (has_name requested) has.named ∙ is)
+    (ap (has_name requested) (slice_get-get_or names k no_name (omega (arith, below, inside))) ∙ same) in
     omega (arith, e, below))
 
-own_found : (names : List RouteName) (r : ℕ) (name : RouteName) (asked : List ℕ)
-    → HasOwnName names r name → is_asked asked name ≡ true → index_of names asked ≡ Some r
-own_found names r name asked has is =
+own_found : (names : List RouteName) (r : ℕ) (name : RouteName) (requested : List ℕ)
+    → HasOwnName names r name → is_requested requested name ≡ true → index_of names requested ≡ Some r
+own_found names r name requested has is =
     let inside : r < length names = slice_get_within names r name has.named in
-    let here : is_asked asked (get_or names r no_name) ≡ true = ap (is_asked asked) (get_or_from_slice_get names r name no_name has.named) ∙ is in
-    let at : position_or_len (is_asked asked) names ≡ r =
-    position_or_len_is (is_asked asked) names r no_name (omega (arith, inside)) (other_before names r name asked has is inside) (λ w. here) in
+    let here : is_requested requested (get_or names r no_name) ≡ true = ap (is_requested requested) (get_or_from_slice_get names r name no_name has.named)
+    ∙ is in
+    let at : position_or_len (is_requested requested) names ≡ r =
+    position_or_len_is (is_requested requested) names r no_name (omega (arith, inside)) (other_before names r name requested has is inside) (λ w. here) in
     rw at (grind (arith, nat_tests))
 
 own_found_again : (names others : List RouteName) (r : ℕ) (name : RouteName) → HasOwnName names r name → HasOwnName others r name
     → IsFoundAgain names others r
 own_found_again names others r name has have = record {
-  finds = λ asked h. own_found others r name asked have (found_name names r name asked has.named h);
+  finds = λ requested h. own_found others r name requested have (found_name names r name requested has.named h);
   same = have.named ∙ sym has.named;
 }
 

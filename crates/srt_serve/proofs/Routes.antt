@@ -4,12 +4,12 @@ use Rattle.std.proofs.Common.{length, map, slice_index_or, refl, sym, ap, subst,
 use Rattle.std.proofs.lemmas.List.{map-append, length-map, length-append}
 use Rattle.std.proofs.lemmas.Bool.{and_parts}
 use Rattle.std.specs.List.{list_all}
-use Rattle.srt_seq.specs.declared.shared.Schedule.{Schedule}
-use Rattle.srt_seq.specs.Entries.{is_between, in_limits}
-use Rattle.srt_seq.specs.Items.{told}
-use Rattle.srt_seq.specs.Terms.{Terms}
-use Rattle.srt_seq.proofs.Limited.{few_routes}
-use Rattle.srt_seq.specs.declared.shared.OpenFault.TheVariants.{Names, Limits}
+use Rattle.srt_types.specs.declared.shared.Schedule.{Schedule}
+use Rattle.srt_types.specs.Entries.{is_between, in_limits}
+use Rattle.srt_types.specs.Items.{input_of}
+use Rattle.srt_types.specs.Terms.{Terms}
+use Rattle.srt_types.proofs.Limited.{few_routes}
+use Rattle.srt_types.specs.declared.shared.OpenFault.TheVariants.{Names, Limits}
 use Rattle.srt_lobby.specs.Names.{RouteName, name_of}
 use Rattle.srt_lobby.specs.Opening.{fault_of, are_names, are_in_limits}
 use Rattle.srt_route.specs.Route.{solo}
@@ -56,7 +56,7 @@ route_ran r events moments a n e e' c opened later ticked origins s =
       ticks = ticked.0;
       queued = s.account.queued;
       waiting = s.route.waiting;
-      polled = ap (map told) (sym s.account.polled) ∙ later.offered ∙ ap (λ p. map told p.offered ++ accepted r events) opened.ingress;
+      polled = ap (map input_of) (sym s.account.polled) ∙ later.offered ∙ ap (λ p. map input_of p.offered ++ accepted r events) opened.ingress;
       ticked = sym s.account.ticked ∙ ap (λ p. p.offered) ticked.2;
       within = ticked.1;
       replied =
@@ -171,16 +171,16 @@ few_entries entries sound =
 
 -- What a run did, from what its poller and its clock did and from its accounts. `names` are those that it began with
 pub all_ran : (goes closes : Type 0) (class : Sorting) (schedules : List Schedule) (entries : List Terms) (rounds : ℕ)
-    (names names' : List RouteName) (gave gave' : Heard) (to to' : Carried) (told_before told_after : Option (List ℕ))
+    (names names' : List RouteName) (gave gave' : Heard) (to to' : Carried) (reported_before reported_after : Option (List ℕ))
     (routes more : List CellIdentity) (ends ends' : List Ends) (clocks : List Producer) (moments : List ℕ) (report : Report) (accounts : List Account)
     →
     all_shown names ≡ map name_of entries → terms_in routes ≡ entries → length entries ≤ 511 → AreOpened routes ends
     → PumpedUnder goes closes class schedules rounds (before names gave to ends) (after names' gave' to' ends' report)
-    → told_after ≡ joined told_before moments → HaveTicks moments (new_clocks (routes ++ more)) clocks → AreSettled accounts routes ends' clocks
+    → reported_after ≡ joined reported_before moments → HaveTicks moments (new_clocks (routes ++ more)) clocks → AreSettled accounts routes ends' clocks
     →
-    RanUnderFrom names closes class schedules entries rounds (recorded_by gave to told_before) (recorded_by gave' to' told_after) report accounts
-all_ran goes closes class schedules entries rounds names names' gave gave' to to' told_before told_after routes more ends ends' clocks moments
-    report accounts named whose small opened pumped told ticked settled =
+    RanUnderFrom names closes class schedules entries rounds (recorded_by gave to reported_before) (recorded_by gave' to' reported_after) report accounts
+all_ran goes closes class schedules entries rounds names names' gave gave' to to' reported_before reported_after routes more ends ends' clocks moments
+    report accounts named whose small opened pumped input_of ticked settled =
     let p = pumped.1 in
     let places : length routes ≡ length entries = sym (length-map routes (λ n. n.terms)) ∙ ap length whose in
     let many : length ends ≡ length entries = opened.as_many ∙ places in (
@@ -193,7 +193,7 @@ all_ran goes closes class schedules entries rounds names names' gave gave' to to
         called = p.called;
         handed_are = p.handed;
         attempted = p.attempted;
-        moments_are = told;
+        moments_are = input_of;
         lobby = p.origins.lobby;
         report_is = p.sums (omega (arith, small, many));
         tallies = p.tallies (omega (arith, small, many));
@@ -218,4 +218,24 @@ all_ran goes closes class schedules entries rounds names names' gave gave' to to
             (settled_at accounts routes ends' clocks settled r a n e c there));
       },
       p.some_close,
+    )
+
+-- the same, of the poller's events
+pub all_ran_so : (goes closes : Type 0) (class : Sorting) (schedules : List Schedule) (entries : List Terms) (rounds : ℕ)
+    (names names' : List RouteName) (gave gave' : Heard) (to to' : Carried) (reported_before reported_after : Option (List ℕ))
+    (routes more : List CellIdentity) (ends ends' : List Ends) (clocks : List Producer) (moments : List ℕ) (report : Report) (accounts : List Account)
+    →
+    all_shown names ≡ map name_of entries → terms_in routes ≡ entries → length entries ≤ 511 → AreOpened routes ends
+    → (pumped : PumpedUnder goes closes class schedules rounds (before names gave to ends) (after names' gave' to' ends' report))
+    → reported_after ≡ joined reported_before moments → HaveTicks moments (new_clocks (routes ++ more)) clocks → AreSettled accounts routes ends' clocks
+    →
+    (ran : RanUnderFrom names closes class schedules entries rounds (recorded_by gave to reported_before) (recorded_by gave' to' reported_after) report
+    accounts)
+    × (ran.0 ≡ pumped.0)
+unfolding all_ran
+all_ran_so goes closes class schedules entries rounds names names' gave gave' to to' reported_before reported_after routes more ends ends' clocks moments
+    report accounts named whose small opened pumped input_of ticked settled = (
+      all_ran goes closes class schedules entries rounds names names' gave gave' to to' reported_before reported_after routes more ends ends' clocks moments
+          report accounts named whose small opened pumped input_of ticked settled,
+      refl,
     )

@@ -1,9 +1,9 @@
 -- Whose datagrams stand in a route's inbox in a run.
 use Rattle.std.specs.Prelude.{◌≡◌, ℕ, ◌<◌, List, length, slice_index_or}
 use Rattle.std.specs.List.{AllByRecursion}
-use Rattle.srt_seq.specs.Access.{AccessTerms}
-use Rattle.srt_seq.specs.Items.{Item, Received, Tick, Close}
-use Rattle.srt_seq.specs.Terms.{Terms}
+use Rattle.srt_types.specs.Access.{AccessTerms}
+use Rattle.srt_types.specs.Items.{Item, Received, Tick, Close}
+use Rattle.srt_types.specs.Terms.{Terms}
 use Rattle.srt_lobby.specs.Laws.{MayCall}
 use Rattle.srt_lobby.specs.Lobby.{class_of}
 use Rattle.srt_poller.specs.History.{Sorting, Event, accepted}

@@ -1,8 +1,8 @@
 -- What is sent for one route of a run follows from its terms, its index and the items that it took, whatever other routes do.
 use Rattle.std.specs.Prelude.{◌≡◌, ℕ, ◌<◌, Bool, None, List, [], ◌++◌, length, map, slice_index_or}
-use Rattle.srt_seq.specs.declared.shared.Schedule.{Schedule}
-use Rattle.srt_seq.specs.Items.{Datagram}
-use Rattle.srt_seq.specs.Terms.{Terms}
+use Rattle.srt_types.specs.declared.shared.Schedule.{Schedule}
+use Rattle.srt_types.specs.Items.{Datagram}
+use Rattle.srt_types.specs.Terms.{Terms}
 use Rattle.srt_route.specs.Route.{solo}
 use Rattle.srt_lobby.specs.Names.{RouteName}
 use Rattle.srt_mailbox.specs.declared.accounts.Account.{Account}

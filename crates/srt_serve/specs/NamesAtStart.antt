@@ -1,7 +1,7 @@
 -- The names that a run begins with.
 use Rattle.std.specs.Prelude.{ℕ, ◌==◌, false, List, [], ◌∷◌, map, if◌then◌else◌}
-use Rattle.srt_seq.specs.declared.shared.Schedule.{Schedule}
-use Rattle.srt_seq.specs.Terms.{Terms}
+use Rattle.srt_types.specs.declared.shared.Schedule.{Schedule}
+use Rattle.srt_types.specs.Terms.{Terms}
 use Rattle.srt_lobby.specs.Names.{RouteName, name_of}
 
 -- the name of a route that opens in this round: it is hidden at first, unless that is the first round

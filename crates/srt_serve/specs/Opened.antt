@@ -1,6 +1,6 @@
 -- The ends of all routes, as they are opened.
 use Rattle.std.specs.Prelude.{◌≡◌, ℕ, ◌<◌, List, [], length, map, slice_index_or}
-use Rattle.srt_seq.specs.Terms.{Terms}
+use Rattle.srt_types.specs.Terms.{Terms}
 use Rattle.srt_mailbox.specs.Cells.{CellIdentity}
 use Rattle.srt_mailbox.specs.Ends.{Producer, producer, drained}
 use Rattle.srt_poller.specs.declared.ends.Ends.{Ends}

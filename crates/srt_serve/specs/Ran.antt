@@ -1,8 +1,9 @@
 -- What a run did.
 use Rattle.std.specs.Prelude.{◌≡◌, ◌⊎◌, ℕ, ◌+◌, ◌*◌, ◌<◌, ◌≤◌, Option, None, List, ◌++◌, map, length, slice_index_or}
-use Rattle.srt_seq.specs.declared.shared.Schedule.{Schedule}
-use Rattle.srt_seq.specs.Items.{Datagram, told}
-use Rattle.srt_seq.specs.Terms.{Terms}
+use Rattle.std.specs.List.{AllByRecursion}
+use Rattle.srt_types.specs.declared.shared.Schedule.{Schedule}
+use Rattle.srt_types.specs.Items.{Datagram, input_of}
+use Rattle.srt_types.specs.Terms.{Terms}
 use Rattle.srt_route.specs.declared.replies.Reply.{Reply}
 use Rattle.srt_route.specs.Route.{solo}
 use Rattle.srt_route.specs.Written.{written}
@@ -11,6 +12,7 @@ use Rattle.srt_mailbox.specs.declared.accounts.Account.{Account}
 use Rattle.srt_mailbox.specs.Inbox.{polled_of, ticked_of, applied}
 use Rattle.srt_mailbox.specs.Counts.{counted}
 use Rattle.srt_supervision.specs.declared.report.Report.{Report}
+use Rattle.srt_supervision.specs.Answers.{Answer, AllClose, Closes}
 use Rattle.srt_poller.specs.Devices.{Heard, Carried, joined}
 use Rattle.srt_poller.specs.History.{Sorting, Event, Follow, at_first, state_after, IsOver, kept_after, kept_of, given, calls, handed}
 use Rattle.srt_poller.specs.History.{datagrams, attempts, of_lobby, of_route, answered, accepted, drained, closes_all_in, waits_in}
@@ -19,6 +21,7 @@ use Rattle.srt_poller.specs.Reports.{total}
 use Rattle.srt_poller.specs.Tallies.{TalliesWith}
 use Rattle.srt_lobby.specs.Names.{RouteName, as_hidden, name_of}
 use Rattle.srt_poller.specs.Plans.{ArePlans, texts_of}
+use Rattle.srt_poller.specs.Starts.{starts_in}
 use Rattle.srt_serve.specs.Callers.{CallersMayCall}
 use Rattle.srt_serve.specs.NamesAtStart.{first_names}
 use Rattle.srt_serve.specs.Ticks.{IsWithin, tick}
@@ -33,7 +36,7 @@ pub record RouteRan (terms : Terms) (index : ℕ) (events : List Event) (moments
   pub ticks : List ℕ
   pub queued : List Reply
   pub waiting : List Datagram
-  pub polled : map told (polled_of (taken ++ left)) ≡ accepted index events
+  pub polled : map input_of (polled_of (taken ++ left)) ≡ accepted index events
   pub ticked : ticked_of (taken ++ left) ≡ map tick ticks
   pub within : IsWithin ticks moments
   pub replied : of_route index (handed events) ++ (kept_of index (kept_after None events) ++ (map written queued ++ waiting)) ≡ solo terms index (applied taken)
@@ -109,12 +112,21 @@ Ran class schedules entries rounds old new report accounts =
 abbrev pub names_before : List Schedule → (entries added : List Terms) → List RouteName
 names_before schedules entries added = first_names schedules entries ++ map (λ t. as_hidden (name_of t)) added
 
--- A run of this many rounds, of which some may have closed all. Meanwhile routes with the terms `added` were added, in the order of their indexes after the
--- others, and those with the indexes `requested` were requested to close, at times that nobody knew before. The run did what it does if all routes had been
--- known in advance, with the schedules `later`, the added ones hidden at first. A route that wasn't requested to close, and whose name no other
--- one has, kept its schedule (`ArePlans`)
-abbrev pub RanChanging : Sorting → List Schedule → List Terms → (rounds : ℕ) → (old new : Recorded) → Report → List Account → Type 0
-RanChanging class schedules entries rounds old new report accounts =
+-- the watcher answered that each of these routes closes
+abbrev pub WereAnswered : (answered : Answer → Type 0) → (routes : List ℕ) → Type 0
+WereAnswered answered routes = AllByRecursion (λ r. ∥ answered (Closes r) ∥₁) routes
+
+-- A run of this many rounds. Meanwhile routes with the terms `added` were added, in the order of their indexes after the others, and those with the
+-- indexes `requested` were requested to close, at times that nobody knew before. The run did what it does if all routes had been known in advance, with the
+-- schedules `later`, the added ones hidden at first. A route that wasn't requested to close, and whose name no other visible one had in its opening round, kept
+-- its schedule; one whose name was in use opened in the first round in which it wasn't, or hadn't been opened before the last round (`ArePlans`).
+-- Each route that was requested to close has the watcher's answer that it closes, and if a round closed all, the watcher answered so: `answered` is what is
+-- known of its answers
+abbrev pub RanChanging : (answered : Answer → Type 0) → Sorting → List Schedule → List Terms → (rounds : ℕ) → (old new : Recorded) → Report → List Account →
+    Type 0
+RanChanging answered class schedules entries rounds old new report accounts =
     (added : List Terms) × (requested : List ℕ) × (later : List Schedule) × (events : List Event) × (moments : List ℕ)
-    × ArePlans rounds (λ r. Unit {0}) schedules (texts_of (names_before schedules entries added)) requested later
+    × ArePlans rounds (λ r. Unit {0}) (starts_in later (at_first (names_before schedules entries added)) events) schedules
+    (texts_of (names_before schedules entries added)) requested later
     × RanFrom (names_before schedules entries added) class later (entries ++ added) rounds old new report accounts events moments
+    × WereAnswered answered requested × ((closes_all_in events ≡ 0) ⊎ answered AllClose)

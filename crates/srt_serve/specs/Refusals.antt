@@ -1,6 +1,6 @@
 -- Of a refused conclusion: the code of the answer, and the requested name.
 use Rattle.std.specs.Prelude.{ℕ, ◌^◌, List, [], Option, None, Some, Result, Ok, Err, length, take, nat_le, nat_lt, ◌&&◌, if◌then◌else◌}
-use Rattle.srt_seq.specs.Words.{word_at}
+use Rattle.srt_types.specs.Words.{word_at}
 use Rattle.srt_packet.specs.declared.reading.PacketFault.{PacketFault}
 use Rattle.srt_packet.specs.Grammar as packets
 use Rattle.srt_packet.specs.Grammar.{Packet, Body}

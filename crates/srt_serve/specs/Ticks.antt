@@ -1,7 +1,7 @@
 -- What a ticking thread offers.
 use Rattle.std.specs.Prelude.{◌≡◌, ◌⊎◌, ℕ, Option, List, [], ◌∷◌, ◌++◌, map}
-use Rattle.srt_seq.specs.declared.shared.Item.{Item}
-use Rattle.srt_seq.specs.declared.shared.Item.TheVariants.{Tick}
+use Rattle.srt_types.specs.declared.shared.Item.{Item}
+use Rattle.srt_types.specs.declared.shared.Item.TheVariants.{Tick}
 use Rattle.srt_mailbox.specs.Ends.{Producer, producer}
 use Rattle.srt_poller.specs.Devices.{joined}
 

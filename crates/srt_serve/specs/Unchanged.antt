@@ -1,10 +1,10 @@
 -- A route that is left as it was while others open and close has the datagrams that it would have had without that.
-use Rattle.std.specs.Prelude.{◌≡◌, ◌↔◌, ℕ, suc, ◌==◌, ◌&&◌, ◌||◌, Bool, true, false, not, None, Some, List, [], ◌∷◌, ◌++◌, length}
+use Rattle.std.specs.Prelude.{◌≡◌, ◌↔◌, ◌⊎◌, ℕ, suc, ◌==◌, ◌&&◌, ◌||◌, Bool, true, false, not, None, Some, List, [], ◌∷◌, ◌++◌, length}
 use Rattle.std.specs.Prelude.{map, filter, slice_get}
 use Rattle.std.specs.List.{flat_map, list_any}
-use Rattle.srt_seq.specs.declared.shared.Schedule.{Schedule}
-use Rattle.srt_seq.specs.Items.{Datagram, Item, Received, Tick, Close}
-use Rattle.srt_seq.specs.Terms.{Terms}
+use Rattle.srt_types.specs.declared.shared.Schedule.{Schedule}
+use Rattle.srt_types.specs.Items.{Datagram, Item, Received, Tick, Close}
+use Rattle.srt_types.specs.Terms.{Terms}
 use Rattle.srt_lobby.specs.declared.classes.Class.TheVariants.{Route}
 use Rattle.srt_lobby.specs.Names.{RouteName, is_shown_at, has_name_at, name_of}
 use Rattle.srt_lobby.specs.Lobby.{class_of}
@@ -12,13 +12,15 @@ use Rattle.srt_lobby.specs.Opening.{fault_of}
 use Rattle.srt_mailbox.specs.declared.accounts.Account.{Account}
 use Rattle.srt_mailbox.specs.Inbox.{ticked_of}
 use Rattle.srt_supervision.specs.declared.report.Report.{Report}
+use Rattle.srt_supervision.specs.Answers.{Answer, AllClose, Closes}
 use Rattle.srt_poller.specs.Devices.{Arrival}
 use Rattle.srt_poller.specs.Schedules.{CloseOffer, begun}
 use Rattle.srt_poller.specs.History.{Sorting, Event, Begins, Accepts, Overflows, Refuses, State, at_first, state_by, Follow, calls, at_route, accepted}
 use Rattle.srt_poller.specs.History.{closes_all_in}
 use Rattle.srt_poller.specs.Plans.{IsAlone, is_requested, texts_of, ArePlans}
+use Rattle.srt_poller.specs.Starts.{RoundStart, starts_in, IsUsedIn}
 use Rattle.srt_serve.specs.NamesAtStart.{until, first_names}
-use Rattle.srt_serve.specs.Ran.{RouteRan, Recorded, RanChanging, RanUntil, names_before}
+use Rattle.srt_serve.specs.Ran.{RouteRan, Recorded, RanChanging, WereAnswered, RanUntil, names_before}
 use Rattle.srt_serve.specs.Isolation.{Trace, trace, IsTrace, sent_for, HasSentAll, places_of}
 
 -- no other visible route has the name of this one
@@ -117,10 +119,9 @@ own_marks s is_shown round (b ∷ bs) = mark_after s is_shown round b ∷ own_ma
 abbrev pub Follows : Trace → Type 0
 Follows t = Follow t.class t.schedules (at_first t.names) t.events
 
--- the route with this index has this name at first, which no other route of the run has, and this schedule
+-- the route with this index has this name at first, and this schedule
 pub record IsRouteOf (t : Trace) (r : ℕ) (name : RouteName) (s : Schedule) : Type 0 where
   pub named : slice_get t.names r ≡ Some name
-  pub alone : IsAlone (texts_of t.names) r
   pub scheduled : slice_get t.schedules r ≡ Some s
 
 -- whether a route is visible follows from its own schedule and from what the beginnings of rounds are to it
@@ -168,12 +169,16 @@ AcceptedAreSorted =
     → (received (accepted r events) ≡ map item_of (sorted_to r events))
     × (is_closed_in (beginnings r events) ≡ false → accepted r events ≡ map item_of (sorted_to r events))
 
+-- the starts of a run's rounds
+abbrev pub starts_of : Trace → List RoundStart
+starts_of t = starts_in t.schedules (at_first t.names) t.events
+
 -- This run had routes with these schedules and entries at its beginning. Then those with the terms `added` were added, and those with the indexes `requested`
 -- were requested to close
 pub record IsChanging (schedules : List Schedule) (entries added : List Terms) (requested : List ℕ) (t : Trace) : Type 0 where
   pub names_are : t.names ≡ names_before schedules entries added
   pub entries_are : t.entries ≡ entries ++ added
-  pub planned : ArePlans t.rounds (λ r. Unit {0}) schedules (texts_of t.names) requested t.schedules
+  pub planned : ArePlans t.rounds (λ r. Unit {0}) (starts_of t) schedules (texts_of t.names) requested t.schedules
   pub ran : IsTrace t
 
 -- the same of a run to which none was added and in which none was requested to close
@@ -183,14 +188,21 @@ pub record IsUnchanging (schedules : List Schedule) (entries : List Terms) (t : 
   pub schedules_are : t.schedules ≡ schedules
   pub ran : IsTrace t
 
--- a run to which routes may be added is such a run
-abbrev pub ChangingRunsAreSo : Type 0
-ChangingRunsAreSo =
+-- A run to which routes may be added is such a run, and each route that was requested to close has the watcher's answer that it closes. If a round closed
+-- all, the watcher answered so
+abbrev pub ChangingRunsAreSo : (answered : Answer → Type 0) → Type 0
+ChangingRunsAreSo answered =
     (class : Sorting) (schedules : List Schedule) (entries : List Terms) (rounds : ℕ) (old new : Recorded) (report : Report) (accounts : List Account)
-    → RanChanging class schedules entries rounds old new report accounts
+    → RanChanging answered class schedules entries rounds old new report accounts
     → (added : List Terms) × (requested : List ℕ) × (later : List Schedule) × (events : List Event) × (moments : List ℕ)
     × IsChanging schedules entries added requested
     (trace (names_before schedules entries added) class later (entries ++ added) rounds old new report accounts events moments)
+    × WereAnswered answered requested × ((closes_all_in events ≡ 0) ⊎ answered AllClose)
+
+-- a route of which the watcher didn't answer that it closes wasn't requested to close
+abbrev pub UnansweredStaysOpen : (answered : Answer → Type 0) → Type 0
+UnansweredStaysOpen answered =
+    (requested : List ℕ) (r : ℕ) → WereAnswered answered requested → (answered (Closes r) → ⊥) → is_requested requested r ≡ false
 
 -- and one to which none may be added is the other
 abbrev pub UnchangingRunsAreSo : Type 0
@@ -200,13 +212,13 @@ UnchangingRunsAreSo =
     → (events : List Event) × (moments : List ℕ)
     × IsUnchanging schedules entries (trace (first_names schedules entries) class schedules entries rounds old new report accounts events moments)
 
--- A route of the beginning that wasn't requested to close, and whose name no other one has, has its own terms, name and schedule to the end of a run in which
--- others were added and requested to close
+-- A route of the beginning that wasn't requested to close, and whose name no other visible route has in its opening round, has its own terms, name and schedule
+-- to the end of a run in which others were added and requested to close, also under the same name
 abbrev pub LeftAsItWas : Type 0
 LeftAsItWas =
     (schedules : List Schedule) (entries added : List Terms) (requested : List ℕ) (t : Trace) → IsChanging schedules entries added requested t
     → (r : ℕ) (terms : Terms) (s : Schedule) → slice_get entries r ≡ Some terms → slice_get schedules r ≡ Some s
-    → is_requested requested r ≡ false → IsAlone (texts_of t.names) r
+    → is_requested requested r ≡ false → (IsUsedIn (starts_of t) r s.open_round → ⊥)
     → IsRouteOf t r (until s.open_round (name_of terms)) s × (slice_get t.entries r ≡ Some terms)
 
 -- and so has it in a run without changes
@@ -214,7 +226,6 @@ abbrev pub NothingChanged : Type 0
 NothingChanged =
     (schedules : List Schedule) (entries : List Terms) (t : Trace) → IsUnchanging schedules entries t
     → (r : ℕ) (terms : Terms) (s : Schedule) → slice_get entries r ≡ Some terms → slice_get schedules r ≡ Some s
-    → IsAlone (texts_of t.names) r
     → IsRouteOf t r (until s.open_round (name_of terms)) s × (slice_get t.entries r ≡ Some terms)
 
 -- in a run without changes no other route has a route's name
@@ -230,8 +241,8 @@ RefusedChangesNothing =
     → IsChanging schedules entries [] [] t → IsUnchanging schedules entries t
 
 -- A run to which routes were added and in which some were requested to close, and one without changes, of the same schedules and entries and the same
--- secret, in which the source returned the same. This route wasn't requested to close, and no other one has its name. The same rounds close all, and
--- its inbox accepts Close in the same rounds
+-- secret, in which the source returned the same. This route wasn't requested to close, and no other visible one has its name in its opening round. The same
+-- rounds close all, and its inbox accepts Close in the same rounds
 pub record AreAlike (secret : List ℕ) (schedules : List Schedule) (entries added : List Terms) (requested : List ℕ) (t u : Trace) (r : ℕ) (terms : Terms)
     (s : Schedule) : Type 0 where
   pub sound : fault_of entries ≡ None
@@ -242,7 +253,7 @@ pub record AreAlike (secret : List ℕ) (schedules : List Schedule) (entries add
   pub same_calls : calls t.events ≡ calls u.events
   pub there : slice_get entries r ≡ Some terms
   pub scheduled : slice_get schedules r ≡ Some s
-  pub alone : IsAlone (texts_of t.names) r
+  pub free : IsUsedIn (starts_of t) r s.open_round → ⊥
   pub unrequested : is_requested requested r ≡ false
   pub same_beginnings : beginnings r t.events ≡ beginnings r u.events
 

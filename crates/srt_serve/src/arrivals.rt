@@ -1,21 +1,25 @@
 //! Places for the routes of a run, and how the polling thread and the ticking one reach the routes in them.
 
 ghost use Rattle.std.specs.Prelude.{◌≡◌, ◌<◌, [], IfOk, IfSome, length, map};
-ghost use Rattle.srt_seq.specs.Terms.{terms_of};
+ghost use Rattle.srt_types.specs.Terms.{terms_of};
 ghost use Rattle.srt_lobby.specs.Names.{as_hidden, name_of, new_name};
 ghost use Rattle.srt_mailbox.specs.Identities.{identity_in};
-ghost use Rattle.srt_mailbox.specs.Places.{came, locks_of};
+ghost use Rattle.srt_mailbox.specs.Places.{arrived, locks_of};
 ghost use Rattle.srt_serve.specs.inside.Arrived.{AreIndexed, report_of};
 ghost use Rattle.srt_serve.specs.Opened.{new_clocks};
+ghost use Rattle.srt_supervision.specs.Answers.{Closes};
 
+use crate::answers::ClosesRoute;
 use crate::ticking::TickEnds;
 use srt_lobby::NewName;
 use srt_mailbox::{Attachment, ClockEnd, Place, PollerEnds, Seat, SeatReader, open_seat};
-use srt_poller::{Ends, Newcomer, Openings};
-use srt_seq::Entry;
+use srt_poller::{AddedRoute, Ends, Openings};
+use srt_supervision::Answers;
+use srt_types::Entry;
 use srt_wakeups::AtomicBitSet;
 use std::alloc::{AllocError, Global};
-use std::sync::atomic::{AtomicBool, Ordering};
+use std::marker::PhantomData;
+use std::sync::atomic::{AtomicBool, AtomicIn, Ordering};
 
 /// The polling thread's attachment of a route: it gets it with its ends of the route.
 #[derive(Drop)]
@@ -63,7 +67,7 @@ pub struct ClockArrivals<'a> {
 }
 
 impl TickEnds<ClockEnd> for ClockArrivals<'_> {
-    ghost added = { λ s. new_clocks (came s.reader) };
+    ghost added = { λ s. new_clocks (arrived s.reader) };
 
     ghost places = { λ s. locks_of s.reader };
 
@@ -77,29 +81,59 @@ impl TickEnds<ClockEnd> for ClockArrivals<'_> {
 
 /// Notices of the watching thread to the polling one: that routes were added, and which are to close.
 #[derive(Drop)]
-pub struct RouteNotices {
+pub struct RouteNotices<A: Answers> {
     // there was a notice since the polling thread last checked
     is_pending: AtomicBool,
     // the routes that were requested to close so far
     requested: AtomicBitSet,
     // those of them that the polling thread hasn't taken
     closings: AtomicBitSet,
+    // of each route, 0, or one more than its index once it was requested to close
+    words: Vec<AtomicIn<ClosesRoute<A>>>,
 }
 
-impl RouteNotices {
-    /// For this many routes at most. Allocates two bits for each; an error means out of memory.
-    pub fn open(alloc: Global, routes: usize) -> Result<RouteNotices, AllocError> {
+/// A route that the watcher requested to close.
+#[derive(Drop)]
+pub struct CloseRequest<A: Answers> {
+    /// The route's index.
+    pub route: usize,
+    of: PhantomData<A>,
+    ghost known: { ∥ A.answered (Closes route) ∥₁ },
+}
+
+// Allocates a word for each of this many routes.
+fn open_words<A: Answers>(
+    alloc: Global,
+    routes: usize,
+) -> Result<Vec<AtomicIn<ClosesRoute<A>>>, AllocError> {
+    let mut words = Vec::with_capacity(alloc, routes)?;
+    for _ in 0..routes {
+        words.push(AtomicIn::new(0))?;
+    }
+    Ok(words)
+}
+
+impl<A: Answers> RouteNotices<A> {
+    /// For this many routes at most. Allocates two bits and a word for each; an error means out of memory.
+    pub fn open(alloc: Global, routes: usize) -> Result<RouteNotices<A>, AllocError> {
         Ok(RouteNotices {
             is_pending: AtomicBool::new(false),
             requested: AtomicBitSet::open(alloc, routes)?,
             closings: AtomicBitSet::open(alloc, routes)?,
+            words: open_words(alloc, routes)?,
         })
     }
 
-    /// Requests that this route be closed, once `notify` is called. A second request for a route is ignored.
-    pub fn close(&self, route: usize) {
-        if self.requested.set(route) {
-            self.closings.set(route);
+    /// Requests that this route be closed, once `notify` is called. The watcher requested it. A second request for a route
+    /// is ignored.
+    pub fn close(&self, route: usize)
+        requires { A.answered (Closes route) }
+    {
+        if let Some(word) = self.words.get(route) {
+            if self.requested.set(route) {
+                word.store((route as u64).wrapping_add(1), Ordering::SeqCst);
+                self.closings.set(route);
+            }
         }
     }
 
@@ -117,14 +151,33 @@ impl RouteNotices {
         is_pending
     }
 
-    // The next route that is to close, among this many.
-    fn next_close(&self, routes: usize) -> Option<usize>
-        ensures { IfSome result (λ route. route < routes) }
+    // The route that the word at this index states, if it states one among this many.
+    fn stated(&self, index: usize, routes: usize) -> Option<CloseRequest<A>>
+        ensures { IfSome result (λ request. request.route < routes) }
     {
-        let route = self.closings.next_from(0);
+        let word = self.words.get(index)?.load(Ordering::SeqCst);
+        if word == 0 {
+            return None;
+        }
+        let route = (word - 1) as usize;
         if route < routes {
-            self.closings.clear(route);
-            Some(route)
+            Some(CloseRequest {
+                route,
+                of: PhantomData,
+            })
+        } else {
+            None
+        }
+    }
+
+    // The next route that is to close, among this many. The watcher requested that.
+    fn next_close(&self, routes: usize) -> Option<CloseRequest<A>>
+        ensures { IfSome result (λ request. request.route < routes) }
+    {
+        let index = self.closings.next_from(0);
+        if index < routes {
+            self.closings.clear(index);
+            self.stated(index, routes)
         } else {
             None
         }
@@ -133,24 +186,24 @@ impl RouteNotices {
 
 /// How the polling thread reaches the routes in the places, and gets those that are to close.
 #[derive(Drop)]
-pub struct PollerArrivals<'a, 'n> {
+pub struct PollerArrivals<'a, 'n, A: Answers> {
     /// Reaches the routes.
     pub reader: SeatReader<'a, NameAttachment>,
-    notices: &'n RouteNotices,
+    notices: &'n RouteNotices<A>,
     // the routes that were requested to close, the oldest first, each at most once
-    requested: Vec<usize>,
-    ghost indexed: { AreIndexed (came reader) },
+    requested: Vec<CloseRequest<A>>,
+    ghost indexed: { AreIndexed (arrived reader) },
 }
 
-impl<'a, 'n> PollerArrivals<'a, 'n> {
+impl<'a, 'n, A: Answers> PollerArrivals<'a, 'n, A> {
     /// With a reader that has reached the first routes. Allocates room for the routes that are to close.
     pub fn new(
         alloc: Global,
         reader: SeatReader<'a, NameAttachment>,
-        notices: &'n RouteNotices,
+        notices: &'n RouteNotices<A>,
         routes: usize,
-    ) -> Result<PollerArrivals<'a, 'n>, AllocError>
-        requires { AreIndexed (came reader) }
+    ) -> Result<PollerArrivals<'a, 'n, A>, AllocError>
+        requires { AreIndexed (arrived reader) }
         ensures { IfOk result (λ a. (a.reader ≡ reader.entry) × (a.requested.items ≡ [])) }
     {
         Ok(PollerArrivals {
@@ -161,21 +214,22 @@ impl<'a, 'n> PollerArrivals<'a, 'n> {
     }
 }
 
-impl Openings for PollerArrivals<'_, '_> {
+impl<A: Answers> Openings for PollerArrivals<'_, '_, A> {
     ghost use Rattle.std.specs.Prelude.{Some};
     ghost use Rattle.srt_serve.specs.inside.Arrived.{marked};
+    ghost use Rattle.srt_serve.specs.inside.Requests.{routes_of};
 
-    ghost added = { λ s. Some (map report_of (came s.reader)) };
+    ghost added = { λ s. Some (map report_of (arrived s.reader)) };
 
     // The names of the places' locks precede the routes that were requested to close: so it is known that a poller leaves
     // them.
-    ghost requested = { λ s. Some (marked (locks_of s.reader) s.requested.items) };
+    ghost requested = { λ s. Some (marked (locks_of s.reader) (routes_of s.requested.items)) };
 
     fn has_changes(&self) -> bool {
         self.notices.take_pending()
     }
 
-    fn next(&mut self) -> Option<Newcomer> {
+    fn next(&mut self) -> Option<AddedRoute> {
         match self.reader.next_poller() {
             Some(taken) => {
                 let PollerEnds {
@@ -183,7 +237,7 @@ impl Openings for PollerArrivals<'_, '_> {
                     drain,
                     companion,
                 } = taken;
-                Some(Newcomer {
+                Some(AddedRoute {
                     name: companion.name,
                     ends: Ends { ingress, drain },
                 })
@@ -196,8 +250,9 @@ impl Openings for PollerArrivals<'_, '_> {
         if self.requested.len() >= self.requested.capacity() {
             return None;
         }
-        let route = self.notices.next_close(routes)?;
-        let Ok(()) = self.requested.push(route) else {
+        let request = self.notices.next_close(routes)?;
+        let route = request.route;
+        let Ok(()) = self.requested.push(request) else {
             unreachable!();
         };
         Some(route)

@@ -10,8 +10,8 @@ use crate::working::{is_left, serve_route};
 use srt_lobby::Names;
 use srt_mailbox::{Gate, Serve};
 use srt_poller::{Hints, InlineService, Orders, PollerObserver, Signals};
-use srt_seq::Peer;
-use srt_supervision::{Order, Report};
+use srt_supervision::{Answers, Order, Report};
+use srt_types::Peer;
 use srt_wakeups::Wakeups;
 use srt_wakeups::pacing::{FEW_ROUTES, MANY_DATAGRAMS, POLLER_TURNS};
 use std::cell::Cell;
@@ -19,26 +19,26 @@ use std::sync::Wait;
 
 /// The poller's hints, and its work for the routes.
 #[derive(Drop)]
-pub struct InlineServer<'a, R, C, G: Drop> {
+pub struct InlineServer<'a, R, C, G: Drop, A: Answers> {
     rt: &'a R,
     cells: &'a [C],
     wakeups: &'a Wakeups,
     // none if the run isn't watched
-    channel: Option<&'a WatcherChannel>,
+    channel: Option<&'a WatcherChannel<A>>,
     // none if the workers alone serve routes, and while it is in use
     gate: Cell<Option<G>>,
 }
 
-impl<'a, R: Wait, C: Serve, G: Gate + Drop> InlineServer<'a, R, C, G> {
+impl<'a, R: Wait, C: Serve, G: Gate + Drop, A: Answers> InlineServer<'a, R, C, G, A> {
     /// For the polling thread alone. Without a gate it serves no route, and without a channel all rounds are made and none
     /// closes all.
     pub fn new(
         rt: &'a R,
         cells: &'a [C],
         wakeups: &'a Wakeups,
-        channel: Option<&'a WatcherChannel>,
+        channel: Option<&'a WatcherChannel<A>>,
         gate: Option<G>,
-    ) -> InlineServer<'a, R, C, G>
+    ) -> InlineServer<'a, R, C, G, A>
         ensures { result.channel ≡ channel.entry }
     {
         InlineServer {
@@ -52,7 +52,7 @@ impl<'a, R: Wait, C: Serve, G: Gate + Drop> InlineServer<'a, R, C, G> {
 
     // Where the refusal that this handshake is can be left for the watcher, and its code; none if it isn't a refusal,
     // if the run isn't watched, and if there is no place, which is counted.
-    fn place_for(&self, handshake: &[u8]) -> Option<(&'a WatcherChannel, u32)> {
+    fn place_for(&self, handshake: &[u8]) -> Option<(&'a WatcherChannel<A>, u32)> {
         let Some(channel) = self.channel else {
             return None;
         };
@@ -99,14 +99,15 @@ impl<'a, R: Wait, C: Serve, G: Gate + Drop> InlineServer<'a, R, C, G> {
     }
 }
 
-impl<R: Wait, C: Serve, G: Gate + Drop> Orders for InlineServer<'_, R, C, G> {
-    ghost use Rattle.std.specs.Prelude.{IsSome};
+impl<R: Wait, C: Serve, G: Gate + Drop, A: Answers> Orders for InlineServer<'_, R, C, G, A> {
+    ghost use Rattle.srt_supervision.specs.Answers.{AllClose, RunEnds};
 
     ghost goes = { λ s. Unit {0} };
 
-    ghost closes = { λ s. IsSome s.channel };
+    // only the watcher's order closes all, or ends the run
+    ghost closes = { λ s. A.answered AllClose };
 
-    ghost stops = { λ s. IsSome s.channel };
+    ghost stops = { λ s. A.answered RunEnds };
 
     fn order(&self) -> Order {
         match self.channel {
@@ -116,7 +117,7 @@ impl<R: Wait, C: Serve, G: Gate + Drop> Orders for InlineServer<'_, R, C, G> {
     }
 }
 
-impl<R: Wait, C: Serve, G: Gate + Drop> Hints for InlineServer<'_, R, C, G> {
+impl<R: Wait, C: Serve, G: Gate + Drop, A: Answers> Hints for InlineServer<'_, R, C, G, A> {
     fn polled(&self, route: usize) {
         self.wakeups.set_polled(route);
     }
@@ -130,7 +131,8 @@ impl<R: Wait, C: Serve, G: Gate + Drop> Hints for InlineServer<'_, R, C, G> {
     }
 }
 
-impl<R: Wait, C: Serve, G: Gate + Drop> PollerObserver for InlineServer<'_, R, C, G> {
+impl<R: Wait, C: Serve, G: Gate + Drop, A: Answers> PollerObserver
+    for InlineServer<'_, R, C, G, A> {
     fn reported(&self, report: &Report) {
         if let Some(channel) = self.channel {
             channel.report.leave(report);
@@ -156,7 +158,7 @@ impl<R: Wait, C: Serve, G: Gate + Drop> PollerObserver for InlineServer<'_, R, C
     }
 }
 
-impl<R: Wait, C: Serve, G: Gate + Drop> InlineService for InlineServer<'_, R, C, G> {
+impl<R: Wait, C: Serve, G: Gate + Drop, A: Answers> InlineService for InlineServer<'_, R, C, G, A> {
     fn serve_inline(&self, datagrams: u32) {
         match self.gate.replace(None) {
             Some(mut gate)
@@ -173,4 +175,4 @@ impl<R: Wait, C: Serve, G: Gate + Drop> InlineService for InlineServer<'_, R, C,
     }
 }
 
-impl<R: Wait, C: Serve, G: Gate + Drop> Signals for InlineServer<'_, R, C, G> {}
+impl<R: Wait, C: Serve, G: Gate + Drop, A: Answers> Signals for InlineServer<'_, R, C, G, A> {}

@@ -4,7 +4,9 @@ ghost use Rattle.srt_serve.specs.Isolation.{SentIsFront, SentIsWhole, RoutesAreI
 ghost use Rattle.srt_serve.specs.Unchanged.{LobbySortsByOwnName, SortedAlike, MarksAreOwn, OwnScheduleDecides};
 ghost use Rattle.srt_serve.specs.Unchanged.{OpenRoutesBeginAlike, AcceptedAreSorted, AsIfNothingHappened, SentAsIfNothingHappened};
 ghost use Rattle.srt_serve.specs.Unchanged.{ChangingRunsAreSo, UnchangingRunsAreSo, LeftAsItWas, NothingChanged, NamesAreAlone};
-ghost use Rattle.srt_serve.specs.Unchanged.{RefusedChangesNothing};
+ghost use Rattle.srt_serve.specs.Unchanged.{RefusedChangesNothing, UnansweredStaysOpen};
+
+use srt_supervision::Answers;
 
 /// No route's traffic changes another's, and no opening or closing does. Take any two runs, with whatever other routes and schedules, in which a route
 /// has the same terms and index. If it took the same items in the same order, ticks among them, and all its replies were sent, then the datagrams
@@ -40,8 +42,7 @@ pub fn sorting()
 /// A route that nobody asked to close, and whose name no other one has, keeps index, name, terms and schedule whatever routes come and close: so `sorting`
 /// and `isolation` hold between such a run and one without changes. An opening that was refused changes nothing.
 pub fn unchanged_routes()
-    // The contracts of `run_until` and `run` say that a run is so.
-    ensures changing { ChangingRunsAreSo }
+    // The contract of `run` says that a run is so.
     ensures unchanging { UnchangingRunsAreSo }
     ensures left { LeftAsItWas }
     ensures kept { NothingChanged }
@@ -50,4 +51,12 @@ pub fn unchanged_routes()
     ensures same { AsIfNothingHappened }
     ensures sent { SentAsIfNothingHappened }
     ensures refused { RefusedChangesNothing }
+{}
+
+/// A run to which routes may be added is one that `unchanged_routes` is about, and a route of which the watcher didn't answer that it closes wasn't
+/// requested to close.
+pub fn answered_changes<A: Answers>()
+    // The contract of `run_until` says that a run is so.
+    ensures changing { ChangingRunsAreSo A.answered }
+    ensures unasked { UnansweredStaysOpen A.answered }
 {}

@@ -9,7 +9,7 @@
 //! the poller and the final counters of each route; `RunFault` is the reason why there is none.
 //!
 //! Calls: `run` or `run_until`, once. `run` returns once the given number of rounds is complete and all its threads have
-//! ended, `run_until` also if its watcher orders the end. Each route has a `srt_seq::Schedule`: the rounds in which callers begin to
+//! ended, `run_until` also if its watcher orders the end. Each route has a `srt_types::Schedule`: the rounds in which callers begin to
 //! find it and in which it closes.
 //!
 //! Files, in the order of a run: `running.rt` has the whole of it, and hides routes that open later; `opening.rt` opens
@@ -22,6 +22,7 @@
 //! changes what is sorted to another one, or sent for it.
 #![tactic(auto)]
 
+mod answers;
 mod arrivals;
 mod inline_serving;
 pub mod laws;
@@ -37,7 +38,9 @@ mod watching;
 mod working;
 
 pub use running::{Gates, Ran, RunFault, Watched, run, run_until};
-pub use srt_supervision::{ChangeFault, ChangeRoutes, Refusal, RouteChanges, RunStatus, Watch};
+pub use srt_supervision::{
+    Answers, ChangeFault, ChangeRoutes, Refusal, RouteChanges, RunStatus, Watch,
+};
 pub use ticking::Ticker;
 
 #[cfg(test)]

@@ -2,17 +2,17 @@
 
 ghost use Rattle.std.specs.Prelude.{◌≡◌, ◌≤◌, ℕ, [], ◌∷◌, ◌++◌, Some, IfOk, OnOk, map, length, take, slice_get};
 ghost use Rattle.std.specs.Vec.{vec_capacity};
-ghost use Rattle.srt_seq.specs.Terms.{terms_of};
+ghost use Rattle.srt_types.specs.Terms.{terms_of};
 ghost use Rattle.srt_mailbox.specs.Cells.{CellIdentity};
 ghost use Rattle.srt_mailbox.specs.Identities.{identity_in};
-ghost use Rattle.srt_mailbox.specs.Places.{came, locks_of};
+ghost use Rattle.srt_mailbox.specs.Places.{arrived, locks_of};
 ghost use Rattle.srt_poller.specs.declared.ends.Ends.{Ends as TheEnds};
 ghost use Rattle.srt_serve.specs.Opened.{IsOpened, AreOpened, terms_in, new_clock, new_clocks};
 
 use crate::arrivals::{ClockArrivals, NameAttachment, seat_route};
 use srt_mailbox::{ClockEnd, Place, PollerEnds, Seat, SeatReader};
 use srt_poller::Ends;
-use srt_seq::Entry;
+use srt_types::Entry;
 use std::alloc::{AllocError, Global};
 use std::sync::OnceToken;
 
@@ -40,10 +40,10 @@ fn take_first<'a>(
     seat: Seat<NameAttachment>,
 ) -> Result<OnceToken<'a, Seat<NameAttachment>>, AllocError>
     requires { locks_of routes.old ≡ map (λ p. p.seat.id) places.now }
-    ensures put { IfOk result (λ t. (slice_get (locks_of routes.old) (length (came routes.old)) ≡ Some t.of)
+    ensures put { IfOk result (λ t. (slice_get (locks_of routes.old) (length (arrived routes.old)) ≡ Some t.of)
         × (identity_in t.value.cell ≡ identity_in seat.cell)) }
-    ensures taken { OnOk result ((e : TheEnds) × (came routes.new ≡ came routes.old ++ identity_in seat.cell ∷ [])
-        × (ends.new.items ≡ ends.old.items ++ e ∷ []) × IsOpened (length (came routes.old)) (identity_in seat.cell) e) }
+    ensures taken { OnOk result ((e : TheEnds) × (arrived routes.new ≡ arrived routes.old ++ identity_in seat.cell ∷ [])
+        × (ends.new.items ≡ ends.old.items ++ e ∷ []) × IsOpened (length (arrived routes.old)) (identity_in seat.cell) e) }
     ensures places { locks_of routes.new ≡ locks_of routes.old }
     ensures room { vec_capacity ends.old ≤ vec_capacity ends.new }
 {
@@ -57,7 +57,7 @@ fn take_first<'a>(
     let Some(taken) = routes.next_poller() else {
         return Err(AllocError);
     };
-    routes.came_to(index, &put);
+    routes.reached(index, &put);
     let PollerEnds { ingress, drain, .. } = taken;
     ends.push(Ends { ingress, drain })?;
     Ok(put)
@@ -68,7 +68,7 @@ fn take_first_clock(
     arrivals: &mut ClockArrivals<'_>,
     clocks: &mut Vec<ClockEnd>,
 ) -> Result<(), AllocError>
-    ensures taken { OnOk result ((n : CellIdentity) × (came arrivals.new.reader ≡ came arrivals.old.reader ++ n ∷ [])
+    ensures taken { OnOk result ((n : CellIdentity) × (arrived arrivals.new.reader ≡ arrived arrivals.old.reader ++ n ∷ [])
         × (clocks.new.items ≡ clocks.old.items ++ new_clock n ∷ [])) }
     ensures places { locks_of arrivals.new.reader ≡ locks_of arrivals.old.reader }
 {
@@ -87,13 +87,13 @@ pub fn open_routes<'a>(
     entries: &[Entry],
     places: &'a [Place<NameAttachment>],
 ) -> Result<Opened<'a>, AllocError>
-    ensures entries { IfOk result (λ o. terms_in (came o.routes) ≡ map terms_of entries.now) }
-    ensures opened { IfOk result (λ o. AreOpened (came o.routes) o.ends.items) }
-    ensures clocks { IfOk result (λ o. o.clocks.items ≡ new_clocks (came o.arrivals.reader)) }
+    ensures entries { IfOk result (λ o. terms_in (arrived o.routes) ≡ map terms_of entries.now) }
+    ensures opened { IfOk result (λ o. AreOpened (arrived o.routes) o.ends.items) }
+    ensures clocks { IfOk result (λ o. o.clocks.items ≡ new_clocks (arrived o.arrivals.reader)) }
     ensures places { IfOk result (λ o. locks_of o.arrivals.reader ≡ locks_of o.routes) }
     ensures room { IfOk result (λ o. length places.now ≤ vec_capacity o.ends) }
     ensures put { IfOk result (λ o. (map (λ t. t.of) o.put.items ≡ take (length o.put.items) (locks_of o.routes))
-        × (map (λ t. identity_in t.value.cell) o.put.items ≡ came o.routes)) }
+        × (map (λ t. identity_in t.value.cell) o.put.items ≡ arrived o.routes)) }
 {
     let mut routes = SeatReader::new(alloc, places)?;
     let mut arrivals = ClockArrivals {

@@ -13,9 +13,9 @@ use arrayvec::ArrayVec;
 use srt_hs::{HsRef, stream_id};
 use srt_lobby::{Names, refusal_cause};
 use srt_packet::{Kind, PacketRef, decode};
-use srt_seq::limits::MAX_NAME;
-use srt_seq::{Peer, read_word};
 use srt_supervision::Refusal;
+use srt_types::product_limits::MAX_NAME;
+use srt_types::{Peer, read_word};
 
 /// The code of a refusal, from a handshake type: one from 1000 on. The draft's other types are 0, 1 and such as are
 /// negative, read as numbers with a sign (section 3.2.1).

@@ -2,7 +2,7 @@
 
 ghost use Rattle.std.specs.Prelude.{◌≡◌, ◌↔◌, ◌⊎◌, ◌≤◌, ◌^◌, true, false, None, Err, List, [], ◌++◌, IfOk, OnOk, IsSome, map, length, take};
 ghost use Rattle.std.specs.Vec.{vec_len, vec_capacity};
-ghost use Rattle.srt_seq.specs.Terms.{terms_of};
+ghost use Rattle.srt_types.specs.Terms.{terms_of};
 ghost use Rattle.srt_cookie.specs.Cookie.{secret_bytes};
 ghost use Rattle.srt_lobby.specs.Lobby.{class_of};
 ghost use Rattle.srt_lobby.specs.Names.{names_of};
@@ -11,28 +11,30 @@ ghost use Rattle.srt_lobby.specs.Changing.{AreHidden};
 ghost use Rattle.srt_mailbox.specs.Cells.{CellIdentity};
 ghost use Rattle.srt_mailbox.specs.Ends.{Producer};
 ghost use Rattle.srt_mailbox.specs.Identities.{identity_in};
-ghost use Rattle.srt_mailbox.specs.Places.{came, locks_of};
+ghost use Rattle.srt_mailbox.specs.Places.{arrived, locks_of};
 ghost use Rattle.srt_poller.specs.Devices.{heard, carried};
 ghost use Rattle.srt_poller.specs.Openings.{NewRoute, names_in, ends_in, route_reports, route_reports_more};
 ghost use Rattle.srt_serve.specs.NamesAtStart.{later_hidden, first_names};
 ghost use Rattle.srt_serve.specs.inside.Polled.{AreReady};
 ghost use Rattle.srt_serve.specs.Opened.{AreOpened, terms_in, new_clocks};
+ghost use Rattle.srt_supervision.specs.Answers.{AllClose, RunEnds};
 ghost use Rattle.srt_serve.specs.Ran.{recorded_by, RanChanging, RanUnder, Ran as TheRan};
 
+use crate::answers::AnswersOf;
 use crate::arrivals::{ClockArrivals, NameAttachment, PollerArrivals, RouteNotices, open_places};
 use crate::opening::{Opened, open_routes};
 use crate::serving::{OtherThreads, PollerState, RunContext, serve_routes};
-use crate::settling::{Busy, began_with, came_to_all, settle_routes};
+use crate::settling::{Busy, began_with, reached_all, settle_routes};
 use crate::ticking::{Clocks, Ticker, take_new};
 use crate::watcher_channel::WatcherChannel;
 use crate::watching::watch_last;
 use srt_cookie::Secret;
 use srt_lobby::Names;
 use srt_mailbox::{Account, ClockEnd, Gate, Place, Seat, SeatReader};
-use srt_poller::{Ends, Openings, Plans, Source, Wire};
-use srt_seq::limits::MAX_ROUTES;
-use srt_seq::{Entry, Schedule};
-use srt_supervision::{NoWatcher, Report, Watch};
+use srt_poller::{Ends, Openings, Source, Wire};
+use srt_supervision::{Answers, NoWatcher, Report, Watch};
+use srt_types::product_limits::MAX_ROUTES;
+use srt_types::{Entry, Schedule};
 use srt_wakeups::Wakeups;
 use std::alloc::{AllocError, Global};
 use std::sync::{OnceToken, Wait};
@@ -93,19 +95,18 @@ pub struct Watched<K: Drop, T: Drop> {
 
 // What the threads of a run share. It is opened before any of them is started.
 #[derive(Drop)]
-struct Shared {
+struct Shared<A: Answers> {
     places: Vec<Place<NameAttachment>>,
-    notices: RouteNotices,
+    notices: RouteNotices<A>,
     wakeups: Wakeups,
     // none if the run isn't watched
-    channel: Option<WatcherChannel>,
+    channel: Option<WatcherChannel<A>>,
 }
 
 // What a run allocates besides its routes and what its threads share.
 #[derive(Drop)]
 struct Prepared {
     names: Names,
-    plans: Plans,
     // room for those of all routes
     accounts: Vec<Account>,
 }
@@ -164,7 +165,10 @@ fn open_wakeups(
     Ok(wakeups)
 }
 
-fn open_channel(alloc: Global, is_watched: bool) -> Result<Option<WatcherChannel>, AllocError>
+fn open_channel<A: Answers>(
+    alloc: Global,
+    is_watched: bool,
+) -> Result<Option<WatcherChannel<A>>, AllocError>
     ensures { IfOk result (λ channel. IsSome channel ↔ (is_watched ≡ true)) }
 {
     if is_watched {
@@ -176,12 +180,12 @@ fn open_channel(alloc: Global, is_watched: bool) -> Result<Option<WatcherChannel
 }
 
 // Opens what the threads share, for a run that begins with this many routes.
-fn open_shared(
+fn open_shared<A: Answers>(
     alloc: Global,
     first: usize,
     workers: usize,
     is_watched: bool,
-) -> Result<Shared, AllocError>
+) -> Result<Shared<A>, AllocError>
     ensures channel { IfOk result (λ s. IsSome s.channel ↔ (is_watched ≡ true)) }
     ensures places { IfOk result (λ s. is_watched ≡ true → length s.places.items ≡ 511) }
 {
@@ -194,7 +198,7 @@ fn open_shared(
     })
 }
 
-// Allocates the names, hides those of later routes, and makes room for plans and final counters.
+// Allocates the names, hides those of later routes, and makes room for final counters.
 fn prepare(alloc: Global, entries: &[Entry], schedules: &[Schedule]) -> Result<Prepared, AllocError>
     requires { length schedules.now ≡ length entries.now }
     ensures names { IfOk result (λ p. names_of p.names ≡ first_names schedules.now (map terms_of entries.now)) }
@@ -206,14 +210,17 @@ fn prepare(alloc: Global, entries: &[Entry], schedules: &[Schedule]) -> Result<P
     hide_later(&mut names, schedules);
     Ok(Prepared {
         names,
-        plans: Plans::new(alloc)?,
         accounts: Vec::with_capacity(alloc, MAX_ROUTES)?,
     })
 }
 
 // Takes the poller's ends of the routes that were added since its last round, as long as there is room for them. None are
 // taken if the run isn't watched.
-fn take_late<O: Openings>(channel: Option<&WatcherChannel>, ends: &mut Vec<Ends>, openings: &mut O)
+fn take_late<A: Answers, O: Openings>(
+    channel: Option<&WatcherChannel<A>>,
+    ends: &mut Vec<Ends>,
+    openings: &mut O,
+)
     ensures { (more : List NewRoute) × ((more ≡ []) ⊎ IsSome channel.entry) × AreHidden (names_in more)
         × (route_reports (O.added openings.new) (O.requested openings.new) ≡ route_reports_more
         (route_reports (O.added openings.old) (O.requested openings.old)) more [])
@@ -236,7 +243,7 @@ fn take_late<O: Openings>(channel: Option<&WatcherChannel>, ends: &mut Vec<Ends>
 // route once more to the watcher. Fails if the polling thread's reader hasn't reached all routes with which the run began,
 // or the ticking thread's all that the polling thread's has, or if these are more than 511.
 fn come_to_all<'a, R: Wait, K: Drop, T: Watch>(
-    context: &RunContext<'a, R, Place<NameAttachment>>,
+    context: &RunContext<'a, R, Place<NameAttachment>, AnswersOf<T>>,
     put: &Vec<OnceToken<'a, Seat<NameAttachment>>>,
     routes: &SeatReader<'a, NameAttachment>,
     clocks: &mut Clocks<K, ClockEnd, ClockArrivals<'a>>,
@@ -244,12 +251,12 @@ fn come_to_all<'a, R: Wait, K: Drop, T: Watch>(
 ) -> Result<(), Busy>
     requires put { map (λ t. t.of) put.now.items ≡ take (length put.now.items) (locks_of routes.now) }
     requires places { locks_of clocks.old.arrivals.reader ≡ locks_of routes.now }
-    ensures began { OnOk result ((more : List CellIdentity) × (came routes.now ≡ map (λ t. identity_in t.value.cell) put.now.items ++ more)) }
-    ensures few { OnOk result (length (came routes.now) ≤ 511) }
+    ensures began { OnOk result ((more : List CellIdentity) × (arrived routes.now ≡ map (λ t. identity_in t.value.cell) put.now.items ++ more)) }
+    ensures few { OnOk result (length (arrived routes.now) ≤ 511) }
     ensures taken { OnOk result ((more : List Producer)
-        × (new_clocks (came clocks.new.arrivals.reader) ≡ new_clocks (came clocks.old.arrivals.reader) ++ more)
+        × (new_clocks (arrived clocks.new.arrivals.reader) ≡ new_clocks (arrived clocks.old.arrivals.reader) ++ more)
         × (clocks.new.ends.items ≡ clocks.old.ends.items ++ more)) }
-    ensures all { OnOk result ((more : List CellIdentity) × (came clocks.new.arrivals.reader ≡ came routes.now ++ more)) }
+    ensures all { OnOk result ((more : List CellIdentity) × (arrived clocks.new.arrivals.reader ≡ arrived routes.now ++ more)) }
     ensures ticker { clocks.new.ticker ≡ clocks.old.ticker }
 {
     let Ok(()) = began_with(routes, put) else {
@@ -257,16 +264,16 @@ fn come_to_all<'a, R: Wait, K: Drop, T: Watch>(
     };
     watch_last(context.rt, context.cells, context.channel, watch);
     take_new(&mut clocks.ends, &mut clocks.arrivals);
-    came_to_all(routes, &clocks.arrivals.reader)
+    reached_all(routes, &clocks.arrivals.reader)
 }
 
 // As `run_over`, over the routes with which the run begins.
 #[tactic(auto, unfolding(crate::specs::inside::Polled::AreUntouched))]
 fn run_opened<'a, R, S: Source, W: Wire, K, G, T>(
-    context: &RunContext<'a, R, Place<NameAttachment>>,
+    context: &RunContext<'a, R, Place<NameAttachment>, AnswersOf<T>>,
     source: &mut S,
     wire: &mut W,
-    mut polling: PollerState<G, PollerArrivals<'a, 'a>>,
+    mut polling: PollerState<G, PollerArrivals<'a, 'a, AnswersOf<T>>>,
     mut others: OtherThreads<Clocks<K, ClockEnd, ClockArrivals<'a>>, G, T>,
     ending: Ending<'a>,
 ) -> Result<Watched<K, T>, RunFault>
@@ -278,25 +285,25 @@ where
     requires ready { AreReady context.now.schedules.now (names_of polling.names) polling.ends.items }
     requires room { IsSome context.now.channel → 511 ≤ vec_capacity polling.ends }
     requires few { context.now.rounds ≤ 2 ^ 48 }
-    requires routes { length (terms_in (came polling.openings.reader)) ≤ 511 }
-    requires names { names_of polling.names ≡ first_names context.now.schedules.now (terms_in (came polling.openings.reader)) }
-    requires opened { AreOpened (came polling.openings.reader) polling.ends.items }
-    requires clocks { others.clocks.ends.items ≡ new_clocks (came others.clocks.arrivals.reader) }
+    requires routes { length (terms_in (arrived polling.openings.reader)) ≤ 511 }
+    requires names { names_of polling.names ≡ first_names context.now.schedules.now (terms_in (arrived polling.openings.reader)) }
+    requires opened { AreOpened (arrived polling.openings.reader) polling.ends.items }
+    requires clocks { others.clocks.ends.items ≡ new_clocks (arrived others.clocks.arrivals.reader) }
     requires places { locks_of others.clocks.arrivals.reader ≡ locks_of polling.openings.reader }
     requires put { (map (λ t. t.of) ending.put.items ≡ take (length ending.put.items) (locks_of polling.openings.reader))
-        × (map (λ t. identity_in t.value.cell) ending.put.items ≡ came polling.openings.reader) }
+        × (map (λ t. identity_in t.value.cell) ending.put.items ≡ arrived polling.openings.reader) }
     requires accounts { (ending.accounts.items ≡ []) × (511 ≤ vec_capacity ending.accounts) }
-    ensures fixed { (IsSome context.now.channel → ⊥) → IfOk result (λ r. RanUnder (IsSome context.now.channel)
-        (class_of (secret_bytes context.now.secret.now)) context.now.schedules.now (terms_in (came polling.entry.openings.reader)) r.rounds
+    ensures fixed { (IsSome context.now.channel → ⊥) → IfOk result (λ r. RanUnder (T.answered AllClose)
+        (class_of (secret_bytes context.now.secret.now)) context.now.schedules.now (terms_in (arrived polling.entry.openings.reader)) r.rounds
         (recorded_by (heard (S.gave source.old) (S.calls source.old)) (carried (W.handed wire.old) (W.attempts wire.old)) (K.gave others.entry.clocks.ticker))
         (recorded_by (heard (S.gave source.new) (S.calls source.new)) (carried (W.handed wire.new) (W.attempts wire.new)) (K.gave r.ticker))
         r.report r.accounts.items) }
-    ensures changing { IsSome context.now.channel → IfOk result (λ r. RanChanging
-        (class_of (secret_bytes context.now.secret.now)) context.now.schedules.now (terms_in (came polling.entry.openings.reader)) r.rounds
+    ensures changing { IsSome context.now.channel → IfOk result (λ r. RanChanging T.answered
+        (class_of (secret_bytes context.now.secret.now)) context.now.schedules.now (terms_in (arrived polling.entry.openings.reader)) r.rounds
         (recorded_by (heard (S.gave source.old) (S.calls source.old)) (carried (W.handed wire.old) (W.attempts wire.old)) (K.gave others.entry.clocks.ticker))
         (recorded_by (heard (S.gave source.new) (S.calls source.new)) (carried (W.handed wire.new) (W.attempts wire.new)) (K.gave r.ticker))
         r.report r.accounts.items) }
-    ensures rounds { IfOk result (λ r. (r.rounds ≤ context.now.rounds) × ((r.rounds ≡ context.now.rounds) ⊎ IsSome context.now.channel)) }
+    ensures rounds { IfOk result (λ r. (r.rounds ≤ context.now.rounds) × ((r.rounds ≡ context.now.rounds) ⊎ T.answered RunEnds)) }
     ensures unread { (result ≡ Err RunFault.OutOfMemory) ⊎ (result ≡ Err RunFault.Thread) → (source.new ≡ source.old) × (wire.new ≡ wire.old) }
 {
     let Some(pumping) = serve_routes(context, source, wire, &mut polling, &mut others) else {
@@ -337,7 +344,7 @@ where
 
 // As `run_with`, over what its threads share and what was prepared: opens the routes.
 fn run_over<'a, R, S: Source, W: Wire, K, G, T>(
-    context: &RunContext<'a, R, Place<NameAttachment>>,
+    context: &RunContext<'a, R, Place<NameAttachment>, AnswersOf<T>>,
     entries: &[Entry],
     source: &mut S,
     wire: &mut W,
@@ -355,17 +362,17 @@ where
     requires names { names_of prepared.names ≡ first_names context.now.schedules.now (map terms_of entries.now) }
     requires accounts { (prepared.accounts.items ≡ []) × (511 ≤ vec_capacity prepared.accounts) }
     requires places { IsSome context.now.channel → length context.now.cells.now ≡ 511 }
-    ensures fixed { (IsSome context.now.channel → ⊥) → IfOk result (λ r. RanUnder (IsSome context.now.channel)
+    ensures fixed { (IsSome context.now.channel → ⊥) → IfOk result (λ r. RanUnder (T.answered AllClose)
         (class_of (secret_bytes context.now.secret.now)) context.now.schedules.now (map terms_of entries.now) r.rounds
         (recorded_by (heard (S.gave source.old) (S.calls source.old)) (carried (W.handed wire.old) (W.attempts wire.old)) (K.gave crew.ticker))
         (recorded_by (heard (S.gave source.new) (S.calls source.new)) (carried (W.handed wire.new) (W.attempts wire.new)) (K.gave r.ticker))
         r.report r.accounts.items) }
-    ensures changing { IsSome context.now.channel → IfOk result (λ r. RanChanging
+    ensures changing { IsSome context.now.channel → IfOk result (λ r. RanChanging T.answered
         (class_of (secret_bytes context.now.secret.now)) context.now.schedules.now (map terms_of entries.now) r.rounds
         (recorded_by (heard (S.gave source.old) (S.calls source.old)) (carried (W.handed wire.old) (W.attempts wire.old)) (K.gave crew.ticker))
         (recorded_by (heard (S.gave source.new) (S.calls source.new)) (carried (W.handed wire.new) (W.attempts wire.new)) (K.gave r.ticker))
         r.report r.accounts.items) }
-    ensures rounds { IfOk result (λ r. (r.rounds ≤ context.now.rounds) × ((r.rounds ≡ context.now.rounds) ⊎ IsSome context.now.channel)) }
+    ensures rounds { IfOk result (λ r. (r.rounds ≤ context.now.rounds) × ((r.rounds ≡ context.now.rounds) ⊎ T.answered RunEnds)) }
     ensures unread { (result ≡ Err RunFault.OutOfMemory) ⊎ (result ≡ Err RunFault.Thread) → (source.new ≡ source.old) × (wire.new ≡ wire.old) }
 {
     let RunContext {
@@ -387,11 +394,7 @@ where
     let Ok(openings) = PollerArrivals::new(alloc, routes, notices, MAX_ROUTES) else {
         return Err(RunFault::OutOfMemory);
     };
-    let Prepared {
-        names,
-        plans,
-        accounts,
-    } = prepared;
+    let Prepared { names, accounts } = prepared;
     let Crew {
         ticker,
         gates,
@@ -401,7 +404,6 @@ where
     let polling = PollerState {
         names,
         ends,
-        plans,
         openings,
         gate: poller,
     };
@@ -436,17 +438,17 @@ where
     requires schedules { length task.schedules.now ≡ length task.entries.now }
     requires workers { (1 ≤ vec_len crew.gates.workers) × (vec_len crew.gates.workers ≤ 16) }
     requires few { task.rounds ≤ 2 ^ 48 }
-    ensures fixed { task.entry.is_watched ≡ false → IfOk result (λ r. RanUnder (task.entry.is_watched ≡ true)
+    ensures fixed { task.entry.is_watched ≡ false → IfOk result (λ r. RanUnder (T.answered AllClose)
         (class_of (secret_bytes task.entry.secret.now)) task.entry.schedules.now (map terms_of task.entry.entries.now) r.rounds
         (recorded_by (heard (S.gave source.old) (S.calls source.old)) (carried (W.handed wire.old) (W.attempts wire.old)) (K.gave crew.ticker))
         (recorded_by (heard (S.gave source.new) (S.calls source.new)) (carried (W.handed wire.new) (W.attempts wire.new)) (K.gave r.ticker))
         r.report r.accounts.items) }
-    ensures changing { task.entry.is_watched ≡ true → IfOk result (λ r. RanChanging
+    ensures changing { task.entry.is_watched ≡ true → IfOk result (λ r. RanChanging T.answered
         (class_of (secret_bytes task.entry.secret.now)) task.entry.schedules.now (map terms_of task.entry.entries.now) r.rounds
         (recorded_by (heard (S.gave source.old) (S.calls source.old)) (carried (W.handed wire.old) (W.attempts wire.old)) (K.gave crew.ticker))
         (recorded_by (heard (S.gave source.new) (S.calls source.new)) (carried (W.handed wire.new) (W.attempts wire.new)) (K.gave r.ticker))
         r.report r.accounts.items) }
-    ensures rounds { IfOk result (λ r. (r.rounds ≤ task.entry.rounds) × ((r.rounds ≡ task.entry.rounds) ⊎ (task.entry.is_watched ≡ true))) }
+    ensures rounds { IfOk result (λ r. (r.rounds ≤ task.entry.rounds) × ((r.rounds ≡ task.entry.rounds) ⊎ T.answered RunEnds)) }
     ensures unread { (result ≡ Err RunFault.OutOfMemory) ⊎ (result ≡ Err RunFault.Thread) → (source.new ≡ source.old) × (wire.new ≡ wire.old) }
 {
     let Task {
@@ -460,7 +462,7 @@ where
         return Err(RunFault::OutOfMemory);
     };
     let workers = crew.gates.workers.len();
-    let Ok(shared) = open_shared(alloc, entries.len(), workers, is_watched) else {
+    let Ok(shared) = open_shared::<AnswersOf<T>>(alloc, entries.len(), workers, is_watched) else {
         return Err(RunFault::OutOfMemory);
     };
     let Shared {
@@ -586,11 +588,11 @@ where
     requires schedules { length schedules.now ≡ length entries.now }
     requires workers { (1 ≤ vec_len gates.workers) × (vec_len gates.workers ≤ 16) }
     requires few { rounds ≤ 2 ^ 48 }
-    ensures ran { IfOk result (λ r. RanChanging (class_of (secret_bytes secret.now)) schedules.now (map terms_of entries.now) r.rounds
+    ensures ran { IfOk result (λ r. RanChanging T.answered (class_of (secret_bytes secret.now)) schedules.now (map terms_of entries.now) r.rounds
         (recorded_by (heard (S.gave source.old) (S.calls source.old)) (carried (W.handed wire.old) (W.attempts wire.old)) (K.gave ticker))
         (recorded_by (heard (S.gave source.new) (S.calls source.new)) (carried (W.handed wire.new) (W.attempts wire.new)) (K.gave r.ticker))
         r.report r.accounts.items) }
-    ensures rounds { IfOk result (λ r. r.rounds ≤ rounds) }
+    ensures rounds { IfOk result (λ r. (r.rounds ≤ rounds) × ((r.rounds ≡ rounds) ⊎ T.answered RunEnds)) }
     ensures unread { (result ≡ Err RunFault.OutOfMemory) ⊎ (result ≡ Err RunFault.Thread) → (source.new ≡ source.old) × (wire.new ≡ wire.old) }
 {
     let task = Task {

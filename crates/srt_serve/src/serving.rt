@@ -8,6 +8,7 @@ ghost use Rattle.srt_poller.specs.Devices.{heard, carried};
 ghost use Rattle.std.specs.Vec.{vec_capacity};
 ghost use Rattle.srt_poller.specs.Openings.{route_reports};
 ghost use Rattle.srt_poller.specs.Pumped.{before, after};
+ghost use Rattle.srt_supervision.specs.Answers.{Answer, AllClose, RunEnds};
 ghost use Rattle.srt_serve.specs.inside.Polled.{AreReady, Polled, AreUntouched};
 
 use crate::arrivals::{RouteHost, RouteNotices};
@@ -19,9 +20,9 @@ use crate::working::work;
 use srt_cookie::Secret;
 use srt_lobby::Names;
 use srt_mailbox::{Gate, Serve};
-use srt_poller::{Ends, Openings, Plans, Pumping, Source, Wire, pump_changing, pump_under};
-use srt_seq::Schedule;
-use srt_supervision::Watch;
+use srt_poller::{Ends, Openings, PollerTask, Pumping, Source, Wire, pump_changing, pump_under};
+use srt_supervision::{Answers, Watch};
+use srt_types::Schedule;
 use srt_wakeups::{ThreadName, Wakeups, name_thread};
 use std::alloc::Global;
 use std::sync::Wait;
@@ -30,7 +31,7 @@ use std::{mem, thread};
 
 /// What the threads of a run use besides what each has for itself.
 #[derive(Drop)]
-pub struct RunContext<'a, R, C> {
+pub struct RunContext<'a, R, C, A: Answers> {
     /// The host, which starts threads.
     pub rt: &'a R,
     /// Allocates what threads need, and copies of datagrams.
@@ -44,11 +45,11 @@ pub struct RunContext<'a, R, C> {
     /// How many of them the run begins with; the others are empty places.
     pub routes: usize,
     /// Notices of the watching thread to the polling one.
-    pub notices: &'a RouteNotices,
+    pub notices: &'a RouteNotices<A>,
     /// Which routes may have work, and whether the run has ended.
     pub wakeups: &'a Wakeups,
     /// Between the polling thread and the watching one; none if the run isn't watched.
-    pub channel: Option<&'a WatcherChannel>,
+    pub channel: Option<&'a WatcherChannel<A>>,
     /// The most rounds of the poller; their number if the run isn't watched.
     pub rounds: u64,
 }
@@ -60,8 +61,6 @@ pub struct PollerState<G: Drop, O: Drop> {
     pub names: Names,
     /// The poller's ends of all routes, in the same order. Room for 511 if the run is watched.
     pub ends: Vec<Ends>,
-    /// Room for what becomes of the schedules if the run is watched.
-    pub plans: Plans,
     /// The routes that are added, and those that are to close, if the run is watched.
     pub openings: O,
     /// The gate through which it serves routes, if it does. `serve_routes` takes it out.
@@ -80,11 +79,12 @@ pub struct OtherThreads<D: Drop, G: Drop, T: Drop> {
 }
 
 // Starts a worker for each gate, and waits until all have ended. If one can't be started, the run ends.
-fn start_workers<R, G, C>(context: &RunContext<R, C>, gates: &mut Vec<G>)
+fn start_workers<R, G, C, A>(context: &RunContext<R, C, A>, gates: &mut Vec<G>)
 where
     R: Threads + Wait + Sync,
     G: Gate + Send + Drop,
     C: Serve + Sync,
+    A: Answers + Sync,
 {
     let RunContext {
         rt,
@@ -112,7 +112,12 @@ where
 }
 
 // Watches until the run has ended, if the run is watched.
-fn watch_over<R: Wait, C: Serve + RouteHost, T: Watch>(context: &RunContext<R, C>, watch: &mut T) {
+fn watch_over<R: Wait, C: Serve + RouteHost, A: Answers, T: Watch>(
+    context: &RunContext<R, C, A>,
+    watch: &mut T,
+)
+    requires { (a : Answer) → T.answered a → A.answered a }
+{
     name_thread(ThreadName::Watch);
     if let Some(channel) = context.channel {
         let changer = Changer {
@@ -126,12 +131,14 @@ fn watch_over<R: Wait, C: Serve + RouteHost, T: Watch>(context: &RunContext<R, C
 }
 
 // Starts the workers, and watches in a thread more if the run is watched. Returns when all have ended.
-fn start_all<R, G, C, T>(context: &RunContext<R, C>, gates: &mut Vec<G>, watch: &mut T)
+fn start_all<R, G, C, A, T>(context: &RunContext<R, C, A>, gates: &mut Vec<G>, watch: &mut T)
 where
     R: Threads + Wait + Sync,
     G: Gate + Send + Drop,
     C: Serve + RouteHost + Sync,
+    A: Answers + Sync,
     T: Watch + Send,
+    requires { (a : Answer) → T.answered a → A.answered a }
 {
     name_thread(ThreadName::Start);
     if context.channel.is_none() {
@@ -140,15 +147,17 @@ where
     }
     let _ = join_mut(
         context.rt,
-        &mut || watch_over(context, watch),
+        &mut ||
+            requires { (a : Answer) → T.answered a → A.answered a }
+        { watch_over(context, watch) },
         &mut || start_workers(context, gates),
     );
 }
 
 // Waits until all threads have arrived, polls, and ends the run. `None` if they don't arrive; then nothing was read.
 #[tactic(auto, unfolding(crate::specs::inside::Polled::AreReady, crate::specs::inside::Polled::Polled, crate::specs::inside::Polled::AreUntouched))]
-fn poll<R: Wait, S: Source, W: Wire, O: Openings + Drop, C: Serve, G: Gate + Drop>(
-    context: &RunContext<R, C>,
+fn poll<R: Wait, S: Source, W: Wire, O: Openings + Drop, C: Serve, G: Gate + Drop, A: Answers>(
+    context: &RunContext<R, C, A>,
     source: &mut S,
     wire: &mut W,
     polling: &mut PollerState<G, O>,
@@ -157,7 +166,8 @@ fn poll<R: Wait, S: Source, W: Wire, O: Openings + Drop, C: Serve, G: Gate + Dro
     requires room { IsSome context.now.channel → 511 ≤ vec_capacity polling.old.ends }
     requires few { context.now.rounds ≤ 2 ^ 48 }
     ensures pumped { IfSome result (λ pumping.
-        Polled (IsSome context.now.channel) (class_of (secret_bytes context.now.secret.now)) context.now.schedules.now context.now.rounds pumping.rounds
+        Polled (IsSome context.now.channel) (A.answered AllClose) (A.answered RunEnds) (class_of (secret_bytes context.now.secret.now))
+        context.now.schedules.now context.now.rounds pumping.rounds
         (route_reports (O.added polling.old.openings) (O.requested polling.old.openings))
         (route_reports (O.added polling.new.openings) (O.requested polling.new.openings))
         (before (names_of polling.old.names) (heard (S.gave source.old) (S.calls source.old))
@@ -174,7 +184,6 @@ fn poll<R: Wait, S: Source, W: Wire, O: Openings + Drop, C: Serve, G: Gate + Dro
         cells,
         wakeups,
         channel,
-        rounds,
         ..
     } = *context;
     if !wakeups.gather(rt) {
@@ -182,19 +191,21 @@ fn poll<R: Wait, S: Source, W: Wire, O: Openings + Drop, C: Serve, G: Gate + Dro
         return None;
     }
     let inline = InlineServer::new(rt, cells, wakeups, channel, polling.gate.take());
+    let task = PollerTask {
+        rt,
+        alloc,
+        secret,
+        schedules,
+        rounds: context.rounds,
+        signals: &inline,
+    };
     let names = &mut polling.names;
     let ends = &mut polling.ends;
     let pumping = match channel {
-        None => pump_under(
-            rt, alloc, secret, names, schedules, source, wire, ends, rounds, &inline,
-        ),
+        None => pump_under(&task, names, ends, source, wire),
         Some(_) => {
-            let plans = &mut polling.plans;
             let openings = &mut polling.openings;
-            pump_changing(
-                rt, alloc, secret, names, schedules, plans, source, wire, ends, rounds, &inline,
-                openings,
-            )
+            pump_changing(&task, names, ends, source, wire, openings)
         }
     };
     wakeups.finish();
@@ -202,8 +213,8 @@ fn poll<R: Wait, S: Source, W: Wire, O: Openings + Drop, C: Serve, G: Gate + Dro
 }
 
 // Ticks in a new thread, and starts the workers and the watching thread in another one. Returns when all have ended.
-fn tick_and_start<R, D, G, C, T>(
-    context: &RunContext<R, C>,
+fn tick_and_start<R, D, G, C, A, T>(
+    context: &RunContext<R, C, A>,
     clocks: &mut D,
     gates: &mut Vec<G>,
     watch: &mut T,
@@ -213,7 +224,9 @@ where
     D: Clockwork + Send + Drop,
     G: Gate + Send + Drop,
     C: Serve + RouteHost + Sync,
+    A: Answers + Sync,
     T: Watch + Send + Drop,
+    requires { (a : Answer) → T.answered a → A.answered a }
     ensures { D.ticked clocks.old clocks.new }
 {
     let _ = join_mut(
@@ -222,14 +235,16 @@ where
             name_thread(ThreadName::Tick);
             clocks.tick(context.rt, context.wakeups)
         },
-        &mut || start_all(context, gates, watch),
+        &mut ||
+            requires { (a : Answer) → T.answered a → A.answered a }
+        { start_all(context, gates, watch) },
     );
 }
 
 /// Starts the workers and the ticking thread, watches in one more if the run is watched, and then polls. All threads have
 /// ended when it returns. `None` if one could not be started, or wasn't running after ten seconds; then nothing was read.
-pub fn serve_routes<R, S: Source, W: Wire, P, O, D, G, C, T>(
-    context: &RunContext<R, C>,
+pub fn serve_routes<R, S: Source, W: Wire, P, O, D, G, C, A, T>(
+    context: &RunContext<R, C, A>,
     source: &mut S,
     wire: &mut W,
     polling: &mut PollerState<P, O>,
@@ -242,12 +257,15 @@ where
     D: Clockwork + Send + Drop,
     G: Gate + Send + Drop,
     C: Serve + RouteHost + Sync,
+    A: Answers + Sync,
     T: Watch + Send + Drop,
+    requires answered { (a : Answer) → T.answered a → A.answered a }
     requires ready { AreReady context.now.schedules.now (names_of polling.old.names) polling.old.ends.items }
     requires room { IsSome context.now.channel → 511 ≤ vec_capacity polling.old.ends }
     requires few { context.now.rounds ≤ 2 ^ 48 }
     ensures pumped { IfSome result (λ pumping.
-        Polled (IsSome context.now.channel) (class_of (secret_bytes context.now.secret.now)) context.now.schedules.now context.now.rounds pumping.rounds
+        Polled (IsSome context.now.channel) (A.answered AllClose) (A.answered RunEnds) (class_of (secret_bytes context.now.secret.now))
+        context.now.schedules.now context.now.rounds pumping.rounds
         (route_reports (O.added polling.old.openings) (O.requested polling.old.openings))
         (route_reports (O.added polling.new.openings) (O.requested polling.new.openings))
         (before (names_of polling.old.names) (heard (S.gave source.old) (S.calls source.old))
@@ -263,7 +281,9 @@ where
     // The polling thread's gate has a separate type, `P`: what both closures capture may share no type parameter.
     let (_, pumping) = join_mut(
         context.rt,
-        &mut || tick_and_start(context, clocks, gates, watch),
+        &mut ||
+            requires { (a : Answer) → T.answered a → A.answered a }
+        { tick_and_start(context, clocks, gates, watch) },
         &mut ||
             requires ready { AreReady context.now.schedules.now (names_of polling.now.names) polling.now.ends.items }
             requires room { IsSome context.now.channel → 511 ≤ vec_capacity polling.now.ends }

@@ -4,13 +4,13 @@ ghost use Rattle.std.specs.Prelude.{◌≡◌, ◌≤◌, List, [], ◌++◌, If
 ghost use Rattle.std.specs.Vec.{vec_capacity};
 ghost use Rattle.srt_mailbox.specs.Cells.{CellIdentity};
 ghost use Rattle.srt_mailbox.specs.Identities.{identity_in};
-ghost use Rattle.srt_mailbox.specs.Places.{came, locks_of};
+ghost use Rattle.srt_mailbox.specs.Places.{arrived, locks_of};
 ghost use Rattle.srt_serve.specs.Settled.{AreJoined, AreSettled};
 
 use crate::arrivals::NameAttachment;
 use srt_mailbox::{Account, ClockEnd, Seat, SeatReader};
 use srt_poller::Ends;
-use srt_seq::limits::MAX_ROUTES;
+use srt_types::product_limits::MAX_ROUTES;
 use std::sync::{OnceToken, Wait};
 
 /// A route could not be settled, since another call had claimed it.
@@ -24,8 +24,8 @@ pub fn began_with<'a>(
     put: &Vec<OnceToken<'a, Seat<NameAttachment>>>,
 ) -> Result<(), Busy>
     requires { map (λ t. t.of) put.now.items ≡ take (length put.now.items) (locks_of routes.now) }
-    ensures began { OnOk result ((more : List CellIdentity) × (came routes.now ≡ map (λ t. identity_in t.value.cell) put.now.items ++ more)) }
-    ensures few { OnOk result (length (came routes.now) ≤ 511) }
+    ensures began { OnOk result ((more : List CellIdentity) × (arrived routes.now ≡ map (λ t. identity_in t.value.cell) put.now.items ++ more)) }
+    ensures few { OnOk result (length (arrived routes.now) ≤ 511) }
 {
     if routes.routes() < put.len() {
         return Err(Busy);
@@ -34,19 +34,19 @@ pub fn began_with<'a>(
         return Err(Busy);
     }
     for r in 0..put.len() {
-        routes.came_to(r, &put[r]);
+        routes.reached(r, &put[r]);
     }
     Ok(())
 }
 
 /// Checks that the ticking thread's reader reached all routes that the polling thread's did, the same at each index. It
 /// may have reached more. If it hasn't reached all, the routes can't be settled.
-pub fn came_to_all<'a>(
+pub fn reached_all<'a>(
     routes: &SeatReader<'a, NameAttachment>,
     arrivals: &SeatReader<'a, NameAttachment>,
 ) -> Result<(), Busy>
     requires { locks_of arrivals.now ≡ locks_of routes.now }
-    ensures { OnOk result ((more : List CellIdentity) × (came arrivals.now ≡ came routes.now ++ more)) }
+    ensures { OnOk result ((more : List CellIdentity) × (arrived arrivals.now ≡ arrived routes.now ++ more)) }
 {
     if arrivals.routes() < routes.routes() {
         return Err(Busy);
@@ -67,9 +67,9 @@ pub fn settle_routes<R: Wait>(
     clocks: Vec<ClockEnd>,
     mut accounts: Vec<Account>,
 ) -> Result<Vec<Account>, Busy>
-    requires joined { AreJoined (came routes.now) ends.items clocks.items }
-    requires room { (accounts.items ≡ []) × (length (came routes.now) ≤ vec_capacity accounts) }
-    ensures { IfOk result (λ done. AreSettled done.items (came routes.now) ends.items clocks.items) }
+    requires joined { AreJoined (arrived routes.now) ends.items clocks.items }
+    requires room { (accounts.items ≡ []) × (length (arrived routes.now) ≤ vec_capacity accounts) }
+    ensures { IfOk result (λ done. AreSettled done.items (arrived routes.now) ends.items clocks.items) }
 {
     let mut ends = ends.into_iter();
     let mut clocks = clocks.into_iter();

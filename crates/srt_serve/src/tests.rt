@@ -2,7 +2,7 @@
 
 ghost use Rattle.std.specs.Prelude.{◌≡◌, ◌<◌, ◌≤◌, ◌^◌, None, map, length};
 ghost use Rattle.std.specs.Vec.{vec_len};
-ghost use Rattle.srt_seq.specs.Terms.{terms_of};
+ghost use Rattle.srt_types.specs.Terms.{terms_of};
 ghost use Rattle.srt_lobby.specs.Opening.{fault_of};
 
 use crate::tests::datagrams::{
@@ -15,7 +15,7 @@ use srt_lobby::Names;
 use srt_mailbox::{ClockEnd, Gate, RouteCell, Serve, Ungated, open_route};
 use srt_poller::{Polled, Read, Report, Sent, Source, Wire};
 use srt_samples::{Difference, Sample, first_difference, shutdown};
-use srt_seq::{Access, Entry, Mode, Peer, Rules, Schedule};
+use srt_types::{Access, Entry, Mode, Peer, Rules, Schedule};
 use srt_wakeups::Wakeups;
 use std::alloc::{AllocError, Global};
 use std::process::Abort;
@@ -74,7 +74,7 @@ struct Meeting {
     /// A thread waited too long.
     is_late: AtomicBool,
     /// The number of datagrams that the watcher was told of, and how many of them a route accepted.
-    told: AtomicU64,
+    reported: AtomicU64,
     accepted: AtomicU64,
     /// The number of replies that the wire took.
     taken: AtomicU64,
@@ -92,7 +92,7 @@ impl Meeting {
                 answered: AtomicBool::new(false),
                 freed: AtomicBool::new(false),
                 is_late: AtomicBool::new(false),
-                told: AtomicU64::new(0),
+                reported: AtomicU64::new(0),
                 accepted: AtomicU64::new(0),
                 taken: AtomicU64::new(0),
                 inside: AtomicU64::new(0),
@@ -151,7 +151,7 @@ enum Again {
     /// Never; but the second wait ends once as many gates were asked as there can be workers.
     Inside,
     /// Once the watcher was told of all datagrams that came, until `ARRIVALS` were accepted: ticks may fill an inbox.
-    Told,
+    Reported,
     /// Never; but the second wait ends once it may.
     Freed,
 }
@@ -163,7 +163,7 @@ struct Callers {
     datagrams: Vec<Vec<u8>>,
     waits: u64,
     given: usize,
-    came: u64,
+    arrived: u64,
     seen: u64,
     quiet: u64,
     again: Again,
@@ -176,7 +176,7 @@ impl Callers {
             datagrams,
             waits: 0,
             given: 0,
-            came: 0,
+            arrived: 0,
             seen: 0,
             quiet: 0,
             again,
@@ -189,8 +189,8 @@ impl Callers {
             Again::Never | Again::Inside | Again::Freed => false,
             Again::InWait(wait) => self.waits == wait,
             Again::Answered => self.is_answered(),
-            Again::Told => {
-                self.meeting.told.load(Ordering::SeqCst) >= self.came
+            Again::Reported => {
+                self.meeting.reported.load(Ordering::SeqCst) >= self.arrived
                     && self.meeting.accepted.load(Ordering::SeqCst) < ARRIVALS
             }
         }
@@ -247,7 +247,7 @@ impl Source for Callers {
         let len = datagram.len().min(2048);
         buffer[..len].copy_from_slice(&datagram.as_slice()[..len]);
         self.given = self.given.saturating_add(1);
-        self.came = self.came.saturating_add(1);
+        self.arrived = self.arrived.saturating_add(1);
         Read::Datagram(peer(), len, MOMENT)
     }
 
@@ -368,7 +368,7 @@ impl Gate for Member {
 
     ghost held = { λ gate. 0 };
 
-    ghost asked = { λ gate. None };
+    ghost requested = { λ gate. None };
 
     fn allows(&mut self, route: usize) -> bool {
         let meeting = &self.meeting;
@@ -398,7 +398,7 @@ impl Gate for Door {
 
     ghost held = { λ gate. 0 };
 
-    ghost asked = { λ gate. None };
+    ghost requested = { λ gate. None };
 
     fn allows(&mut self, _route: usize) -> bool {
         if !self.is_inside {

@@ -4,7 +4,7 @@ ghost use Rattle.std.specs.Prelude.{◌≡◌, ◌<◌, ◌^◌, List, [], ◌�
 ghost use Rattle.srt_serve.specs.Ticks.{WereTicked, Ticked};
 
 use srt_mailbox::ClockEnd;
-use srt_seq::Item;
+use srt_types::Item;
 use srt_wakeups::Wakeups;
 use std::sync::Wait;
 use std::thread;

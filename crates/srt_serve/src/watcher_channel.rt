@@ -6,23 +6,26 @@
 //! of different item types is also refused by the prover (docs/proving-traps.md, "Queues and threads"), so the counts are
 //! in atomics with a flag (`SharedReport`). Nothing here is touched for a packet of an open session.
 
+ghost use Rattle.srt_supervision.specs.Answers.{IsOrdered};
+
+use crate::answers::{ClosesAll, EndsRun};
 use crate::shared_report::SharedReport;
 use crossbeam_queue::ArrayQueue;
-use srt_supervision::{Order, Refusal};
+use srt_supervision::{Answers, Order, Refusal};
 use std::alloc::{AllocError, Global};
 use std::sync::Wait;
-use std::sync::atomic::{AtomicBool, AtomicU64, Ordering};
+use std::sync::atomic::{AtomicIn, AtomicU64, Ordering};
 
 // The most refusals that wait for the watcher, which takes them many times a second.
 const REFUSAL_PLACES: usize = 64;
 
 /// Between the polling thread and the watching one.
 #[derive(Drop)]
-pub struct WatcherChannel {
-    // the order is to close all
-    closes: AtomicBool,
-    // the order is to end
-    ends: AtomicBool,
+pub struct WatcherChannel<A: Answers> {
+    // 1 if the order is to close all
+    closes: AtomicIn<ClosesAll<A>>,
+    // 1 if the order is to end
+    ends: AtomicIn<EndsRun<A>>,
     // the number of socket faults
     faults: AtomicU64,
     refusals: ArrayQueue<Refusal>,
@@ -32,13 +35,13 @@ pub struct WatcherChannel {
     pub report: SharedReport,
 }
 
-impl WatcherChannel {
+impl<A: Answers> WatcherChannel<A> {
     /// The order is to go on, nothing was reported, and the first counts are wanted. Allocates room for 64 refusals; an
     /// error means out of memory.
-    pub fn open(alloc: Global) -> Result<WatcherChannel, AllocError> {
+    pub fn open(alloc: Global) -> Result<WatcherChannel<A>, AllocError> {
         Ok(WatcherChannel {
-            closes: AtomicBool::new(false),
-            ends: AtomicBool::new(false),
+            closes: AtomicIn::new(0),
+            ends: AtomicIn::new(0),
             faults: AtomicU64::new(0),
             refusals: ArrayQueue::new(alloc, REFUSAL_PLACES)?,
             missed: AtomicU64::new(0),
@@ -46,20 +49,24 @@ impl WatcherChannel {
         })
     }
 
-    /// Sets the order. An order to end is final.
-    pub fn set_order(&self, order: Order) {
+    /// Sets the order, which the watcher gave. An order to end is final.
+    pub fn set_order(&self, order: Order)
+        requires { IsOrdered A.answered order }
+    {
         match order {
-            Order::GoOn => self.closes.store(false, Ordering::SeqCst),
-            Order::CloseAll => self.closes.store(true, Ordering::SeqCst),
-            Order::End => self.ends.store(true, Ordering::SeqCst),
+            Order::GoOn => self.closes.store(0, Ordering::SeqCst),
+            Order::CloseAll => self.closes.store(1, Ordering::SeqCst),
+            Order::End => self.ends.store(1, Ordering::SeqCst),
         }
     }
 
-    /// Returns the order.
-    pub fn order(&self) -> Order {
-        if self.ends.load(Ordering::SeqCst) {
+    /// Returns the order. It is to close all, or to end, only if the watcher gave that order.
+    pub fn order(&self) -> Order
+        ensures { IsOrdered A.answered result }
+    {
+        if self.ends.load(Ordering::SeqCst) != 0 {
             Order::End
-        } else if self.closes.load(Ordering::SeqCst) {
+        } else if self.closes.load(Ordering::SeqCst) != 0 {
             Order::CloseAll
         } else {
             Order::GoOn

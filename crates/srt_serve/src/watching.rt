@@ -1,13 +1,17 @@
 //! The watching thread of a run: it shows the routes to a watcher, reports refusals to it, passes its orders to the poller,
 //! and makes its changes of the routes.
 
+ghost use Rattle.srt_supervision.specs.Answers.{Answer};
+
 use crate::arrivals::{NameAttachment, RouteHost, RouteNotices, seat_route};
 use crate::watcher_channel::WatcherChannel;
 use srt_mailbox::{Observer, Seat, Serve};
 use srt_route::Route;
-use srt_seq::Entry;
-use srt_seq::limits::MAX_SESSIONS;
-use srt_supervision::{ChangeFault, ChangeRoutes, Order, Report, RouteChanges, RunStatus, Watch};
+use srt_supervision::{
+    Answers, ChangeFault, ChangeRoutes, Order, Report, RouteChanges, RunStatus, Watch,
+};
+use srt_types::Entry;
+use srt_types::product_limits::MAX_SESSIONS;
 use srt_wakeups::Wakeups;
 use std::alloc::Global;
 use std::sync::Wait;
@@ -22,18 +26,18 @@ const QUIET_CHECKS: u32 = 2;
 
 /// Makes the changes that a watcher requests.
 #[derive(Drop)]
-pub struct Changer<'a, C> {
+pub struct Changer<'a, C, A: Answers> {
     /// Allocates the memory of the routes that open.
     pub alloc: Global,
     /// The places of all routes, the taken ones first.
     pub places: &'a [C],
     /// Notifies the polling thread.
-    pub notices: &'a RouteNotices,
+    pub notices: &'a RouteNotices<A>,
     /// The number of places that are taken.
     pub routes: usize,
 }
 
-impl<C: RouteHost> Changer<'_, C> {
+impl<C: RouteHost, A: Answers> Changer<'_, C, A> {
     // Opens all routes of a change, without a place.
     fn open_all(&self, entries: &[Entry]) -> Result<Vec<Seat<NameAttachment>>, ChangeFault> {
         let left = self.places.len().saturating_sub(self.routes);
@@ -69,7 +73,9 @@ impl<C: RouteHost> Changer<'_, C> {
     }
 }
 
-impl<C: RouteHost> ChangeRoutes for Changer<'_, C> {
+impl<C: RouteHost, A: Answers> ChangeRoutes for Changer<'_, C, A> {
+    ghost requires_of = { λ a. A.answered a };
+
     // Allocates all memory first, then puts the routes into their places, and then notifies the polling thread.
     fn change(&mut self, changes: RouteChanges) -> Result<usize, ChangeFault> {
         let seats = self.open_all(&changes.opens)?;
@@ -135,7 +141,11 @@ fn show_all<R: Wait, C: Serve, T: Watch>(rt: &R, cells: &[C], watch: &mut T, loo
 }
 
 // Reports the refusals that wait to the watcher.
-fn report_refusals<R: Wait, T: Watch>(rt: &R, channel: &WatcherChannel, watch: &mut T) {
+fn report_refusals<R: Wait, A: Answers, T: Watch>(
+    rt: &R,
+    channel: &WatcherChannel<A>,
+    watch: &mut T,
+) {
     for _ in 0..REFUSALS_PER_REST {
         let Some(refusal) = channel.take(rt) else {
             return;
@@ -156,7 +166,7 @@ struct Known {
 
 impl Known {
     // Takes the counts that were left since, if there are any.
-    fn take(&mut self, channel: &WatcherChannel) {
+    fn take<A: Answers>(&mut self, channel: &WatcherChannel<A>) {
         if let Some(counts) = channel.report.take() {
             self.counts = counts;
             self.reports = self.reports.saturating_add(1);
@@ -164,7 +174,7 @@ impl Known {
     }
 
     // Returns what the watcher gets before its next rest.
-    fn status(&self, channel: &WatcherChannel) -> RunStatus {
+    fn status<A: Answers>(&self, channel: &WatcherChannel<A>) -> RunStatus {
         RunStatus {
             is_quiet: self.quiet >= QUIET_CHECKS,
             faults: channel.faults(),
@@ -176,14 +186,16 @@ impl Known {
 }
 
 // Lets the watcher rest once, and then executes its order and its changes.
-fn watch_once<R: Wait, C: Serve + RouteHost, T: Watch>(
+fn watch_once<R: Wait, C: Serve + RouteHost, A: Answers, T: Watch>(
     rt: &R,
-    changer: &mut Changer<'_, C>,
+    changer: &mut Changer<'_, C, A>,
     wakeups: &Wakeups,
-    channel: &WatcherChannel,
+    channel: &WatcherChannel<A>,
     watch: &mut T,
     known: &mut Known,
-) {
+)
+    requires { (a : Answer) → T.answered a → A.answered a }
+{
     known.take(channel);
     let order = watch.next(known.status(channel));
     channel.set_order(order);
@@ -202,14 +214,17 @@ fn watch_once<R: Wait, C: Serve + RouteHost, T: Watch>(
 }
 
 /// Watches until the run has ended. After each rest of the watcher the poller gets its order, the refusals that wait are
-/// reported, the watcher changes the routes, and the routes are shown if it wants them.
-pub fn watch_routes<R: Wait, C: Serve + RouteHost, T: Watch>(
+/// reported, the watcher changes the routes, and the routes are shown if it wants them. What is known of the watcher's
+/// answers is known of those that the polling thread gets.
+pub fn watch_routes<R: Wait, C: Serve + RouteHost, A: Answers, T: Watch>(
     rt: &R,
-    mut changer: Changer<'_, C>,
+    mut changer: Changer<'_, C, A>,
     wakeups: &Wakeups,
-    channel: &WatcherChannel,
+    channel: &WatcherChannel<A>,
     watch: &mut T,
-) {
+)
+    requires { (a : Answer) → T.answered a → A.answered a }
+{
     wakeups.arrive();
     let mut known = Known {
         counts: Report::NOTHING,
@@ -227,10 +242,10 @@ pub fn watch_routes<R: Wait, C: Serve + RouteHost, T: Watch>(
 
 /// Shows each route once more, and reports the remaining refusals, if the run was watched. For the time after all threads
 /// have ended.
-pub fn watch_last<R: Wait, C: Serve, T: Watch>(
+pub fn watch_last<R: Wait, C: Serve, A: Answers, T: Watch>(
     rt: &R,
     cells: &[C],
-    channel: Option<&WatcherChannel>,
+    channel: Option<&WatcherChannel<A>>,
     watch: &mut T,
 ) {
     if let Some(channel) = channel {

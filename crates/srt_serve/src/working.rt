@@ -3,10 +3,10 @@
 ghost use Rattle.std.specs.Prelude.{◌≡◌, ◌≢◌, ◌≤◌, true, false, Some, None};
 ghost use Rattle.srt_mailbox.specs.Counts.{Grew};
 ghost use Rattle.srt_mailbox.specs.declared.gates.Served.TheVariants.{Turned as TurnedAs, GateRefused, ClaimedElsewhere};
-ghost use Rattle.srt_seq.specs.declared.shared.Turned.TheVariants.{Idle};
+ghost use Rattle.srt_types.specs.declared.shared.Turned.TheVariants.{Idle};
 
 use srt_mailbox::{Gate, Serve, Served, Visit};
-use srt_seq::Turned;
+use srt_types::Turned;
 use srt_wakeups::Wakeups;
 use srt_wakeups::pacing::{MANY_REPLIES, THIN_ROUTES, THIN_TURNS, WORKER_TURNS};
 use std::sync::Wait;

@@ -1,8 +1,8 @@
 //! A refused conclusion, as it is reported to a watcher.
 
 use arrayvec::ArrayVec;
-use srt_seq::limits::MAX_NAME;
-use srt_seq::{NotAdmitted, Peer};
+use srt_types::product_limits::MAX_NAME;
+use srt_types::{NotAdmitted, Peer};
 
 /// A conclusion that was refused.
 #[derive(Drop)]

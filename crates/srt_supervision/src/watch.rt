@@ -26,11 +26,23 @@ pub struct RunStatus {
     pub reports: u64,
 }
 
+/// What is known of each answer of a watcher. A run closes all, ends early, and opens and closes routes only by answers of
+/// which this is known (`srt_serve::run_until`).
+pub trait Answers {
+    ghost use Rattle.srt_supervision.specs.Answers.{Answer};
+
+    /// What is known once this answer was given. It may be nothing.
+    ghost answered: { Answer → Type 0 };
+}
+
 /// The watcher of a run, in a thread of its own.
-pub trait Watch {
+pub trait Watch: Answers {
+    ghost use Rattle.srt_supervision.specs.Answers.{Answer, IsOrdered};
+
     /// Rests for some milliseconds, and returns the order that the poller has from then on. `End` is final: whatever a
     /// later call returns, the run ends. A run doesn't end before this call returns.
-    fn next(&mut self, status: RunStatus) -> Order;
+    fn next(&mut self, status: RunStatus) -> Order
+        ensures { IsOrdered Self.answered result };
 
     /// Whether the routes are to be shown now. Called after each rest.
     fn wants_routes(&mut self) -> bool;
@@ -44,12 +56,17 @@ pub trait Watch {
 
     /// Lets the watcher open and close routes. Called after each rest, but not once the poller's order is to close all or
     /// to end.
-    fn change_routes<C: ChangeRoutes>(&mut self, run: &mut C);
+    fn change_routes<C: ChangeRoutes>(&mut self, run: &mut C)
+        requires { (a : Answer) → Self.answered a → C.requires_of a };
 }
 
 /// A watcher that changes nothing and observes nothing, for runs that aren't watched.
 #[derive(Drop)]
 pub struct NoWatcher;
+
+impl Answers for NoWatcher {
+    ghost answered = { λ a. ⊥ };
+}
 
 impl Watch for NoWatcher {
     fn next(&mut self, _status: RunStatus) -> Order {

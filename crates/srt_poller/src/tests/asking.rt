@@ -4,13 +4,13 @@ use super::peer;
 use crate::{Hints, InlineService, Order, Orders, PollerObserver, Report, Signals};
 use srt_lobby::Names;
 use srt_samples::{Difference, first_difference};
-use srt_seq::Peer;
+use srt_types::Peer;
 use std::alloc::Global;
 use std::cell::Cell;
 
 /// What a poller told in one call: the route's index for a reply, and what it told of a peer with port 5000.
 #[derive(Drop)]
-pub struct Told {
+pub struct Reported {
     pub route: usize,
     pub datagram: Vec<u8>,
     pub answer: Vec<u8>,
@@ -19,12 +19,12 @@ pub struct Told {
 /// Asks for these, in turn, and then to go on. All outboxes have hints.
 #[derive(Drop)]
 pub struct Asking<'a> {
-    asked: &'a [Order],
+    requested: &'a [Order],
     at: Cell<usize>,
     /// What is to be told, in this order: replies have no datagram, and answers no route.
-    expected: Vec<Told>,
+    expected: Vec<Reported>,
     /// The number of calls of `answered` and `replied`, and of those that told just what was expected.
-    pub told: Cell<usize>,
+    pub reported: Cell<usize>,
     pub right: Cell<usize>,
     /// Where the first datagram or answer that was not as expected differs from what was.
     pub difference: Cell<Option<Difference>>,
@@ -36,12 +36,12 @@ pub struct Asking<'a> {
 }
 
 impl<'a> Asking<'a> {
-    pub fn new(asked: &'a [Order], expected: Vec<Told>) -> Asking<'a> {
+    pub fn new(requested: &'a [Order], expected: Vec<Reported>) -> Asking<'a> {
         Asking {
-            asked,
+            requested,
             at: Cell::new(0),
             expected,
-            told: Cell::new(0),
+            reported: Cell::new(0),
             right: Cell::new(0),
             difference: Cell::new(None),
             failed: Cell::new(0),
@@ -51,8 +51,8 @@ impl<'a> Asking<'a> {
     }
 
     /// Asks so, and expects to be told nothing of answers and replies.
-    pub fn of(alloc: Global, asked: &'a [Order]) -> Asking<'a> {
-        Asking::new(asked, Vec::new(alloc))
+    pub fn of(alloc: Global, requested: &'a [Order]) -> Asking<'a> {
+        Asking::new(requested, Vec::new(alloc))
     }
 
     fn compare(&self, actual: &[u8], wanted: &[u8]) {
@@ -62,17 +62,17 @@ impl<'a> Asking<'a> {
     }
 
     fn note(&self, route: usize, to: Peer, datagram: &[u8], answer: &[u8]) {
-        let at = self.told.get();
-        self.told.set(at.wrapping_add(1));
-        let Some(told) = self.expected.get(at) else {
+        let at = self.reported.get();
+        self.reported.set(at.wrapping_add(1));
+        let Some(reported) = self.expected.get(at) else {
             return;
         };
-        self.compare(datagram, &told.datagram);
-        self.compare(answer, &told.answer);
-        let is_right = told.route == route
+        self.compare(datagram, &reported.datagram);
+        self.compare(answer, &reported.answer);
+        let is_right = reported.route == route
             && to == peer(5000)
-            && told.datagram.as_slice() == datagram
-            && told.answer.as_slice() == answer;
+            && reported.datagram.as_slice() == datagram
+            && reported.answer.as_slice() == answer;
         if is_right {
             self.right.set(self.right.get().wrapping_add(1));
         }
@@ -89,7 +89,7 @@ impl Orders for Asking<'_> {
     fn order(&self) -> Order {
         let at = self.at.get();
         self.at.set(at.wrapping_add(1));
-        self.asked.get(at).copied().unwrap_or(Order::GoOn)
+        self.requested.get(at).copied().unwrap_or(Order::GoOn)
     }
 }
 

@@ -9,17 +9,17 @@ use super::datagrams::{
     third_answer,
 };
 use super::{ALWAYS, ROUTES, SECRET, Serving, assert_handed, comes, entry, named, opened};
-use crate::changing_rounds::pump_changing_from;
-use crate::poller::Poller;
+use crate::rounds::PollerRounds;
+use crate::tables::ChangingRoutes;
 use crate::{
-    Ends, Newcomer, Openings, Order, Plans, Report, SourceStep, Unchanged, WireScript,
+    AddedRoute, Ends, Openings, Order, PollerTask, Report, SourceStep, Unchanged, WireScript,
     pump_changing,
 };
 use srt_cookie::Secret;
 use srt_lobby::NewName;
 use srt_mailbox::{RouteCell, open_route};
 use srt_samples::Block;
-use srt_seq::Mode;
+use srt_types::Mode;
 use std::alloc::Global;
 use std::cell::Cell;
 use std::process::Abort;
@@ -30,11 +30,14 @@ const ON: Order = Order::GoOn;
 
 const CLOSE: Order = Order::CloseAll;
 
-/// A route comes before a round, and routes are asked to close before others, in the order of these.
+/// A route comes before a round, another one of its name later, and routes are asked to close before others, in the order of these.
 #[derive(Drop)]
 struct Changes<'a> {
-    newcomer: Option<Newcomer>,
+    newcomer: Option<AddedRoute>,
     comes_in: u64,
+    // the one that comes later, if it does
+    another: Option<AddedRoute>,
+    comes_again: Option<u64>,
     closings: &'a [(u64, usize)],
     closed: usize,
     // the number of calls of `has_changes`: one for each round
@@ -52,18 +55,22 @@ impl<'a> Openings for Changes<'a> {
         let round = self.rounds.get();
         self.rounds.set(round.saturating_add(1));
         let comes = self.newcomer.is_some() && self.comes_in == round;
+        let again = self.another.is_some() && self.comes_again == Some(round);
         let closes = match self.closings.get(self.closed) {
             Some((in_round, _)) => *in_round == round,
             None => false,
         };
-        comes || closes
+        comes || again || closes
     }
 
-    fn next(&mut self) -> Option<Newcomer> {
-        if self.rounds.get() == self.comes_in.saturating_add(1) {
-            self.newcomer.take()
-        } else {
-            None
+    fn next(&mut self) -> Option<AddedRoute> {
+        let next = self.rounds.get();
+        if next == self.comes_in.saturating_add(1) {
+            return self.newcomer.take();
+        }
+        match self.comes_again {
+            Some(round) if next == round.saturating_add(1) => self.another.take(),
+            _ => None,
         }
     }
 
@@ -90,6 +97,8 @@ struct Play<'a> {
     name: &'a str,
     /// It comes before this round, counted from the first.
     comes_in: u64,
+    /// A fourth route of this name comes before this round, if it does.
+    comes_again: Option<u64>,
     /// The routes that are asked to close, each before this round.
     closings: &'a [(u64, usize)],
     /// The numbers of conclusions that come in each round, one after the other.
@@ -97,7 +106,7 @@ struct Play<'a> {
     /// What they ask for.
     blocks: &'a [Block<'a>; 2],
     /// What the poller is asked.
-    asked: &'a [Order],
+    requested: &'a [Order],
 }
 
 /// The ends of the two routes, with room for 511.
@@ -110,13 +119,13 @@ fn with_room(alloc: Global, first: Ends, second: Ends) -> Result<Vec<Ends>, Fail
     Ok(ends)
 }
 
-/// The route that comes, and its cell.
-fn coming(alloc: Global, name: &str) -> Result<(Newcomer, RouteCell), Fail> {
+/// A route that comes, with this index, and its cell.
+fn coming(alloc: Global, name: &str, index: usize) -> Result<(AddedRoute, RouteCell), Fail> {
     let entry = entry(alloc, &(name, Mode::Live, 1024))?;
-    let Ok((ingress, _, cell, drain)) = open_route(alloc, &entry, 2) else {
+    let Ok((ingress, _, cell, drain)) = open_route(alloc, &entry, index) else {
         return Err(Fail::from("the route opens"));
     };
-    let newcomer = Newcomer {
+    let newcomer = AddedRoute {
         name: NewName::of(alloc, &entry)?,
         ends: Ends { ingress, drain },
     };
@@ -155,38 +164,39 @@ fn assert_changed(
     let (studio, studio_cell) = opened(alloc, 0, 16)?;
     let (files, files_cell) = opened(alloc, 1, 16)?;
     let mut ends = with_room(alloc, studio, files)?;
-    let (newcomer, cell) = coming(alloc, play.name)?;
-    let cells = [studio_cell, files_cell, cell];
+    let (newcomer, cell) = coming(alloc, play.name, 2)?;
+    let (another, other_cell) = coming(alloc, play.name, 3)?;
+    let cells = [studio_cell, files_cell, cell, other_cell];
     let mut openings = Changes {
         newcomer: Some(newcomer),
         comes_in: play.comes_in,
+        another: Some(another),
+        comes_again: play.comes_again,
         closings: play.closings,
         closed: 0,
         rounds: Cell::new(0),
     };
     let mut source = Serving::new(rt, &cells, steps(alloc, &play)?);
     let mut wire = WireScript::new(alloc, Vec::new(alloc));
-    let asking = Asking::of(alloc, play.asked);
-    let mut plans = Plans::new(alloc)?;
-    plans.start(&[ALWAYS; 2]);
-    let mut poller = Poller::new(alloc);
-    let made = pump_changing_from(
+    let asking = Asking::of(alloc, play.requested);
+    let secret = Secret::new(SECRET);
+    let task = PollerTask {
         rt,
         alloc,
-        &Secret::new(SECRET),
-        &mut names,
-        &mut source,
-        &mut wire,
-        &mut ends,
-        &mut plans,
-        &mut poller,
-        play.first,
-        6,
-        &asking,
-        &mut openings,
-    );
+        secret: &secret,
+        schedules: &[ALWAYS; 2],
+        rounds: 6,
+        signals: &asking,
+    };
+    let mut rounds = PollerRounds::new(alloc, &names, &[ALWAYS; 2]);
+    rounds.next = play.first;
+    let mut table = ChangingRoutes {
+        ends: &mut ends,
+        openings: &mut openings,
+    };
+    let made = rounds.make(&task, &mut table, &mut names, &mut source, &mut wire);
     assert_eq!(rt; made, 6);
-    assert_eq!(rt; poller.report(), wanted);
+    assert_eq!(rt; rounds.poller.report(), wanted);
     assert_eq!(rt; source.applied, applied);
     Ok(wire)
 }
@@ -196,10 +206,11 @@ const CAMERA_COMES: Play<'static> = Play {
     first: 0,
     name: "camera",
     comes_in: 2,
+    comes_again: None,
     closings: &[],
     conclusions: &[1, 1, 1, 1],
     blocks: &CAMERA,
-    asked: &[],
+    requested: &[],
 };
 
 #[test]
@@ -284,10 +295,11 @@ const USED_AGAIN: Play<'static> = Play {
     first: 0,
     name: "studio",
     comes_in: 1,
+    comes_again: None,
     closings: &[(2, 0)],
     conclusions: &[1; 6],
     blocks: &STUDIO,
-    asked: &[],
+    requested: &[],
 };
 
 #[test]
@@ -310,6 +322,38 @@ fn a_name_is_used_again_once_its_route_has_closed(rt: HostRuntime) -> Result<(),
             early_shutdown_of(1),
             third_answer(1),
             third_answer(1),
+        ],
+    )
+}
+
+/// A fourth route of the same name comes before round 3, in which the third one opens. That one is asked to close before round 4,
+/// and is hidden in it: so the fourth one opens in round 5.
+#[test]
+fn a_name_is_used_again_twice(rt: HostRuntime) -> Result<(), Fail> {
+    let play = Play {
+        comes_again: Some(3),
+        closings: &[(2, 0), (4, 2)],
+        ..USED_AGAIN
+    };
+    let wanted = Report {
+        read: 6,
+        answered: 2,
+        accepted: 4,
+        sent: 7,
+        ..Report::NOTHING
+    };
+    let wire = assert_changed(&rt, play, wanted, 5)?;
+    assert_handed(
+        &rt,
+        &wire,
+        &[
+            publisher_answer(1),
+            hidden_refusal(1),
+            publisher_answer(1),
+            early_shutdown_of(1),
+            hidden_refusal(1),
+            third_answer(1),
+            early_shutdown_of(1),
         ],
     )
 }
@@ -350,7 +394,7 @@ fn a_round_that_closes_all_opens_no_route_that_comes(rt: HostRuntime) -> Result<
     let play = Play {
         comes_in: 1,
         conclusions: &[1; 6],
-        asked: &[ON, CLOSE, CLOSE],
+        requested: &[ON, CLOSE, CLOSE],
         ..CAMERA_COMES
     };
     let wanted = Report {
@@ -391,18 +435,22 @@ fn a_run_without_changes_is_as_before(rt: HostRuntime) -> Result<(), Fail> {
     };
     let mut source = Serving::new(&rt, &cells, steps(alloc, &play)?);
     let mut wire = WireScript::new(alloc, Vec::new(alloc));
-    let pumping = pump_changing(
-        &rt,
+    let secret = Secret::new(SECRET);
+    let asking = Asking::of(alloc, &[]);
+    let task = PollerTask {
+        rt: &rt,
         alloc,
-        &Secret::new(SECRET),
+        secret: &secret,
+        schedules: &[ALWAYS; 2],
+        rounds: 6,
+        signals: &asking,
+    };
+    let pumping = pump_changing(
+        &task,
         &mut names,
-        &[ALWAYS; 2],
-        &mut Plans::new(alloc)?,
+        &mut ends,
         &mut source,
         &mut wire,
-        &mut ends,
-        6,
-        &Asking::of(alloc, &[]),
         &mut Unchanged,
     );
     assert_eq!(&rt; pumping.rounds, 6);

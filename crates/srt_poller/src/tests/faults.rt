@@ -32,7 +32,7 @@ enum Fault {
 struct Outcome {
     report: Report,
     /// How often a failure was told.
-    told: u64,
+    reported: u64,
     source: u64,
     wire: u64,
     handed: u32,
@@ -126,7 +126,7 @@ fn played(rt: &(impl AllocGlobal + Wait), fault: Fault) -> Result<Outcome, Fail>
     }
     Ok(Outcome {
         report: pumping.report,
-        told: asking.failed.get(),
+        reported: asking.failed.get(),
         source: source.failures(),
         wire: wire.failures(),
         handed,
@@ -157,7 +157,7 @@ fn wanted(fault: Fault, handed: u32) -> Outcome {
     };
     Outcome {
         report,
-        told: report.faults,
+        reported: report.faults,
         source,
         wire,
         handed,
@@ -173,7 +173,7 @@ fn assert_played(
     let found = played(rt, fault)?;
     let expected = wanted(fault, handed);
     assert_eq!(rt; found.report, expected.report);
-    assert_eq!(rt; found.told, expected.told);
+    assert_eq!(rt; found.reported, expected.reported);
     assert_eq!(rt; found.source, expected.source);
     assert_eq!(rt; found.wire, expected.wire);
     assert_eq!(rt; found.handed, expected.handed);

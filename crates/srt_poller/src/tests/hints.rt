@@ -12,7 +12,7 @@ use crate::{
     SourceScript, WireScript,
 };
 use srt_lobby::Names;
-use srt_seq::Peer;
+use srt_types::Peer;
 use std::alloc::Global;
 use std::process::Abort;
 use std::sync::Wait;

@@ -4,12 +4,11 @@
 use super::datagrams::hidden_refusal;
 use super::rounds::{AGAIN, Coming, LATER, MANY_CONCLUSIONS, script};
 use super::{ALWAYS, ROUTES, SECRET, Serving, assert_handed, entry, named, scheduled};
-use crate::poller::Poller;
-use crate::pumping::pump_from;
-use crate::schedule::RouteSchedules;
-use crate::{Report, Unsignalled, WireScript};
+use crate::rounds::PollerRounds;
+use crate::tables::FixedRoutes;
+use crate::{PollerTask, Report, Unsignalled, WireScript};
 use srt_cookie::Secret;
-use srt_seq::Schedule;
+use srt_types::Schedule;
 use std::alloc::Global;
 use std::process::Abort;
 use std::sync::Wait;
@@ -47,24 +46,23 @@ fn assert_late(
     let mut routes = scheduled(alloc, schedules)?;
     let mut wire = WireScript::new(alloc, Vec::new(alloc));
     let mut source = Serving::new(rt, &routes.cells, script(alloc, comings)?);
-    let mut route_schedules = RouteSchedules::new(&schedules);
-    let mut poller = Poller::new(alloc);
-    let made = pump_from(
+    let secret = Secret::new(SECRET);
+    let task = PollerTask {
         rt,
         alloc,
-        &Secret::new(SECRET),
-        &mut names,
-        &mut source,
-        &mut wire,
-        &mut routes.ends,
-        &mut route_schedules,
-        &mut poller,
-        FIRST,
-        6,
-        &Unsignalled,
-    );
+        secret: &secret,
+        schedules: &schedules,
+        rounds: 6,
+        signals: &Unsignalled,
+    };
+    let mut rounds = PollerRounds::new(alloc, &names, &schedules);
+    rounds.next = FIRST;
+    let mut table = FixedRoutes {
+        ends: &mut routes.ends,
+    };
+    let made = rounds.make(&task, &mut table, &mut names, &mut source, &mut wire);
     assert_eq!(rt; made, 6);
-    assert_eq!(rt; poller.report(), wanted);
+    assert_eq!(rt; rounds.poller.report(), wanted);
     assert_eq!(rt; source.applied, applied);
     Ok(wire)
 }

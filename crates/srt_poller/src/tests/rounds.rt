@@ -7,7 +7,7 @@ use super::datagrams::{
 use super::{ALWAYS, Serving, assert_handed, peer, pumped, scheduled};
 use crate::{Report, ScriptDatagram, SourceStep, WireScript};
 use srt_samples::Sample;
-use srt_seq::Schedule;
+use srt_types::Schedule;
 use std::alloc::Global;
 use std::process::Abort;
 use std::sync::Wait;

@@ -9,7 +9,7 @@ use super::rounds::{
 };
 use super::{ALWAYS, Serving, assert_handed, comes, open_routes, pumped_under, scheduled};
 use crate::{Order, Pumping, Report, SourceScript, SourceStep, WireScript};
-use srt_seq::Schedule;
+use srt_types::Schedule;
 use std::alloc::Global;
 use std::process::Abort;
 use std::sync::Wait;
@@ -57,12 +57,12 @@ fn pumped_within(
 fn assert_made(
     rt: &(impl AllocGlobal + Wait + Abort),
     rounds: u64,
-    asked: &[Order],
+    requested: &[Order],
     made: u64,
 ) -> Result<(), Fail>
     requires { rounds ≤ 2 ^ 48 }
 {
-    let pumping = pumped_within(rt, rounds, &Asking::of(rt.alloc(), asked))?;
+    let pumping = pumped_within(rt, rounds, &Asking::of(rt.alloc(), requested))?;
     assert_eq!(rt; pumping.rounds, made);
     assert_eq!(rt;
         pumping.report,
@@ -84,16 +84,16 @@ fn rounds_end_once_the_signals_say_so(rt: HostRuntime) -> Result<(), Fail> {
 }
 
 /// Asserts that the counts are told so often in at most this many rounds, and the last time with this many datagrams.
-fn assert_counts_told(
+fn assert_counts_reported(
     rt: &(impl AllocGlobal + Wait + Abort),
     rounds: u64,
-    asked: &[Order],
+    requested: &[Order],
     reports: u64,
     read: u64,
 ) -> Result<(), Fail>
     requires { rounds ≤ 2 ^ 48 }
 {
-    let asking = Asking::of(rt.alloc(), asked);
+    let asking = Asking::of(rt.alloc(), requested);
     let _ = pumped_within(rt, rounds, &asking)?;
     assert_eq!(rt; asking.reports.get(), reports);
     assert_eq!(rt;
@@ -109,10 +109,10 @@ fn assert_counts_told(
 
 /// A round that isn't made has its counts told too.
 #[test]
-fn the_counts_are_told_before_each_round(rt: HostRuntime) -> Result<(), Fail> {
-    assert_counts_told(&rt, 9, &[END], 1, 0)?;
-    assert_counts_told(&rt, 9, &[ON, ON, END], 3, 2)?;
-    assert_counts_told(&rt, 3, &[], 3, 2)
+fn the_counts_are_reported_before_each_round(rt: HostRuntime) -> Result<(), Fail> {
+    assert_counts_reported(&rt, 9, &[END], 1, 0)?;
+    assert_counts_reported(&rt, 9, &[ON, ON, END], 3, 2)?;
+    assert_counts_reported(&rt, 3, &[], 3, 2)
 }
 
 /// All routes are closed in the second round: its conclusion is answered by the lobby, and no third one is made.
@@ -136,11 +136,11 @@ fn rounds_end_after_one_that_closes_all(rt: HostRuntime) -> Result<(), Fail> {
 
 /// Asserts the report of six rounds in which these come and the poller is asked for these, and the number of items that
 /// were applied to the routes, of which the first has this schedule. Returns the wire.
-fn assert_asked(
+fn assert_requested(
     rt: &(impl AllocGlobal + Wait + Abort),
     first: Schedule,
     comings: &[Coming],
-    asked: &[Order],
+    requested: &[Order],
     wanted: Report,
     applied: u32,
 ) -> Result<WireScript, Fail> {
@@ -149,7 +149,7 @@ fn assert_asked(
     let mut routes = scheduled(alloc, schedules)?;
     let mut wire = WireScript::new(alloc, Vec::new(alloc));
     let mut source = Serving::new(rt, &routes.cells, script(alloc, comings)?);
-    let asking = Asking::of(alloc, asked);
+    let asking = Asking::of(alloc, requested);
     let ends = &mut routes.ends;
     let pumping = pumped_under(rt, schedules, ends, &mut source, &mut wire, 6, &asking)?;
     assert_eq!(rt; pumping.rounds, 6);
@@ -170,8 +170,8 @@ fn a_round_that_closes_all_closes_each_shown_route(rt: HostRuntime) -> Result<()
         sent: 6,
         ..Report::NOTHING
     };
-    let asked = [ON, ON, CLOSE, CLOSE, CLOSE, CLOSE];
-    let wire = assert_asked(&rt, ALWAYS, &BOTH_CONCLUSIONS, &asked, wanted, 4)?;
+    let requested = [ON, ON, CLOSE, CLOSE, CLOSE, CLOSE];
+    let wire = assert_requested(&rt, ALWAYS, &BOTH_CONCLUSIONS, &requested, wanted, 4)?;
     assert_handed(&rt, &wire, &both_ended())
 }
 
@@ -187,8 +187,8 @@ fn a_route_whose_inbox_is_full_is_closed_in_the_next_round(rt: HostRuntime) -> R
         sent: 19,
         ..Report::NOTHING
     };
-    let asked = [ON, CLOSE, CLOSE, CLOSE];
-    let _ = assert_asked(&rt, ALWAYS, &MANY_CONCLUSIONS, &asked, wanted, 19)?;
+    let requested = [ON, CLOSE, CLOSE, CLOSE];
+    let _ = assert_requested(&rt, ALWAYS, &MANY_CONCLUSIONS, &requested, wanted, 19)?;
     Ok(())
 }
 
@@ -203,7 +203,7 @@ fn a_route_stays_open_if_its_inbox_was_full_and_no_more_is_asked(
         sent: 18,
         ..Report::NOTHING
     };
-    let _ = assert_asked(&rt, ALWAYS, &MANY_CONCLUSIONS, &[ON, CLOSE], wanted, 19)?;
+    let _ = assert_requested(&rt, ALWAYS, &MANY_CONCLUSIONS, &[ON, CLOSE], wanted, 19)?;
     Ok(())
 }
 
@@ -224,7 +224,7 @@ fn a_round_that_closes_all_opens_none_and_offers_none_to_a_hidden_route(
         sent: 4,
         ..Report::NOTHING
     };
-    let asked = [ON, CLOSE, CLOSE, CLOSE];
-    let wire = assert_asked(&rt, late, &FOUR_CONCLUSIONS, &asked, wanted, 1)?;
+    let requested = [ON, CLOSE, CLOSE, CLOSE];
+    let wire = assert_requested(&rt, late, &FOUR_CONCLUSIONS, &requested, wanted, 1)?;
     assert_handed(&rt, &wire, &[hidden_refusal(1); 4])
 }

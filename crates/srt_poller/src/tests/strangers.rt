@@ -5,7 +5,7 @@ use super::{ALWAYS, ROUTES, SECRET, comes, entry, named, open_routes};
 use crate::{Report, ScriptDatagram, SourceScript, SourceStep, WireScript, pump};
 use srt_cookie::Secret;
 use srt_samples::shutdown;
-use srt_seq::{Access, Entry, Network, Peer, RoleAccess};
+use srt_types::{Access, Entry, Network, Peer, RoleAccess};
 use std::alloc::Global;
 use std::process::Abort;
 use std::sync::Wait;

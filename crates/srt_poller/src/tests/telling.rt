@@ -1,6 +1,6 @@
 //! What a poller tells its signals.
 
-use super::asking::{Asking, Told};
+use super::asking::{Asking, Reported};
 use super::datagrams::{
     CALLER, STUDIO, conclusion_of, hidden_refusal, induction_answer, induction_of,
     publisher_answer, stray_shutdown,
@@ -8,15 +8,15 @@ use super::datagrams::{
 use super::{ALWAYS, Serving, comes, pumped_under, scheduled};
 use crate::{Order, Sent, SourceStep, WireScript};
 use srt_samples::Sample;
-use srt_seq::Schedule;
+use srt_types::Schedule;
 use std::alloc::Global;
 use std::process::Abort;
 use std::sync::Wait;
 use std::test::Fail;
 
 /// What is told of this answer to this datagram.
-fn told(alloc: Global, datagram: Sample<'_>, answer: Sample<'_>) -> Result<Told, Fail> {
-    Ok(Told {
+fn reported(alloc: Global, datagram: Sample<'_>, answer: Sample<'_>) -> Result<Reported, Fail> {
+    Ok(Reported {
         route: 0,
         datagram: datagram.bytes(alloc)?,
         answer: answer.bytes(alloc)?,
@@ -24,8 +24,8 @@ fn told(alloc: Global, datagram: Sample<'_>, answer: Sample<'_>) -> Result<Told,
 }
 
 /// What is told of this reply of the first route.
-fn told_of_a_reply(alloc: Global, reply: Sample<'_>) -> Result<Told, Fail> {
-    Ok(Told {
+fn reported_of_a_reply(alloc: Global, reply: Sample<'_>) -> Result<Reported, Fail> {
+    Ok(Reported {
         route: 0,
         datagram: Vec::new(alloc),
         answer: reply.bytes(alloc)?,
@@ -34,13 +34,13 @@ fn told_of_a_reply(alloc: Global, reply: Sample<'_>) -> Result<Told, Fail> {
 
 /// Asserts that six rounds, in which these datagrams come and the sends have these outcomes, tell just these answers and
 /// replies. The first route has this schedule. The poller is asked for these.
-fn assert_told(
+fn assert_reported(
     rt: &(impl AllocGlobal + Wait + Abort),
     first: Schedule,
     steps: Vec<SourceStep>,
     sends: Vec<Sent>,
-    asked: &[Order],
-    expected: Vec<Told>,
+    requested: &[Order],
+    expected: Vec<Reported>,
 ) -> Result<(), Fail> {
     let alloc = rt.alloc();
     let schedules = [first, ALWAYS];
@@ -48,18 +48,18 @@ fn assert_told(
     let mut wire = WireScript::new(alloc, sends);
     let mut source = Serving::new(rt, &routes.cells, steps);
     let count = expected.len();
-    let asking = Asking::new(asked, expected);
+    let asking = Asking::new(requested, expected);
     let ends = &mut routes.ends;
     let _ = pumped_under(rt, schedules, ends, &mut source, &mut wire, 6, &asking)?;
     assert_eq!(rt; asking.difference.get(), None);
-    assert_eq!(rt; asking.told.get(), count);
+    assert_eq!(rt; asking.reported.get(), count);
     assert_eq!(rt; asking.right.get(), count);
     Ok(())
 }
 
 /// The first route is hidden, so the lobby refuses the conclusion. The first answer is lost, and is told all the same.
 #[test]
-fn each_answer_of_the_lobby_is_told(rt: HostRuntime) -> Result<(), Fail> {
+fn each_answer_of_the_lobby_is_reported(rt: HostRuntime) -> Result<(), Fail> {
     let alloc = rt.alloc();
     let late = Schedule {
         open_round: 9,
@@ -71,21 +71,21 @@ fn each_answer_of_the_lobby_is_told(rt: HostRuntime) -> Result<(), Fail> {
         comes(alloc, conclusion_of(1, &STUDIO))?,
     ]?;
     let expected = vec![in alloc;
-        told(alloc, induction_of(CALLER), induction_answer(CALLER))?,
-        told(alloc, conclusion_of(1, &STUDIO), hidden_refusal(1))?,
+        reported(alloc, induction_of(CALLER), induction_answer(CALLER))?,
+        reported(alloc, conclusion_of(1, &STUDIO), hidden_refusal(1))?,
     ]?;
     let sends = vec![in alloc; Sent::Later]?;
-    assert_told(&rt, late, steps, sends, &[], expected)
+    assert_reported(&rt, late, steps, sends, &[], expected)
 }
 
 /// In round 2 all routes are closed: the SHUTDOWN of the session is no handshake. The answer to the conclusion is put off
 /// once, and told once.
 #[test]
-fn each_handshake_of_a_route_is_told(rt: HostRuntime) -> Result<(), Fail> {
+fn each_handshake_of_a_route_is_reported(rt: HostRuntime) -> Result<(), Fail> {
     let alloc = rt.alloc();
     let steps = vec![in alloc; comes(alloc, conclusion_of(1, &STUDIO))?]?;
-    let expected = vec![in alloc; told_of_a_reply(alloc, publisher_answer(1))?]?;
+    let expected = vec![in alloc; reported_of_a_reply(alloc, publisher_answer(1))?]?;
     let sends = vec![in alloc; Sent::Later]?;
-    let asked = [Order::GoOn, Order::GoOn, Order::CloseAll];
-    assert_told(&rt, ALWAYS, steps, sends, &asked, expected)
+    let requested = [Order::GoOn, Order::GoOn, Order::CloseAll];
+    assert_reported(&rt, ALWAYS, steps, sends, &requested, expected)
 }

@@ -1,9 +1,10 @@
 //! A run that is over before it begins.
 
 ghost use Rattle.std.specs.Prelude.{◌≡◌, None, map, length};
-ghost use Rattle.srt_seq.specs.Terms.{terms_of};
+ghost use Rattle.srt_types.specs.Terms.{terms_of};
 ghost use Rattle.srt_lobby.specs.Opening.{fault_of};
 
+use crate::answers::AnswersOf;
 use crate::arrivals::PollerArrivals;
 use crate::opening::{Opened, open_routes};
 use crate::running::{Prepared, Shared, open_shared, prepare};
@@ -13,9 +14,9 @@ use srt_cookie::Secret;
 use srt_lobby::Names;
 use srt_mailbox::Ungated;
 use srt_poller::{Polled, Pumping, Read, Sent, Source, Wire};
-use srt_seq::limits::MAX_ROUTES;
-use srt_seq::{Access, Entry, Mode, Peer, Rules, Schedule};
 use srt_supervision::NoWatcher;
+use srt_types::product_limits::MAX_ROUTES;
+use srt_types::{Access, Entry, Mode, Peer, Rules, Schedule};
 use std::sync::Wait;
 use std::test::Fail;
 use std::thread::Threads;
@@ -98,12 +99,8 @@ where
     let Ok(prepared) = prepare(alloc, entries, schedules) else {
         return Err(Fail::from("memory"));
     };
-    let Prepared {
-        names,
-        plans,
-        accounts: _,
-    } = prepared;
-    let Ok(shared) = open_shared(alloc, entries.len(), 1, false) else {
+    let Prepared { names, accounts: _ } = prepared;
+    let Ok(shared) = open_shared::<AnswersOf<NoWatcher>>(alloc, entries.len(), 1, false) else {
         return Err(Fail::from("memory"));
     };
     let Shared {
@@ -143,7 +140,6 @@ where
     let mut polling = PollerState {
         names,
         ends,
-        plans,
         openings,
         gate,
     };

@@ -11,13 +11,14 @@ use super::datagrams::{
 use super::watched::{MANY, studio, watched_over};
 use super::{MOMENT, YIELDS, entry_of, peer};
 use crate::{
-    ChangeFault, ChangeRoutes, Gates, Refusal, RouteChanges, RunStatus, Ticker, Watch, Watched,
+    Answers, ChangeFault, ChangeRoutes, Gates, Refusal, RouteChanges, RunStatus, Ticker, Watch,
+    Watched,
 };
 use srt_mailbox::{Account, Gate, Ungated};
 use srt_poller::{Order, Polled, Read, Sent, Source, Wire};
 use srt_route::Route;
 use srt_samples::shutdown;
-use srt_seq::{Entry, Peer};
+use srt_types::{Entry, Peer};
 use std::alloc::{AllocError, Global};
 use std::process::Abort;
 use std::sync::atomic::{AtomicBool, AtomicU64, Ordering};
@@ -362,7 +363,7 @@ impl Gate for Barrier {
 
     ghost held = { λ gate. 0 };
 
-    ghost asked = { λ gate. None };
+    ghost requested = { λ gate. None };
 
     fn allows(&mut self, route: usize) -> bool {
         if route > 0 {
@@ -430,14 +431,14 @@ impl Script {
     }
 
     /// What a step counts.
-    fn count(&self, step: Step, told: RunStatus) -> u64 {
+    fn count(&self, step: Step, reported: RunStatus) -> u64 {
         match step {
             Step::Change(_, _) => self.outcomes.len() as u64,
             Step::Renew => self.refused,
             Step::Call(_, reply) | Step::Hear(reply) => self.stage.taken(reply),
-            Step::Fill(_) => told.counts.full,
+            Step::Fill(_) => reported.counts.full,
             Step::Silence(_) => self.is_silent as u64,
-            Step::Rest => told.reports,
+            Step::Rest => reported.reports,
             Step::Free => self.stage.is_free.load(Ordering::SeqCst) as u64,
             Step::Held => self.stage.is_held.load(Ordering::SeqCst) as u64,
         }
@@ -462,8 +463,8 @@ impl Script {
     }
 
     /// Begins a step, or goes on to the next one once what it counts has grown enough.
-    fn follow(&mut self, step: Step, told: RunStatus) {
-        let count = self.count(step, told);
+    fn follow(&mut self, step: Step, reported: RunStatus) {
+        let count = self.count(step, reported);
         if !self.has_begun {
             self.has_begun = true;
             self.before = count;
@@ -525,12 +526,16 @@ impl Script {
     }
 }
 
+impl Answers for Script {
+    ghost answered = { λ a. Unit {0} };
+}
+
 impl Watch for Script {
-    fn next(&mut self, told: RunStatus) -> Order {
+    fn next(&mut self, reported: RunStatus) -> Order {
         thread::yield_now();
         self.rests = self.rests.saturating_add(1);
         if let Some(step) = self.steps.get(self.at) {
-            self.follow(*step, told);
+            self.follow(*step, reported);
         }
         if self.at < self.steps.len() && self.stage.waits(self.rests) {
             return Order::GoOn;
@@ -587,8 +592,8 @@ impl Played {
     ) -> Result<(), Fail> {
         let account = self.account(index)?;
         let most = items.saturating_add(self.ran.ticker.given);
-        let came = account.taken.saturating_add(account.left);
-        assert!(rt; items <= came && came <= most);
+        let arrived = account.taken.saturating_add(account.left);
+        assert!(rt; items <= arrived && arrived <= most);
         assert!(rt; replies <= account.taken);
         assert_eq!(rt; account.drained, replies);
         Ok(())

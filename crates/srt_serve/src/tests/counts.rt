@@ -3,7 +3,7 @@
 use crate::tests::datagrams::{FIRST, STUDIO, conclusion_of};
 use crate::tests::watched::{MANY, studio, watched};
 use crate::tests::{ARRIVALS, Again, Meeting, YIELDS, scene_of};
-use crate::{ChangeRoutes, Refusal, RunStatus, Watch};
+use crate::{Answers, ChangeRoutes, Refusal, RunStatus, Watch};
 use srt_poller::{Order, Report};
 use srt_route::Route;
 use std::sync::Arc;
@@ -64,7 +64,7 @@ impl Follower {
         self.meeting
             .accepted
             .store(counts.accepted, Ordering::SeqCst);
-        self.meeting.told.store(counts.read, Ordering::SeqCst);
+        self.meeting.reported.store(counts.read, Ordering::SeqCst);
         if counts.accepted >= ARRIVALS && counts.sent >= ARRIVALS {
             Order::End
         } else {
@@ -94,8 +94,12 @@ impl Follower {
     }
 }
 
+impl Answers for Follower {
+    ghost answered = { λ a. Unit {0} };
+}
+
 impl Watch for Follower {
-    fn next(&mut self, told: RunStatus) -> Order {
+    fn next(&mut self, reported: RunStatus) -> Order {
         thread::yield_now();
         self.rests = self.rests.saturating_add(1);
         if self.rests >= YIELDS {
@@ -103,8 +107,8 @@ impl Watch for Follower {
             return Order::End;
         }
         match self.until {
-            Until::Answered => self.follow(told.counts),
-            Until::Freed => self.hold(told.reports),
+            Until::Answered => self.follow(reported.counts),
+            Until::Freed => self.hold(reported.reports),
         }
     }
 
@@ -124,7 +128,11 @@ impl Watch for Follower {
 #[test]
 fn a_watcher_sees_the_counts_grow_to_the_report(rt: HostRuntime) -> Result<(), Fail> {
     let routes = studio(rt.alloc())?;
-    let mut scene = scene_of(rt.alloc(), &[conclusion_of(FIRST, &STUDIO)], Again::Told)?;
+    let mut scene = scene_of(
+        rt.alloc(),
+        &[conclusion_of(FIRST, &STUDIO)],
+        Again::Reported,
+    )?;
     let follower = Follower::new(&scene.meeting, Until::Answered)?;
     let ran = watched(&rt, &routes, &mut scene, follower, MANY)?;
     let read = ran.report.read;

@@ -5,13 +5,15 @@ ghost use Rattle.std.specs.Vec.{vec_len};
 
 use crate::tests::datagrams::{FIRST, SECOND, STUDIA, STUDIO, conclusion_of};
 use crate::tests::{ALWAYS, Again, LIMIT, Member, Routes, SECRET, Scene, peer, scene_of};
-use crate::{ChangeRoutes, Gates, Refusal, RunFault, RunStatus, Ticker, Watch, Watched, run_until};
+use crate::{
+    Answers, ChangeRoutes, Gates, Refusal, RunFault, RunStatus, Ticker, Watch, Watched, run_until,
+};
 use srt_cookie::Secret;
 use srt_lobby::Names;
 use srt_mailbox::{Gate, Ungated};
 use srt_poller::{Order, Source, Wire};
 use srt_route::{Route, SessionView};
-use srt_seq::{Peer, Role};
+use srt_types::{Peer, Role};
 use std::alloc::{AllocError, Global};
 use std::sync::Wait;
 use std::test::Fail;
@@ -82,14 +84,14 @@ impl Guard {
         }
     }
 
-    fn wish(&mut self, told: RunStatus) -> Order {
+    fn wish(&mut self, reported: RunStatus) -> Order {
         match self.until {
             Until::Rests(rests) if self.rests > rests => Order::End,
             Until::Refusals(count) if self.notes.len() >= count => Order::End,
             Until::Quiet if self.quiet.is_some() => Order::End,
-            Until::Quiet if told.is_quiet => {
+            Until::Quiet if reported.is_quiet => {
                 self.was_closing = self.closes;
-                self.quiet = Some(told);
+                self.quiet = Some(reported);
                 Order::End
             }
             Until::Quiet if self.open.is_some() => {
@@ -112,15 +114,19 @@ impl Guard {
     }
 }
 
+impl Answers for Guard {
+    ghost answered = { λ a. Unit {0} };
+}
+
 impl Watch for Guard {
-    fn next(&mut self, told: RunStatus) -> Order {
+    fn next(&mut self, reported: RunStatus) -> Order {
         thread::yield_now();
         self.rests = self.rests.saturating_add(1);
         if self.rests >= LIMIT {
             self.is_late = true;
             return Order::End;
         }
-        self.wish(told)
+        self.wish(reported)
     }
 
     fn wants_routes(&mut self) -> bool {
@@ -275,17 +281,17 @@ fn open_sessions_get_their_shutdown(rt: HostRuntime) -> Result<(), Fail> {
     assert!(rt; index == 0 && view.peer == peer());
     assert!(rt; view.caller == 1 && view.id == 0x10_0000);
     assert!(rt; matches!(view.role, Role::Publish));
-    let Some(told) = guard.quiet else {
+    let Some(reported) = guard.quiet else {
         return Err(Fail::from("it was told that all is quiet"));
     };
-    assert!(rt; told.faults == 0 && told.missed == 0);
+    assert!(rt; reported.faults == 0 && reported.missed == 0);
     Ok(())
 }
 
 /// No route is called `studia`, so the lobby refuses that with 1002; `studio` has one session, and refuses a second one
 /// with 1003.
 #[test]
-fn refusals_are_told(rt: HostRuntime) -> Result<(), Fail> {
+fn refusals_are_reported(rt: HostRuntime) -> Result<(), Fail> {
     let alloc = rt.alloc();
     let routes = studio(alloc)?;
     let conclusions = [
@@ -310,7 +316,7 @@ fn refusals_are_told(rt: HostRuntime) -> Result<(), Fail> {
 
 /// One round is made, in which the lobby refuses a conclusion: that is told then or after it.
 #[test]
-fn what_is_left_is_told_after_the_rounds(rt: HostRuntime) -> Result<(), Fail> {
+fn what_is_left_is_reported_after_the_rounds(rt: HostRuntime) -> Result<(), Fail> {
     let alloc = rt.alloc();
     let routes = studio(alloc)?;
     let mut scene = scene_of(alloc, &[conclusion_of(SECOND, &STUDIA)], Again::Never)?;

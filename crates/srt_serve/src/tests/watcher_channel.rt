@@ -1,5 +1,6 @@
 //! What the polling thread tells a watcher, and what it is asked, without threads.
 
+use crate::Answers;
 use crate::inline_serving::InlineServer;
 use crate::tests::datagrams::{
     SECOND, STUDIA, conclusion_answer, conclusion_of, header_alone, induction_answer, refusal,
@@ -10,12 +11,19 @@ use crate::watcher_channel::WatcherChannel;
 use srt_lobby::Names;
 use srt_mailbox::{RouteCell, Ungated};
 use srt_poller::{Order, PollerObserver, Report};
-use srt_seq::NotAdmitted;
+use srt_types::NotAdmitted;
 use srt_wakeups::Wakeups;
 use std::alloc::Global;
 use std::process::Abort;
 use std::sync::Wait;
 use std::test::Fail;
+
+/// Answers of which nothing is known.
+struct Anything;
+
+impl Answers for Anything {
+    ghost answered = { λ a. Unit {0} };
+}
 
 /// The name of the route `studio`.
 fn names_of_studio(alloc: Global) -> Result<Names, Fail> {
@@ -26,9 +34,9 @@ fn names_of_studio(alloc: Global) -> Result<Names, Fail> {
 }
 
 /// The first refusal that waits: its route, code, name and cause.
-fn assert_told(
+fn assert_reported(
     rt: &(impl Wait + Abort),
-    channel: &WatcherChannel,
+    channel: &WatcherChannel<Anything>,
     route: Option<usize>,
     code: u32,
     name: &[u8],
@@ -47,8 +55,8 @@ fn watched_inline<'a, R: Wait>(
     rt: &'a R,
     cells: &'a [RouteCell],
     wakeups: &'a Wakeups,
-    channel: &'a WatcherChannel,
-) -> InlineServer<'a, R, RouteCell, Ungated> {
+    channel: &'a WatcherChannel<Anything>,
+) -> InlineServer<'a, R, RouteCell, Ungated, Anything> {
     InlineServer::new(rt, cells, wakeups, Some(channel), None)
 }
 
@@ -58,7 +66,7 @@ fn refusals_that_find_no_place_are_counted(rt: HostRuntime) -> Result<(), Fail> 
     let alloc = rt.alloc();
     let cells: Vec<RouteCell> = Vec::new(alloc);
     let wakeups = Wakeups::open(alloc, 0, 1)?;
-    let channel = WatcherChannel::open(alloc)?;
+    let channel = WatcherChannel::<Anything>::open(alloc)?;
     let inline = watched_inline(&rt, &cells, &wakeups, &channel);
     let conclusion = conclusion_of(SECOND, &STUDIA).bytes(alloc)?;
     let refusal = refusal().bytes(alloc)?;
@@ -77,9 +85,9 @@ fn refusals_that_find_no_place_are_counted(rt: HostRuntime) -> Result<(), Fail> 
         inline.answered(&names, peer(), &conclusion, &refusal);
     }
     assert_eq!(rt; channel.missed(), 6);
-    assert_told(&rt, &channel, Some(7), 1002, b"", None);
+    assert_reported(&rt, &channel, Some(7), 1002, b"", None);
     for _ in 0..63u32 {
-        assert_told(
+        assert_reported(
             &rt,
             &channel,
             None,
@@ -97,11 +105,11 @@ fn refusals_that_find_no_place_are_counted(rt: HostRuntime) -> Result<(), Fail> 
 
 /// Counts are left once between two takes, the first ones of those that are told.
 #[test]
-fn counts_are_told_when_they_are_wanted(rt: HostRuntime) -> Result<(), Fail> {
+fn counts_are_reported_when_they_are_wanted(rt: HostRuntime) -> Result<(), Fail> {
     let alloc = rt.alloc();
     let cells: Vec<RouteCell> = Vec::new(alloc);
     let wakeups = Wakeups::open(alloc, 0, 1)?;
-    let channel = WatcherChannel::open(alloc)?;
+    let channel = WatcherChannel::<Anything>::open(alloc)?;
     let inline = watched_inline(&rt, &cells, &wakeups, &channel);
     let counts = Report {
         read: 5,
@@ -121,7 +129,7 @@ fn counts_are_told_when_they_are_wanted(rt: HostRuntime) -> Result<(), Fail> {
 /// Nothing is asked after the end.
 #[test]
 fn the_end_is_final(rt: HostRuntime) -> Result<(), Fail> {
-    let channel = WatcherChannel::open(rt.alloc())?;
+    let channel = WatcherChannel::<Anything>::open(rt.alloc())?;
     assert_eq!(rt; channel.order(), Order::GoOn);
     channel.set_order(Order::CloseAll);
     assert_eq!(rt; channel.order(), Order::CloseAll);

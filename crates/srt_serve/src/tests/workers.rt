@@ -4,7 +4,8 @@ use crate::inline_serving::InlineServer;
 use crate::working::work;
 use srt_mailbox::{Gate, Observer, Serve, Served, Ungated, Visit};
 use srt_poller::{Hints, InlineService};
-use srt_seq::Turned;
+use srt_supervision::NoWatcher;
+use srt_types::Turned;
 use srt_wakeups::Wakeups;
 use std::alloc::{AllocError, Global};
 use std::sync::Wait;
@@ -151,7 +152,7 @@ fn a_worker_serves_after_hundreds_of_thousands_of_notifications(
 fn the_polling_thread_asks_for_workers(rt: HostRuntime) -> Result<(), Fail> {
     let desks = desks(rt.alloc(), &[Load::Turns(1); 12])?;
     let wakeups = Wakeups::open(rt.alloc(), 12, 1)?;
-    let ungated: InlineServer<'_, HostRuntime, Desk, Ungated> = InlineServer::new(
+    let ungated: InlineServer<'_, HostRuntime, Desk, Ungated, NoWatcher> = InlineServer::new(
         &rt, &desks, &wakeups, None, None,
     );
     ungated.polled(7);
@@ -164,7 +165,13 @@ fn the_polling_thread_asks_for_workers(rt: HostRuntime) -> Result<(), Fail> {
         ),
         (7, 12, 12)
     );
-    let inline = InlineServer::new(&rt, &desks, &wakeups, None, Some(Ungated));
+    let inline: InlineServer<'_, HostRuntime, Desk, Ungated, NoWatcher> = InlineServer::new(
+        &rt,
+        &desks,
+        &wakeups,
+        None,
+        Some(Ungated),
+    );
     inline.polled(3);
     inline.serve_inline(64);
     assert_eq!(rt;
@@ -197,7 +204,13 @@ fn the_polling_thread_leaves_what_it_does_not_get_done(rt: HostRuntime) -> Resul
     ];
     let desks = desks(rt.alloc(), &loads)?;
     let wakeups = Wakeups::open(rt.alloc(), 4, 1)?;
-    let inline = InlineServer::new(&rt, &desks, &wakeups, None, Some(Ungated));
+    let inline: InlineServer<'_, HostRuntime, Desk, Ungated, NoWatcher> = InlineServer::new(
+        &rt,
+        &desks,
+        &wakeups,
+        None,
+        Some(Ungated),
+    );
     inline.polled(0);
     inline.serve_inline(1);
     assert_eq!(rt;

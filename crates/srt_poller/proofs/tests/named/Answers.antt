@@ -1,6 +1,6 @@
 use Rattle.std.proofs.Common.{◌≡◌, ◌∙◌, false, ap, map}
 use Rattle.std.proofs.lemmas.List.{length-map}
-use Rattle.srt_seq.specs.Terms.{terms_of}
+use Rattle.srt_types.specs.Terms.{terms_of}
 use Rattle.srt_lobby.specs.Names.{name_of, names_of}
 use Rattle.srt_poller.specs.Beginnings.{all_shown}
 use Rattle.srt_poller.proofs.ShownInRound.{shown_again, are_good, texts_marked}

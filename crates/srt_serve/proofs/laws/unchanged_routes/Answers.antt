@@ -1,11 +1,10 @@
-use Rattle.srt_serve.proofs.LeftAlone.{changing_runs_are_so, unchanging_runs_are_so, left_as_it_was, nothing_changed, names_are_alone}
+use Rattle.srt_serve.proofs.LeftAlone.{unchanging_runs_are_so, left_as_it_was, nothing_changed, names_are_alone}
 use Rattle.srt_serve.proofs.LeftAlone.{as_if_nothing_happened, sent_as_if_nothing_happened, refused_changes_nothing}
 use Rattle.srt_serve.proofs.laws.unchanged_routes.Goals as goal
 
 pub returns : goal.returns
 returns c =
     record {
-      changing = changing_runs_are_so;
       unchanging = unchanging_runs_are_so;
       left = left_as_it_was;
       kept = nothing_changed;

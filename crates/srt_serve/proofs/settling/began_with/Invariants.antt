@@ -1,7 +1,7 @@
 use Rattle.std.proofs.Common.{◌≡◌, map, take}
 use Rattle.srt_mailbox.specs.Identities.{identity_in}
-use Rattle.srt_mailbox.specs.Places.{came}
+use Rattle.srt_mailbox.specs.Places.{arrived}
 use Rattle.srt_serve.proofs.settling.began_with.Given as goal
 
 abbrev pub invariant-loop-r : goal.invariant-loop-r
-invariant-loop-r l = take l.r (map (λ t. identity_in t.value.cell) l.put.items) ≡ take l.r (came l.routes)
+invariant-loop-r l = take l.r (map (λ t. identity_in t.value.cell) l.put.items) ≡ take l.r (arrived l.routes)

@@ -1,6 +1,6 @@
-use Rattle.std.proofs.Common.{◌≡◌, ◌∙◌, suc, ◌+◌, ◌<◌, Some, refl, sym, ap, length, slice_get, slice_get, arith}
+use Rattle.std.proofs.Common.{◌≡◌, ◌∙◌, suc, ◌+◌, Some, refl, sym, ap, slice_get, slice_get, arith}
 use Rattle.std.proofs.lemmas.List.{length-map}
-use Rattle.std.proofs.lemmas.Option.{slice_get-get_or, slice_get-map}
+use Rattle.std.proofs.lemmas.Option.{slice_get-map}
 use Rattle.std.specs.Option.{option_map}
 use Rattle.srt_lobby.specs.Names.{names_of}
 use Rattle.srt_poller.specs.Plans.{schedule_of}
@@ -12,6 +12,10 @@ use Rattle.srt_poller.proofs.changing.Plans.open.Goals as goal
 pub loop-route-init : goal.loop-route-init
 loop-route-init c = (looked_none c.args.round (plans_in c.args.self.now) (names_of c.args.names.now), refl)
 
+pub plan-requires : goal.plan-requires
+plan-requires c =
+    omega (arith, c.loop-route-test.true, c.len-route-end.ensures.value, c.loop-route.invariant.0.as_many, length-map c.args.self.now.plans.items schedule_of)
+
 pub open_one-requires-clause-known : goal.open_one-requires-clause-known
 open_one-requires-clause-known c = looked_known c.requires.known c.loop-route.invariant.0
 
@@ -22,12 +26,9 @@ loop-route-preserved c =
     let ps = plans_in c.args.self.now in
     let ns = names_of c.args.names.now in
     let items = c.loop-route.self.plans.items in
-    let p = c.index.result.now in
-    let many = c.loop-route.invariant.0.as_many in
-    let within : i < length items =
-    omega (arith, c.loop-route-test.true, c.len-route-end.ensures, many, length-map items schedule_of, length-map c.args.self.now.plans.items schedule_of) in
+    let p = c.plan.result in
     let at : slice_get (plans_in c.loop-route.self) i ≡ Some (schedule_of p) =
-    slice_get-map schedule_of items i ∙ ap (option_map schedule_of) (slice_get-get_or items i p within ∙ ap Some (sym c.index.ensures)) in
+    slice_get-map schedule_of items i ∙ ap (option_map schedule_of) c.plan.ensures in
     let count : i + 1 ≡ suc i = omega arith in
     elim c.if-may_open.branch [
       | then-may_open w ↦ (
@@ -47,4 +48,4 @@ pub returns-clause-opens : goal.returns-clause-opens
 returns-clause-opens c =
     looked_all c.args.round c.loop-route.route (plans_in c.args.self.now) (plans_in c.loop-route.self) (names_of c.args.names.now)
     (names_of c.loop-route.names)
-    (omega (arith, c.loop-route-test.false, c.len-route-end.ensures, length-map c.args.self.now.plans.items schedule_of)) c.loop-route.invariant.0
+    (omega (arith, c.loop-route-test.false, c.len-route-end.ensures.value, length-map c.args.self.now.plans.items schedule_of)) c.loop-route.invariant.0

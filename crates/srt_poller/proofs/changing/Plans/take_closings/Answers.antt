@@ -1,18 +1,34 @@
-use Rattle.std.proofs.Common.{◌∙◌, refl, arith}
-use Rattle.std.proofs.lemmas.List.{length-map}
+use Rattle.std.proofs.Common.{◌∙◌, inr, refl, sym, ap, ℕ, Option, List, [], ◌∷◌, ◌++◌, arith}
+use Rattle.std.proofs.lemmas.List.{length-append, length-map}
+use Rattle.srt_poller.specs.Devices.{joined}
+use Rattle.srt_poller.proofs.Joined.{joined_none, joined_twice}
 use Rattle.srt_poller.specs.Plans.{schedule_of}
 use Rattle.srt_poller.specs.Changes.{plans_in}
 use Rattle.srt_poller.proofs.Additions.{requested_none, requested_one_more}
 use Rattle.srt_poller.proofs.changing.Plans.take_closings.Goals as goal
 
 pub loop-init : goal.loop-init
-loop-init g c = (requested_none c.args.round (g.O.Openings.requested c.args.openings.now) (plans_in c.args.self.now), refl, refl)
+loop-init g c = (
+  requested_none c.args.round (g.O.Openings.requested c.args.openings.now) (plans_in c.args.self.now),
+  refl,
+  refl,
+  ([], sym (joined_none (g.O.Openings.requested c.args.openings.now)), refl),
+)
 
 pub loop-preserved : goal.loop-preserved
 loop-preserved g c = (
   requested_one_more c.args.round (g.O.Openings.requested c.args.openings.now) _ _ (plans_in c.args.self.now) (plans_in c.loop.self) _ c.in-Some.route
-      (omega (arith, c.in-Some.ensures.known, c.len.ensures, length-map c.loop.self.plans.items schedule_of))
+      (omega (arith, c.in-Some.ensures.known, c.len.ensures.value, length-map c.loop.self.plans.items schedule_of))
       c.in-Some.ensures.requested c.close_from.ensures.plans c.loop.invariant.0,
   c.in-Some.ensures.added ∙ c.loop.invariant.1,
   c.close_from.ensures.latest ∙ c.loop.invariant.2,
+  (
+    c.loop.invariant.3.0 ++ c.in-Some.route ∷ [],
+    c.in-Some.ensures.requested ∙ ap (λ (o : Option (List ℕ)). joined o (c.in-Some.route ∷ [])) c.loop.invariant.3.1
+        ∙ joined_twice (g.O.Openings.requested c.args.openings.now) c.loop.invariant.3.0 (c.in-Some.route ∷ []),
+    omega (arith, length-append c.loop.invariant.3.0 (c.in-Some.route ∷ []), c.loop.invariant.3.2),
+  ),
 )
+
+pub returns-clause-all : goal.returns-clause-all
+returns-clause-all g c = inr (c.loop.invariant.3.0, c.loop.invariant.3.1, omega (arith, c.loop-test.false, c.loop.invariant.3.2))

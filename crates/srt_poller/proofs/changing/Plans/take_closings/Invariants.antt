@@ -1,4 +1,5 @@
-use Rattle.std.proofs.Common.{◌≡◌}
+use Rattle.std.proofs.Common.{◌≡◌, ℕ, List, length}
+use Rattle.srt_poller.specs.Devices.{joined}
 use Rattle.srt_poller.specs.Changes.{plans_in, TookClosings}
 use Rattle.srt_poller.proofs.changing.Plans.take_closings.Given as goal
 
@@ -7,3 +8,4 @@ invariant-loop g l =
     TookClosings l.round (g.O.Openings.requested l.fn.openings) (g.O.Openings.requested l.openings) (plans_in l.fn.self) (plans_in l.self)
     × (g.O.Openings.added l.openings ≡ g.O.Openings.added l.fn.openings)
     × (l.self.latest ≡ l.fn.self.latest)
+    × ((requested : List ℕ) × (g.O.Openings.requested l.openings ≡ joined (g.O.Openings.requested l.fn.openings) requested) × (length requested ≡ l.counter))

@@ -1,4 +1,4 @@
-use Rattle.std.proofs.Common.{◌∙◌, refl, sym, ap, ◌∷◌, [], length, arith}
+use Rattle.std.proofs.Common.{◌∙◌, inr, refl, sym, ap, ◌∷◌, [], length, arith}
 use Rattle.std.proofs.lemmas.List.{length-append}
 use Rattle.srt_lobby.specs.Names.{names_of, new_name}
 use Rattle.srt_poller.specs.Openings.{new_route}
@@ -12,7 +12,7 @@ loop-init g c = (
   refl,
   c.requires.room,
   refl,
-  sym c.len-counter.ensures,
+  sym c.len-counter.ensures.count,
 )
 
 pub append-requires-clause-few : goal.append-requires-clause-few
@@ -28,3 +28,6 @@ loop-preserved g c = (
   c.append.ensures.latest ∙ c.loop.invariant.3,
   omega (arith, ap length c.append.ensures.names, length-append (names_of c.loop.names) (new_name c.in-Some.newcomer.name ∷ []), c.loop.invariant.4),
 )
+
+pub returns-clause-all : goal.returns-clause-all
+returns-clause-all g c = inr (omega (arith, c.loop-test.false, c.loop.invariant.4))

@@ -1,5 +1,5 @@
 use Rattle.std.proofs.Common.{◌≡◌, None, sym, arith}
-use Rattle.srt_seq.proofs.Options.{none_if_not_some}
+use Rattle.srt_types.proofs.Options.{none_if_not_some}
 use Rattle.srt_poller.proofs.Steps.{went_none, replies_then, replies_more, replies_from}
 use Rattle.srt_poller.proofs.poller.Poller.drain.Goals as goal
 

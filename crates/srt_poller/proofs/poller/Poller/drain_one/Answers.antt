@@ -1,6 +1,6 @@
 use Rattle.std.proofs.Common.{arith, refl, sym, ◌∙◌, ◌≡◌, ℕ, List, Option, Some, ap, inl, inr, None, take}
 use Rattle.std.specs.Prelude.{option_map}
-use Rattle.srt_seq.specs.Items.{Datagram}
+use Rattle.srt_types.specs.Items.{Datagram}
 use Rattle.srt_route.specs.Written.{written}
 use Rattle.srt_mailbox.specs.Ends.{Drained as DrainEnd}
 use Rattle.srt_poller.specs.declared.poller.KeptReply.{KeptReply}

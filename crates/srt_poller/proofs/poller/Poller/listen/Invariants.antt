@@ -1,5 +1,5 @@
 use Rattle.std.proofs.Common.{ℕ, suc, ◌+◌, false, List}
-use Rattle.srt_seq.specs.declared.shared.Schedule.{Schedule}
+use Rattle.srt_types.specs.declared.shared.Schedule.{Schedule}
 use Rattle.srt_poller.specs.Devices.{heard, carried}
 use Rattle.srt_poller.specs.History.{Begun, reading}
 use Rattle.srt_poller.specs.Rounds.{Went}

@@ -1,7 +1,7 @@
 use Rattle.std.proofs.Common.{◌∙◌, sym}
 use Rattle.std.proofs.lemmas.List.{length-map}
 use denote.Param.Send.{sendable}
-use Rattle.srt_seq.specs.Terms.{terms_of}
+use Rattle.srt_types.specs.Terms.{terms_of}
 use Rattle.srt_mailbox.proofs.inbox.ClockEnd.TheSendSync as clock_is
 use Rattle.srt_serve.proofs.Indexed.{opened_indexed}
 use Rattle.srt_serve.proofs.NamesAtStart.{are_ready}

@@ -1,0 +1,165 @@
+//! The routes of a run as a poller's rounds use them: as many as there were, or more as openings report them.
+
+ghost use Rattle.std.specs.Prelude.{◌≤◌};
+ghost use Rattle.std.specs.Vec.{vec_capacity};
+
+use crate::changing::Plans;
+use crate::context::PollerTask;
+use crate::devices::{Source, Wire};
+use crate::ends::Ends;
+use crate::openings::Openings;
+use crate::rounds::PollerRounds;
+use crate::signals::Signals;
+use srt_lobby::Names;
+use std::sync::Wait;
+
+/// The poller's ends of all routes, and the changes of the routes.
+pub(crate) trait RouteTable {
+    ghost use Rattle.std.specs.Prelude.{◌≡◌, ◌<◌, ◌+◌, List, length};
+    ghost use Rattle.std.specs.Borrow.{GName};
+    ghost use Rattle.srt_lobby.specs.Names.{names_of};
+    ghost use Rattle.srt_poller.specs.declared.ends.Ends.{Ends as TheEnds};
+    ghost use Rattle.srt_poller.specs.Devices.{heard, carried};
+    ghost use Rattle.srt_poller.specs.Pollers.{sorting, listening, begun_phase};
+    ghost use Rattle.srt_poller.specs.Beginnings.{RestBetween};
+    ghost use Rattle.srt_poller.specs.Openings.{RouteReports};
+    ghost use Rattle.srt_poller.specs.Plans.{never};
+    ghost use Rattle.srt_poller.specs.Changes.{plans_in, TookChanges, RoundWent};
+
+    /// The ends of all routes, in the order of their indexes.
+    ghost list: { Self → List TheEnds };
+
+    /// What its openings have reported.
+    ghost reports: { Self → RouteReports };
+
+    /// What it needs to take changes. Each call keeps it.
+    ghost room: { Self → Type 0 };
+
+    /// What it borrows. Each call keeps it.
+    ghost borrows: { Self → List GName };
+
+    /// Takes all changes before a round begins: routes that are added, and those that are to close.
+    fn take_changes(&mut self, plans: &mut Plans, names: &mut Names, round: u64)
+        requires known { length (plans_in plans.old) ≡ length (names_of names.old) }
+        requires ends { length (list self.old) ≡ length (names_of names.old) }
+        requires room { room self.old }
+        requires rest { RestBetween round plans.old.due (plans_in plans.old) (names_of names.old) }
+        ensures took { TookChanges round (reports self.old) (reports self.new) (plans_in plans.old) (plans_in plans.new)
+            (names_of names.old) (names_of names.new) (list self.old) (list self.new) }
+        ensures rest { RestBetween round plans.new.due (plans_in plans.new) (names_of names.new) }
+        ensures latest { plans.new.latest ≡ plans.old.latest }
+        ensures room { room self.new }
+        ensures same { borrows self.new ≡ borrows self.old };
+
+    /// Makes a round, whose changes have been taken (`PollerRounds::round`).
+    fn round<R: Wait, S: Source, W: Wire, G: Signals>(
+        &mut self,
+        rounds: &mut PollerRounds,
+        task: &PollerTask<R, G>,
+        names: &mut Names,
+        source: &mut S,
+        wire: &mut W,
+        closes_all: bool,
+    )
+        requires known { length (plans_in rounds.old.plans) ≡ length (names_of names.old) }
+        requires ends { length (list self.old) ≡ length (names_of names.old) }
+        requires room { room self.old }
+        requires rest { RestBetween rounds.old.next rounds.old.plans.due (plans_in rounds.old.plans) (names_of names.old) }
+        requires fits { rounds.old.next < never }
+        ensures went { RoundWent (sorting task.now.secret.now) closes_all rounds.old.next rounds.old.plans.due (plans_in rounds.old.plans)
+            (plans_in rounds.new.plans) (names_of names.old) (names_of names.new) (list self.old) (begun_phase rounds.old.poller)
+            (λ es. listening (heard (S.gave source.old) (S.calls source.old)) (carried (W.handed wire.old) (W.attempts wire.old)) es rounds.old.poller)
+            (listening (heard (S.gave source.new) (S.calls source.new)) (carried (W.handed wire.new) (W.attempts wire.new)) (list self.new)
+            rounds.new.poller)
+            rounds.old.plans.latest.moment rounds.new.plans.latest.moment }
+        ensures rest { RestBetween rounds.new.next rounds.new.plans.due (plans_in rounds.new.plans) (names_of names.new) }
+        ensures next { rounds.new.next ≡ rounds.old.next + 1 }
+        ensures ends { length (list self.new) ≡ length (list self.old) }
+        ensures reports { reports self.new ≡ reports self.old }
+        ensures room { room self.new }
+        ensures same { borrows self.new ≡ borrows self.old };
+}
+
+/// No route is added, and none is requested to close.
+#[derive(Drop)]
+pub(crate) struct FixedRoutes<'a> {
+    /// The ends of all routes, in the order of their indexes.
+    pub(crate) ends: &'a mut [Ends],
+}
+
+impl RouteTable for FixedRoutes<'_> {
+    ghost use Rattle.std.specs.Prelude.{[], ◌∷◌};
+    ghost use Rattle.srt_poller.specs.Openings.{no_reports};
+
+    ghost list = { λ t. t.ends.now };
+
+    ghost reports = { λ t. no_reports };
+
+    ghost room = { λ t. Unit {0} };
+
+    ghost borrows = { λ t. t.ends.ghost_name ∷ [] };
+
+    #[inline(always)]
+    fn take_changes(&mut self, _plans: &mut Plans, _names: &mut Names, _round: u64) {}
+
+    #[inline(always)]
+    fn round<R: Wait, S: Source, W: Wire, G: Signals>(
+        &mut self,
+        rounds: &mut PollerRounds,
+        task: &PollerTask<R, G>,
+        names: &mut Names,
+        source: &mut S,
+        wire: &mut W,
+        closes_all: bool,
+    ) {
+        rounds.round(task, names, self.ends, source, wire, closes_all);
+    }
+}
+
+/// Routes are added, and requested to close, as openings report.
+#[derive(Drop)]
+pub(crate) struct ChangingRoutes<'a, O> {
+    /// The ends of all routes, in the order of their indexes. There is room for 511.
+    pub(crate) ends: &'a mut Vec<Ends>,
+    /// What reports the changes.
+    pub(crate) openings: &'a mut O,
+}
+
+impl<O: Openings> RouteTable for ChangingRoutes<'_, O> {
+    ghost use Rattle.std.specs.Prelude.{◌≤◌, [], ◌∷◌};
+    ghost use Rattle.std.specs.Vec.{vec_capacity};
+    ghost use Rattle.srt_poller.specs.Openings.{route_reports};
+
+    ghost list = { λ t. t.ends.now.items };
+
+    ghost reports = { λ t. route_reports (O.added t.openings.now) (O.requested t.openings.now) };
+
+    ghost room = { λ t. 511 ≤ vec_capacity t.ends.now };
+
+    ghost borrows = { λ t. t.ends.ghost_name ∷ t.openings.ghost_name ∷ [] };
+
+    #[inline(always)]
+    fn take_changes(&mut self, plans: &mut Plans, names: &mut Names, round: u64) {
+        plans.take_changes(self.openings, names, self.ends, round);
+    }
+
+    #[inline(always)]
+    fn round<R: Wait, S: Source, W: Wire, G: Signals>(
+        &mut self,
+        rounds: &mut PollerRounds,
+        task: &PollerTask<R, G>,
+        names: &mut Names,
+        source: &mut S,
+        wire: &mut W,
+        closes_all: bool,
+    ) {
+        rounds.round(
+            task,
+            names,
+            self.ends.as_mut_slice(),
+            source,
+            wire,
+            closes_all,
+        );
+    }
+}
