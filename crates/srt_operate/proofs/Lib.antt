@@ -1,4 +1,0 @@
-pub mod Splits
-pub mod Turns
-pub mod Digits
-pub mod Calendar

@@ -1,6 +1,0 @@
-use Rattle.std.proofs.Common.{◌≡◌, ◌+◌}
-use Rattle.srt_operate.specs.Dates.{days_before_month}
-use Rattle.srt_operate.proofs.dates.month_of.Given as goal
-
-abbrev pub invariant-loop-month : goal.invariant-loop-month
-invariant-loop-month l = l.fn.index ≡ days_before_month l.leap l.month + l.left

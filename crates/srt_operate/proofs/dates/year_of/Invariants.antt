@@ -1,6 +1,0 @@
-use Rattle.std.proofs.Common.{◌≡◌, ◌+◌}
-use Rattle.srt_operate.specs.Dates.{days_before_year}
-use Rattle.srt_operate.proofs.dates.year_of.Given as goal
-
-abbrev pub invariant-loop-years : goal.invariant-loop-years
-invariant-loop-years l = l.fn.days ≡ days_before_year l.years + l.left

@@ -1,0 +1,4 @@
+pub mod Splits
+pub mod Turns
+pub mod Digits
+pub mod Fronts

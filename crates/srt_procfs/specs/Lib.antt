@@ -1,0 +1,6 @@
+pub mod Parts
+pub mod Numbers
+pub mod Signals
+pub mod Drops
+pub mod Memory
+pub mod Fronts
