@@ -1,8 +1,8 @@
 -- What an explanation of a configuration has to do with its reading (our choice).
-use Rattle.std.specs.Prelude.{◌≡◌, ℕ, ◌⊎◌, Bool, true, false, List, [], map, Option, None, Some, option_map, Result, Ok, Err, IfErr}
+use Rattle.std.specs.Prelude.{◌≡◌, ℕ, ◌⊎◌, Bool, true, false, [], map, Option, Some, option_map, Result, Ok, Err, IfErr}
 use Rattle.std.specs.Fmt.InlineText.{inline_text}
 use Rattle.toml.specs.Data.{Members}
-use Rattle.srt_seq.specs.Terms.{terms_of}
+use Rattle.srt_types.specs.Terms.{terms_of}
 use Rattle.srt_config.specs.declared.config.Config.{Config}
 use Rattle.srt_config.specs.declared.config.faults.ConfigFault.{ConfigFault}
 use Rattle.srt_config.specs.declared.config.faults.ConfigFault.TheVariants.{Toml, UnknownKey, Missing, WrongKind, OutOfRange, BadName}
@@ -12,6 +12,8 @@ use Rattle.srt_config.specs.FaultPlace.{document_place}
 use Rattle.srt_explain.specs.declared.explaining.Explained.{Explained}
 use Rattle.srt_explain.specs.declared.explanation.Explanation.{Explanation}
 use Rattle.srt_explain.specs.declared.explanation.RouteAt.{RouteAt}
+use Rattle.srt_explain.specs.declared.explanation.Hint.{Hint}
+use Rattle.srt_explain.specs.declared.explanation.Hint.TheVariants as hints
 use Rattle.srt_explain.specs.Warnings.{warnings_of}
 
 -- what is explained, without the explanation
@@ -40,9 +42,41 @@ is_fault_private BadSecret = true
 is_fault_private (BadAddress key) = is_private key
 is_fault_private OutOfMemory = true
 
--- an explanation has no value that is to be printed nowhere
+-- a hint has nothing of a value: neither bytes of it, nor a number that is written there. The count of a text's characters and the place of
+-- one of them are no part of the text
+abbrev pub is_hint_private : Hint → Bool
+is_hint_private hints.Nothing = true
+is_hint_private (hints.Place place) = false
+is_hint_private (hints.Unquoted place) = false
+is_hint_private (hints.OneBracket place) = false
+is_hint_private (hints.Resembles key) = true
+is_hint_private (hints.OfTable key) = true
+is_hint_private (hints.OfRoute key) = true
+is_hint_private hints.Quoted = false
+is_hint_private hints.OneTable = false
+is_hint_private (hints.NoTable number) = false
+is_hint_private (hints.Routes count) = false
+is_hint_private (hints.Choice text) = false
+is_hint_private (hints.Opens round) = false
+is_hint_private (hints.Sessions sessions) = false
+is_hint_private hints.EmptyName = false
+is_hint_private (hints.LongName count) = false
+is_hint_private (hints.Character character) = false
+is_hint_private (hints.SameName number) = false
+is_hint_private (hints.Characters count) = true
+is_hint_private (hints.NoDigit number) = true
+is_hint_private hints.NoPort = true
+is_hint_private hints.PortAlone = true
+is_hint_private hints.Ipv6 = true
+is_hint_private (hints.Members count) = false
+is_hint_private (hints.NoText number) = false
+is_hint_private (hints.NoNetwork number) = false
+is_hint_private (hints.AddressInNetwork number address first prefix) = false
+
+-- an explanation has nothing of a value that is to be printed nowhere
 abbrev pub IsPrivate : Explanation → Type 0
-IsPrivate explanation = is_fault_private explanation.fault ≡ true → inline_text explanation.value ≡ []
+IsPrivate explanation =
+    is_fault_private explanation.fault ≡ true → (inline_text explanation.value ≡ []) × (is_hint_private explanation.hint ≡ true)
 
 -- the warnings are those of the table that the text is, and of the status page and the routes that were read from it
 abbrev pub HasWarnings : Option Members → Explained → Type 0

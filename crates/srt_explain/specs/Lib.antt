@@ -1,2 +1,3 @@
 pub mod Explaining
 pub mod Warnings
+pub mod Texts

@@ -1,17 +1,21 @@
 -- The risks of a valid configuration (our choice).
-use Rattle.std.specs.Prelude.{◌≡◌, ℕ, suc, ◌+◌, ◌-◌, ◌*◌, ◌/◌, ◌==◌, nat_lt, nat_le, Bool, true, false, not, codes, List, [], ◌∷◌, ◌++◌}
-use Rattle.std.specs.Prelude.{slice_index, slice_get, Option, None, Some, is_some, ◌&&◌, if◌then◌else◌}
+use Rattle.std.specs.Prelude.{◌≡◌, ℕ, suc, ◌+◌, ◌-◌, ◌*◌, ◌/◌, ◌==◌, nat_lt, nat_le, Bool, true, false, not, codes, List, [], ◌∷◌, ◌++◌, map}
+use Rattle.std.specs.Prelude.{slice_index, slice_get, min, Option, None, Some, is_some, is_none, ◌&&◌, if◌then◌else◌}
 use Rattle.std.specs.Str.{bytes_eq}
-use Rattle.toml.specs.Data.{Data, Members, get_member, as_str}
-use Rattle.srt_seq.specs.declared.shared.Role.TheVariants.{Publish, Request}
-use Rattle.srt_seq.specs.Access.{RoleTerms, AccessTerms}
-use Rattle.srt_seq.specs.Terms.{Terms}
-use Rattle.srt_seq.specs.declared.shared.Mode.{Mode}
-use Rattle.srt_seq.specs.declared.shared.Mode.TheVariants as mode
+use Rattle.toml.specs.Data.{Data, Items, no_items, get_item, Members, no_members, get_member, as_str, as_array, as_table}
+use Rattle.srt_types.specs.declared.shared.Role.TheVariants.{Publish, Request}
+use Rattle.srt_types.specs.Access.{RoleTerms, AccessTerms}
+use Rattle.srt_types.specs.Terms.{Terms}
+use Rattle.srt_types.specs.declared.shared.Mode.{Mode}
+use Rattle.srt_types.specs.declared.shared.Mode.TheVariants as mode
 use Rattle.srt_config.specs.declared.config.address.BindAddress.{BindAddress}
 use Rattle.srt_explain.specs.declared.warnings.Warning.{Warning}
 use Rattle.srt_explain.specs.declared.warnings.Warning.TheVariants.{ExampleSecret, ExposedStatus, SmallOutbox, SmallWindow, OneSession, OpenKey}
 use Rattle.srt_explain.specs.declared.warnings.Warning.TheVariants.{UnusedTakeover, UnusedAddressLimit, OneUnreserved}
+use Rattle.srt_explain.specs.declared.warnings.Warning.TheVariants.{NoCallers, NoReserved, NoTakeover, NoResendLimit}
+use Rattle.srt_config.specs.declared.config.table.Key.{Key}
+use Rattle.srt_config.specs.declared.config.table.Key.TheVariants.{Callers, Reserved, TakeoverMs, ResendPercent}
+use Rattle.srt_config.specs.KeyTable.{key_name}
 use Rattle.srt_config.specs.Keys.{given_or_0}
 
 -- the most replies of one event of a route
@@ -100,14 +104,63 @@ rule_warnings route t =
     (given (has_unused_takeover t) (UnusedTakeover route) ++ given (has_unused_limit t) (limit_warning route t)) ++
     given (has_one_unreserved t) (unreserved_warning route t)
 
--- all warnings about the route of this number
-abbrev pub route_warnings : (route : ℕ) → Terms → List Warning
-route_warnings route t = (number_warnings route t ++ key_warnings route t.access) ++ rule_warnings route t
+-- the tables of the routes in a configuration's table
+abbrev pub items_if : Option Items → Items
+items_if None = no_items
+items_if (Some items) = items
 
--- and about these routes, the first of which has this number
-abbrev pub routes_warnings : (route : ℕ) → List Terms → List Warning
-routes_warnings route [] = []
-routes_warnings route (t ∷ ts) = route_warnings route t ++ routes_warnings (suc route) ts
+abbrev pub items_in : Option Data → Items
+items_in None = no_items
+items_in (Some value) = items_if (as_array value)
+
+abbrev pub members_if : Option Members → Members
+members_if None = no_members
+members_if (Some members) = members
+
+abbrev pub members_in : Option Data → Members
+members_in None = no_members
+members_in (Some value) = members_if (as_table value)
+
+-- the table of the route of this number
+abbrev pub route_table : (table : Members) → (route : ℕ) → Members
+route_table table route = members_in (get_item (route - 1) (items_in (get_member (codes "route") table)))
+
+-- the table of a route has no such key
+abbrev pub lacks : Key → Members → Bool
+lacks key table = is_none (get_member (key_name key) table)
+
+-- the slots to keep for publishers: two, if two more are left
+abbrev pub advised_slots : Terms → ℕ
+advised_slots t = min (t.sessions - 2) 2
+
+abbrev pub lacks_reserved : Members → Terms → Bool
+lacks_reserved table t = lacks Reserved table && nat_lt 2 t.sessions
+
+abbrev pub reserved_warning : (route : ℕ) → Terms → Warning
+reserved_warning route t = NoReserved route (advised_slots t)
+
+abbrev pub lacks_takeover : Members → Terms → Bool
+lacks_takeover table t = if_live t.mode (lacks TakeoverMs table)
+
+-- the warnings about keys that the table of a route leaves out: who is admitted, and what is limited
+abbrev pub default_admission : (route : ℕ) → Members → Terms → List Warning
+default_admission route table t = given (lacks Callers table) (NoCallers route) ++ given (lacks_reserved table t) (reserved_warning route t)
+
+abbrev pub default_limits : (route : ℕ) → Members → Terms → List Warning
+default_limits route table t = given (lacks_takeover table t) (NoTakeover route) ++ given (lacks ResendPercent table) (NoResendLimit route)
+
+-- the warnings about the values of a route
+abbrev pub value_warnings : (route : ℕ) → Terms → List Warning
+value_warnings route t = (number_warnings route t ++ key_warnings route t.access) ++ rule_warnings route t
+
+-- all warnings about the route of this number, which has this table
+abbrev pub route_warnings : (route : ℕ) → Members → Terms → List Warning
+route_warnings route table t = (value_warnings route t ++ default_admission route table t) ++ default_limits route table t
+
+-- and about these routes of a configuration's table, the first of which has this number
+abbrev pub routes_warnings : (table : Members) → (route : ℕ) → List Terms → List Warning
+routes_warnings table route [] = []
+routes_warnings table route (t ∷ ts) = route_warnings route (route_table table route) t ++ routes_warnings table (suc route) ts
 
 abbrev pub is_example : Option (List ℕ) → Bool
 is_example (Some text) = bytes_eq text (codes "000102030405060708090a0b0c0d0e0f101112131415161718191a1b1c1d1e1f")
@@ -132,7 +185,7 @@ status_warnings None = []
 
 -- all warnings about a configuration that was read from this table, and has this status page and these routes
 abbrev pub warnings_of : Members → (status : Option BindAddress) → List Terms → List Warning
-warnings_of table status routes = given (has_example_secret table) ExampleSecret ++ status_warnings status ++ routes_warnings 1 routes
+warnings_of table status routes = given (has_example_secret table) ExampleSecret ++ status_warnings status ++ routes_warnings table 1 routes
 
 -- the number of the route that a warning is about
 abbrev pub route_of : Warning → Option ℕ
@@ -145,6 +198,18 @@ route_of (OpenKey route role) = Some route
 route_of (UnusedTakeover route) = Some route
 route_of (UnusedAddressLimit route limit sessions) = Some route
 route_of (OneUnreserved route reserved sessions) = Some route
+route_of (NoCallers route) = Some route
+route_of (NoReserved route slots) = Some route
+route_of (NoTakeover route) = Some route
+route_of (NoResendLimit route) = Some route
+
+-- whether a warning is about a key that the route's table doesn't have
+abbrev pub names_missing_key : Warning → Bool
+names_missing_key (NoCallers route) = true
+names_missing_key (NoReserved route slots) = true
+names_missing_key (NoTakeover route) = true
+names_missing_key (NoResendLimit route) = true
+names_missing_key _ = false
 
 abbrev pub name_if : Option Terms → List ℕ
 name_if None = []
@@ -158,3 +223,22 @@ name_at number routes = name_if (slice_get routes (number - 1))
 abbrev pub name_for : (route : Option ℕ) → List Terms → List ℕ
 name_for None routes = []
 name_for (Some number) routes = name_at number routes
+
+-- another key of a role, where it has one
+abbrev pub with_key : (key : List ℕ) → Option (List ℕ) → Option (List ℕ)
+with_key key None = None
+with_key key (Some old) = Some key
+
+abbrev pub with_role_key : (key : List ℕ) → RoleTerms → RoleTerms
+with_role_key key role = record { from = role.from; key = with_key key role.key }
+
+-- other keys of a route's roles, where these have some
+abbrev pub with_keys : (publish request : List ℕ) → Terms → Terms
+with_keys publish request t =
+    record t { access = record { publish = with_role_key publish t.access.publish; request = with_role_key request t.access.request } }
+
+-- the warnings are the same whatever the keys of the routes' roles are
+abbrev pub WarnsOfNoKey : Type 0
+WarnsOfNoKey =
+    (table : Members) (status : Option BindAddress) (routes : List Terms) (publish request : List ℕ) →
+    warnings_of table status (map (with_keys publish request) routes) ≡ warnings_of table status routes

@@ -7,9 +7,9 @@ ghost use Rattle.toml.specs.View.{table_view};
 ghost use Rattle.srt_config.specs.FirstFault.{Gives};
 ghost use Rattle.srt_config.specs.Config.{settings_at, settings_of, config_in};
 ghost use Rattle.srt_config.specs.KeyTable.{is_private};
-ghost use Rattle.srt_seq.specs.Terms.{terms_of};
+ghost use Rattle.srt_types.specs.Terms.{terms_of};
 ghost use Rattle.srt_explain.specs.Warnings.{route_of, name_at, name_for};
-ghost use Rattle.srt_explain.specs.Explaining.{plain, number_of, HasPlace, is_fault_private, IsPrivate, HasWarnings};
+ghost use Rattle.srt_explain.specs.Explaining.{plain, number_of, HasPlace, is_fault_private, is_hint_private, IsPrivate, HasWarnings};
 
 use crate::explanation::{Explanation, Hint, RouteAt, bare};
 use crate::hints::{
@@ -18,7 +18,7 @@ use crate::hints::{
 use crate::values::{route_at, routes_before, text_or_empty, value_at};
 use crate::warnings::{Warning, WarningText, warnings_of};
 use srt_config::{Config, ConfigFault, Key, PlacedFault, read_table};
-use srt_seq::{Entry, is_name};
+use srt_types::{Entry, is_name};
 use std::alloc::Global;
 use std::fmt::InlineText;
 use std::str;
@@ -78,7 +78,8 @@ struct Known {
 }
 
 fn only(hint: Hint) -> Known
-    ensures { inline_text result.value ≡ [] }
+    ensures value { inline_text result.value ≡ [] }
+    ensures hint { result.hint ≡ hint }
 {
     Known {
         value: InlineText::new(),
@@ -87,7 +88,8 @@ fn only(hint: Hint) -> Known
 }
 
 fn at_key(table: &Table, key: Key, hint: Hint) -> Known
-    ensures { is_private key ≡ true → inline_text result.value ≡ [] }
+    ensures value { is_private key ≡ true → inline_text result.value ≡ [] }
+    ensures hint { result.hint ≡ hint }
 {
     Known {
         value: shown(table, key),
@@ -98,7 +100,8 @@ fn at_key(table: &Table, key: Key, hint: Hint) -> Known
 /// Returns what is known of a fault in a table: that of its route, or the whole one if it isn't one route's. `before` are
 /// the tables of the routes before.
 fn known_of(at: &Table, in_route: bool, before: &[Value], fault: &ConfigFault) -> Known
-    ensures { is_fault_private fault.now ≡ true → inline_text result.value ≡ [] }
+    ensures value { is_fault_private fault.now ≡ true → inline_text result.value ≡ [] }
+    ensures hint { is_fault_private fault.now ≡ true → is_hint_private result.hint ≡ true }
 {
     match fault {
         ConfigFault::UnknownKey(key) => only(of_unknown(in_route, key.as_str())),
@@ -139,7 +142,7 @@ fn route_of(number: usize, route: &Table, fault: &ConfigFault) -> RouteAt
 fn explained_in_route(table: &Table, fault: ConfigFault, number: usize) -> Explanation
     ensures fault { result.fault ≡ fault }
     ensures route { option_map number_of result.route ≡ Some number }
-    ensures private { is_fault_private fault ≡ true → inline_text result.value ≡ [] }
+    ensures private { IsPrivate result }
 {
     let before = routes_before(table, number);
     match route_at(table, number) {
@@ -169,7 +172,7 @@ fn explained_in_route(table: &Table, fault: ConfigFault, number: usize) -> Expla
 fn explained_above(table: &Table, fault: ConfigFault) -> Explanation
     ensures fault { result.fault ≡ fault }
     ensures route { result.route ≡ None }
-    ensures private { is_fault_private fault ≡ true → inline_text result.value ≡ [] }
+    ensures private { IsPrivate result }
 {
     let known = known_of(table, false, &[], &fault);
     Explanation {

@@ -117,6 +117,7 @@ impl Explanation {
 pub(crate) fn bare(fault: ConfigFault) -> Explanation
     ensures fault { result.fault ≡ fault }
     ensures value { inline_text result.value ≡ [] }
+    ensures hint { result.hint ≡ Hint.Nothing }
 {
     Explanation {
         fault,

@@ -1,5 +1,9 @@
 //! Hints: what may help to fix a fault.
 
+ghost use Rattle.std.specs.Prelude.{◌≡◌, true};
+ghost use Rattle.srt_config.specs.KeyTable.{is_private};
+ghost use Rattle.srt_explain.specs.Explaining.{is_hint_private};
+
 use crate::explanation::Hint;
 use crate::places::{line_at, place_after};
 use crate::resemblance::resembled;
@@ -39,7 +43,9 @@ fn key_named(keys: &[Key], text: &str) -> Option<Key> {
 }
 
 /// Returns the hint for a key that isn't known in a route's table, or in the whole one.
-pub(crate) fn of_unknown(in_route: bool, text: &str) -> Hint {
+pub(crate) fn of_unknown(in_route: bool, text: &str) -> Hint
+    ensures { is_hint_private result ≡ true }
+{
     match in_route {
         true => of_unknown_in_route(text),
         false => of_unknown_above(text),
@@ -47,7 +53,9 @@ pub(crate) fn of_unknown(in_route: bool, text: &str) -> Hint {
 }
 
 /// Returns the hint for a key that isn't known in the whole table.
-fn of_unknown_above(text: &str) -> Hint {
+fn of_unknown_above(text: &str) -> Hint
+    ensures { is_hint_private result ≡ true }
+{
     match key_named(&ROUTE_KEYS, text) {
         Some(key) => Hint::OfRoute(key),
         None => match resembled(&TOP_KEYS, text.as_bytes()) {
@@ -58,7 +66,9 @@ fn of_unknown_above(text: &str) -> Hint {
 }
 
 /// Returns the hint for a key that isn't known in a route's table.
-fn of_unknown_in_route(text: &str) -> Hint {
+fn of_unknown_in_route(text: &str) -> Hint
+    ensures { is_hint_private result ≡ true }
+{
     match key_named(&TOP_KEYS, text) {
         Some(key) => Hint::OfTable(key),
         None => match resembled(&ROUTE_KEYS, text.as_bytes()) {
@@ -88,7 +98,9 @@ fn first_other(values: &[Value]) -> Option<usize> {
 }
 
 /// Returns the hint for a value of the wrong kind.
-pub(crate) fn of_kind(table: &Table, key: Key) -> Hint {
+pub(crate) fn of_kind(table: &Table, key: Key) -> Hint
+    ensures { is_private key ≡ true → is_hint_private result ≡ true }
+{
     let Some(value) = value_at(table, key) else {
         return Hint::Nothing;
     };
@@ -190,7 +202,9 @@ fn of_reserved(route: &Table) -> Hint {
 }
 
 /// Returns the hint for a value outside its limits.
-pub(crate) fn of_range(table: &Table, key: Key) -> Hint {
+pub(crate) fn of_range(table: &Table, key: Key) -> Hint
+    ensures { is_private key ≡ true → is_hint_private result ≡ true }
+{
     match key {
         Key::Route => Hint::Routes(routes_of(table).len()),
         Key::Mode | Key::Callers => of_choice(key, text_or_empty(table, key)),
@@ -223,7 +237,9 @@ pub(crate) fn of_name(name: &str) -> Hint {
 }
 
 /// Returns the hint for a secret that isn't 64 hexadecimal digits.
-pub(crate) fn of_secret(text: &str) -> Hint {
+pub(crate) fn of_secret(text: &str) -> Hint
+    ensures { is_hint_private result ≡ true }
+{
     let mut count = 0usize;
     for it in text.chars() {
         count = count.saturating_add(1);
@@ -235,7 +251,9 @@ pub(crate) fn of_secret(text: &str) -> Hint {
 }
 
 /// Returns the hint for an address of the wrong form.
-fn of_address(text: &str) -> Hint {
+fn of_address(text: &str) -> Hint
+    ensures { is_hint_private result ≡ true }
+{
     let colons = text.as_bytes().iter().filter(|byte| **byte == b':').count();
     if text.starts_with("[") || colons > 1 {
         return Hint::Ipv6;
@@ -250,7 +268,9 @@ fn of_address(text: &str) -> Hint {
 }
 
 /// Returns the hint for an address of the wrong form, or a list with a text that isn't a network.
-pub(crate) fn of_bad_address(table: &Table, key: Key) -> Hint {
+pub(crate) fn of_bad_address(table: &Table, key: Key) -> Hint
+    ensures { is_private key ≡ true → is_hint_private result ≡ true }
+{
     match key.kind() {
         ValueKind::Networks => of_networks(table, key),
         ValueKind::Text | ValueKind::Number | ValueKind::Tables => {

@@ -11,7 +11,7 @@
 //!
 //! Files: `explaining.rt` joins the others; `hints.rt` and `resemblance.rt` find what may have been meant; `values.rt`
 //! reads the table at the fault; `places.rt` counts lines and columns; `texts.rt` has the words; `warnings.rt` the risks;
-//! `laws.rt` relates the definitions to `srt_route`.
+//! `laws.rt` relates the definitions to `srt_route`, and states that warnings tell no secret.
 #![tactic(auto)]
 
 mod explaining;

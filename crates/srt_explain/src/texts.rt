@@ -1,9 +1,16 @@
 //! The words of explanations and warnings.
 
+ghost use Rattle.std.specs.Prelude.{◌≡◌, Some};
+ghost use Rattle.std.specs.Fmt.{DisplaysOnOk};
+ghost use Rattle.srt_explain.specs.Texts.{octets_text, exposed_text, loopback_text, exposed_status_text, open_key_text, small_outbox_text};
+ghost use Rattle.srt_explain.specs.Texts.{brought_text, enough_text, small_window_text, one_session_text};
+ghost use Rattle.srt_explain.specs.Texts.{unused_takeover_text, unused_limit_text, one_unreserved_text, no_callers_text, no_reserved_text};
+ghost use Rattle.srt_explain.specs.Texts.{no_takeover_text, no_resend_limit_text, example_secret_text, warning_text, route_text, warning_line};
+
 use crate::explanation::{Explanation, Hint, RouteAt};
 use crate::warnings::{Warning, WarningText};
 use srt_config::{BindAddress, ConfigFault, Key, Limits, ROUTE_KEYS, TOP_KEYS, ValueKind};
-use srt_seq::Role;
+use srt_types::Role;
 use std::fmt;
 
 /// A key as it is written, in quotes if it isn't one of letters, digits, `-` and `_` alone.
@@ -316,6 +323,9 @@ fn address_before_port(key: Key) -> &'static str {
 struct Octets([u8; 4]);
 
 impl fmt::Display for Octets {
+    ghost output = { λ x. Some (octets_text x.0) };
+
+    #[tactic(auto, unfolding(crate::specs::Texts::octets_text))]
     fn fmt<W: fmt::Write>(&self, f: &mut fmt::Formatter<W>) -> fmt::Result {
         let [a, b, c, d] = self.0;
         write!(f, "{a}.{b}.{c}.{d}")
@@ -399,24 +409,45 @@ impl fmt::Display for Explanation {
     }
 }
 
-fn write_exposed_status<W: fmt::Write>(
-    f: &mut fmt::Formatter<W>,
-    address: BindAddress,
-) -> fmt::Result {
-    let (ip, port) = (Octets(address.ip), address.port);
+/// Writes at which address others can reach the status page.
+#[tactic(auto, unfolding(crate::specs::Texts::exposed_text))]
+fn write_exposed<W: fmt::Write>(f: &mut fmt::Formatter<W>, address: BindAddress) -> fmt::Result
+    ensures { DisplaysOnOk W.write_str_gives f.old result (Some (exposed_text address)) f.new }
+{
+    let ip = Octets(address.ip);
+    let port = address.port;
     write!(
         f,
-        "status = \"{ip}:{port}\": others can reach the status page, "
-    )?;
-    f.write_str("which tells who is connected and can't ask for a password; ")?;
+        "status = \"{ip}:{port}\": others can reach the status page, which tells who is connected and can't ask for a password; "
+    )
+}
+
+/// Writes which address is better.
+#[tactic(auto, unfolding(crate::specs::Texts::loopback_text))]
+fn write_loopback<W: fmt::Write>(f: &mut fmt::Formatter<W>, port: u16) -> fmt::Result
+    ensures { DisplaysOnOk W.write_str_gives f.old result (Some (loopback_text port)) f.new }
+{
     write!(
         f,
         "write \"127.0.0.1:{port}\", with a proxy before it if others are to see it"
     )
 }
 
+fn write_exposed_status<W: fmt::Write>(
+    f: &mut fmt::Formatter<W>,
+    address: BindAddress,
+) -> fmt::Result
+    ensures { DisplaysOnOk W.write_str_gives f.old result (Some (exposed_status_text address)) f.new }
+{
+    write_exposed(f, address)?;
+    write_loopback(f, address.port)
+}
+
 /// Writes the risk of a key without a list.
-fn write_open_key<W: fmt::Write>(f: &mut fmt::Formatter<W>, role: Role) -> fmt::Result {
+#[tactic(auto, unfolding(crate::specs::Texts::open_key_text))]
+fn write_open_key<W: fmt::Write>(f: &mut fmt::Formatter<W>, role: Role) -> fmt::Result
+    ensures { DisplaysOnOk W.write_str_gives f.old result (Some (open_key_text role)) f.new }
+{
     let (key, list) = match role {
         Role::Publish => (Key::PublishKey.name(), Key::PublishFrom.name()),
         Role::Request => (Key::RequestKey.name(), Key::RequestFrom.name()),
@@ -428,11 +459,14 @@ fn write_open_key<W: fmt::Write>(f: &mut fmt::Formatter<W>, role: Role) -> fmt::
     write!(f, "write {list} too, if the callers' addresses are known")
 }
 
+#[tactic(auto, unfolding(crate::specs::Texts::small_outbox_text))]
 fn write_small_outbox<W: fmt::Write>(
     f: &mut fmt::Formatter<W>,
     outbox: u32,
     replies: u64,
-) -> fmt::Result {
+) -> fmt::Result
+    ensures { DisplaysOnOk W.write_str_gives f.old result (Some (small_outbox_text outbox replies)) f.new }
+{
     write!(
         f,
         "outbox = {outbox}: one event can give {replies} replies (4 + 66 x sessions), "
@@ -443,40 +477,71 @@ fn write_small_outbox<W: fmt::Write>(
     )
 }
 
+/// Writes how many packets a stream brings.
+#[tactic(auto, unfolding(crate::specs::Texts::brought_text))]
+fn write_brought<W: fmt::Write>(
+    f: &mut fmt::Formatter<W>,
+    buffer: u32,
+    packets: u64,
+    millis: u64,
+) -> fmt::Result
+    ensures { DisplaysOnOk W.write_str_gives f.old result (Some (brought_text buffer packets millis)) f.new }
+{
+    write!(
+        f,
+        "buffer = {buffer}: a stream of 1 Mbit/s brings {packets} packets in {millis} ms, "
+    )
+}
+
+/// Writes how many places are better.
+#[tactic(auto, unfolding(crate::specs::Texts::enough_text))]
+fn write_enough<W: fmt::Write>(f: &mut fmt::Formatter<W>, packets: u64) -> fmt::Result
+    ensures { DisplaysOnOk W.write_str_gives f.old result (Some (enough_text packets)) f.new }
+{
+    write!(
+        f,
+        "and what has no place is lost; write {packets} or more, and as many times more as the stream has Mbit/s"
+    )
+}
+
 fn write_small_window<W: fmt::Write>(
     f: &mut fmt::Formatter<W>,
     buffer: u32,
     packets: u64,
     millis: u64,
-) -> fmt::Result {
-    write!(
-        f,
-        "buffer = {buffer}: a stream of 1 Mbit/s brings {packets} packets in {millis} ms, "
-    )?;
-    write!(
-        f,
-        "and what has no place is lost; write {packets} or more, "
-    )?;
-    f.write_str("and as many times more as the stream has Mbit/s")
+) -> fmt::Result
+    ensures { DisplaysOnOk W.write_str_gives f.old result (Some (small_window_text buffer packets millis)) f.new }
+{
+    write_brought(f, buffer, packets, millis)?;
+    write_enough(f, packets)
 }
 
-fn write_one_session<W: fmt::Write>(f: &mut fmt::Formatter<W>) -> fmt::Result {
+#[tactic(auto, unfolding(crate::specs::Texts::one_session_text))]
+fn write_one_session<W: fmt::Write>(f: &mut fmt::Formatter<W>) -> fmt::Result
+    ensures { DisplaysOnOk W.write_str_gives f.old result (Some one_session_text) f.new }
+{
     f.write_str("sessions = 1: an encoder takes it, and nobody can receive; ")?;
     f.write_str("write 2 or more, 3 with a backup encoder")
 }
 
-fn write_unused_takeover<W: fmt::Write>(f: &mut fmt::Formatter<W>) -> fmt::Result {
+#[tactic(auto, unfolding(crate::specs::Texts::unused_takeover_text))]
+fn write_unused_takeover<W: fmt::Write>(f: &mut fmt::Formatter<W>) -> fmt::Result
+    ensures { DisplaysOnOk W.write_str_gives f.old result (Some unused_takeover_text) f.new }
+{
     f.write_str(
         "takeover_ms: it has no effect in buffer mode, where the publisher that stands by ",
     )?;
     f.write_str("waits for the end of the active one; leave it out")
 }
 
+#[tactic(auto, unfolding(crate::specs::Texts::unused_limit_text))]
 fn write_unused_limit<W: fmt::Write>(
     f: &mut fmt::Formatter<W>,
     limit: u32,
     sessions: u32,
-) -> fmt::Result {
+) -> fmt::Result
+    ensures { DisplaysOnOk W.write_str_gives f.old result (Some (unused_limit_text limit sessions)) f.new }
+{
     write!(
         f,
         "sessions_per_address = {limit}: it has no effect with sessions = {sessions}, "
@@ -484,11 +549,14 @@ fn write_unused_limit<W: fmt::Write>(
     f.write_str("since one address may take all of them; write less, or leave it out")
 }
 
+#[tactic(auto, unfolding(crate::specs::Texts::one_unreserved_text))]
 fn write_one_unreserved<W: fmt::Write>(
     f: &mut fmt::Formatter<W>,
     reserved: u32,
     sessions: u32,
-) -> fmt::Result {
+) -> fmt::Result
+    ensures { DisplaysOnOk W.write_str_gives f.old result (Some (one_unreserved_text reserved sessions)) f.new }
+{
     write!(
         f,
         "reserved = {reserved}: of sessions = {sessions} one alone is left for subscribers; "
@@ -496,13 +564,54 @@ fn write_one_unreserved<W: fmt::Write>(
     f.write_str("raise sessions, if more than one is to receive")
 }
 
+#[tactic(auto, unfolding(crate::specs::Texts::no_callers_text))]
+fn write_no_callers<W: fmt::Write>(f: &mut fmt::Formatter<W>) -> fmt::Result
+    ensures { DisplaysOnOk W.write_str_gives f.old result (Some no_callers_text) f.new }
+{
+    f.write_str("callers is missing, so the route follows the draft to the byte, and nearly all ")?;
+    f.write_str("encoders and players use libsrt; write callers = \"libsrt\"")
+}
+
+#[tactic(auto, unfolding(crate::specs::Texts::no_reserved_text))]
+fn write_no_reserved<W: fmt::Write>(f: &mut fmt::Formatter<W>, slots: u32) -> fmt::Result
+    ensures { DisplaysOnOk W.write_str_gives f.old result (Some (no_reserved_text slots)) f.new }
+{
+    f.write_str(
+        "reserved is missing, so players can take all sessions, and the encoder gets none; ",
+    )?;
+    write!(f, "write reserved = {slots}")
+}
+
+#[tactic(auto, unfolding(crate::specs::Texts::no_takeover_text))]
+fn write_no_takeover<W: fmt::Write>(f: &mut fmt::Formatter<W>) -> fmt::Result
+    ensures { DisplaysOnOk W.write_str_gives f.old result (Some no_takeover_text) f.new }
+{
+    f.write_str("takeover_ms is missing, so a backup encoder waits for the end of the other ")?;
+    f.write_str("session, five silent seconds; write takeover_ms = 500")
+}
+
+#[tactic(auto, unfolding(crate::specs::Texts::no_resend_limit_text))]
+fn write_no_resend_limit<W: fmt::Write>(f: &mut fmt::Formatter<W>) -> fmt::Result
+    ensures { DisplaysOnOk W.write_str_gives f.old result (Some no_resend_limit_text) f.new }
+{
+    f.write_str("resend_percent is missing, so one player that requests packets again and again ")?;
+    f.write_str("can fill the line; write resend_percent = 50")
+}
+
+#[tactic(auto, unfolding(crate::specs::Texts::example_secret_text))]
+fn write_example_secret<W: fmt::Write>(f: &mut fmt::Formatter<W>) -> fmt::Result
+    ensures { DisplaysOnOk W.write_str_gives f.old result (Some example_secret_text) f.new }
+{
+    f.write_str("secret: it is that of examples/gateway.toml, which everybody can ")?;
+    f.write_str("read; put the output of openssl rand -hex 32 in its place")
+}
+
 /// Writes a warning without its route.
-fn write_warning<W: fmt::Write>(f: &mut fmt::Formatter<W>, warning: Warning) -> fmt::Result {
+fn write_warning<W: fmt::Write>(f: &mut fmt::Formatter<W>, warning: Warning) -> fmt::Result
+    ensures { DisplaysOnOk W.write_str_gives f.old result (Some (warning_text warning)) f.new }
+{
     match warning {
-        Warning::ExampleSecret => {
-            f.write_str("secret: it is that of examples/gateway.toml, which everybody can ")?;
-            f.write_str("read; put the output of openssl rand -hex 32 in its place")
-        }
+        Warning::ExampleSecret => write_example_secret(f),
         Warning::ExposedStatus { address } => write_exposed_status(f, address),
         Warning::SmallOutbox {
             outbox,
@@ -528,16 +637,33 @@ fn write_warning<W: fmt::Write>(f: &mut fmt::Formatter<W>, warning: Warning) -> 
             sessions,
             ..
         } => write_one_unreserved(f, reserved, sessions),
+        Warning::NoCallers { .. } => write_no_callers(f),
+        Warning::NoReserved { slots, .. } => write_no_reserved(f, slots),
+        Warning::NoTakeover { .. } => write_no_takeover(f),
+        Warning::NoResendLimit { .. } => write_no_resend_limit(f),
+    }
+}
+
+/// Writes the route that a warning is about, if it is about one.
+#[tactic(auto, unfolding(crate::specs::Texts::route_text))]
+fn write_route<W: fmt::Write>(
+    f: &mut fmt::Formatter<W>,
+    route: Option<usize>,
+    name: &str,
+) -> fmt::Result
+    ensures { DisplaysOnOk W.write_str_gives f.old result (Some (route_text route name.now)) f.new }
+{
+    match route {
+        Some(route) => write!(f, "warning: route {route} ({name}): "),
+        None => f.write_str("warning: "),
     }
 }
 
 impl fmt::Display for WarningText<'_> {
+    ghost output = { λ x. Some (warning_line x.warning x.name.now) };
+
     fn fmt<W: fmt::Write>(&self, f: &mut fmt::Formatter<W>) -> fmt::Result {
-        f.write_str("warning: ")?;
-        if let Some(route) = self.warning.route() {
-            let name = self.name;
-            write!(f, "route {route} ({name}): ")?;
-        }
+        write_route(f, self.warning.route(), self.name)?;
         write_warning(f, self.warning)
     }
 }

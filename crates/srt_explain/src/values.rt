@@ -1,11 +1,12 @@
 //! The values in the table of a configuration.
 
 ghost use Rattle.std.specs.Prelude.{◌≡◌, option_map};
-ghost use Rattle.toml.specs.Data.{get_member};
-ghost use Rattle.toml.specs.View.{table_view};
+ghost use Rattle.std.specs.Prelude.{◌-◌};
+ghost use Rattle.toml.specs.Data.{get_item, get_member};
+ghost use Rattle.toml.specs.View.{items_view, table_view};
 ghost use Rattle.srt_config.specs.KeyTable.{key_name};
 ghost use Rattle.srt_config.specs.Keys.{value_seen};
-ghost use Rattle.srt_explain.specs.Warnings.{text_in};
+ghost use Rattle.srt_explain.specs.Warnings.{text_in, items_in, members_if, members_in, route_table, lacks};
 
 use srt_config::{Key, read_network};
 use toml::{Table, Value};
@@ -36,7 +37,9 @@ pub(crate) fn number_at(table: &Table, key: Key) -> Option<i64> {
 }
 
 /// Returns the routes of a configuration's table; none if they aren't a list.
-pub(crate) fn routes_of(table: &Table) -> &[Value] {
+pub(crate) fn routes_of(table: &Table) -> &[Value]
+    ensures { items_view result.now ≡ items_in (get_member (key_name Key.Route) (table_view table.now)) }
+{
     match value_at(table, Key::Route) {
         Some(value) => match value.as_array() {
             Some(routes) => routes.as_slice(),
@@ -100,11 +103,43 @@ pub(crate) fn text_or_empty(table: &Table, key: Key) -> &str {
     text_at(table, key).unwrap_or("")
 }
 
-/// Returns the table of the route of this number, counted from 1.
-pub(crate) fn route_at(table: &Table, number: usize) -> Option<&Table> {
-    match routes_of(table).get(number.saturating_sub(1)) {
+/// Returns the value of this number, counted from 1, in a list.
+#[tactic(auto, using(toml::proofs::Views::get_item_within, toml::proofs::Views::get_item_past))]
+fn value_of_number(values: &[Value], number: usize) -> Option<&Value>
+    ensures { option_map value_seen result ≡ get_item (number - 1) (items_view values.now) }
+{
+    let at = number.saturating_sub(1);
+    if at < values.len() {
+        Some(&values[at])
+    } else {
+        None
+    }
+}
+
+/// Returns the table that a value is.
+fn table_of(value: Option<&Value>) -> Option<&Table>
+    ensures { members_if (option_map (λ t. table_view t.now) result) ≡ members_in (option_map value_seen value.entry) }
+{
+    match value {
         Some(route) => route.as_table(),
         None => None,
+    }
+}
+
+/// Returns the table of the route of this number, counted from 1.
+pub(crate) fn route_at(table: &Table, number: usize) -> Option<&Table>
+    ensures { members_if (option_map (λ t. table_view t.now) result) ≡ route_table (table_view table.now) number }
+{
+    table_of(value_of_number(routes_of(table), number))
+}
+
+/// Whether the table of the route of this number has no such key.
+pub(crate) fn lacks(table: &Table, number: usize, key: Key) -> bool
+    ensures { result ≡ lacks key (route_table (table_view table.now) number) }
+{
+    match route_at(table, number) {
+        Some(route) => value_at(route, key).is_none(),
+        None => true,
     }
 }
 

@@ -2,17 +2,19 @@
 
 ghost use Rattle.std.specs.Prelude.{◌≡◌, ◌++◌, ◌^◌, ◌<◌, map, IfOk, OnOk};
 ghost use Rattle.toml.specs.View.{table_view};
-ghost use Rattle.srt_seq.specs.Access.{access_of, role_access_of};
-ghost use Rattle.srt_seq.specs.Terms.{terms_of};
-ghost use Rattle.srt_explain.specs.Warnings.{replies_of, packets_of, millis_of, is_small_outbox, is_small_window, has_one_session};
+ghost use Rattle.srt_types.specs.Access.{access_of, role_access_of};
+ghost use Rattle.srt_types.specs.Terms.{terms_of};
+ghost use Rattle.srt_explain.specs.Warnings.{replies_of, packets_of, millis_of, if_live, is_small_outbox, is_small_window, has_one_session};
 ghost use Rattle.srt_explain.specs.Warnings.{outbox_warning, window_warning, given, has_example_secret, is_loopback, status_warnings};
 ghost use Rattle.srt_explain.specs.Warnings.{number_warnings, has_open_key, key_warnings, has_unused_takeover, has_unused_limit};
 ghost use Rattle.srt_explain.specs.Warnings.{limit_warning, has_one_unreserved, unreserved_warning, rule_warnings, route_warnings, routes_warnings};
-ghost use Rattle.srt_explain.specs.Warnings.{warnings_of, route_of};
+ghost use Rattle.srt_explain.specs.Warnings.{route_table, lacks, advised_slots, lacks_reserved, reserved_warning, lacks_takeover};
+ghost use Rattle.srt_explain.specs.Warnings.{default_admission, default_limits, value_warnings};
+ghost use Rattle.srt_explain.specs.Warnings.{warnings_of, route_of, names_missing_key};
 
-use crate::values::text_at;
+use crate::values::{lacks, text_at};
 use srt_config::{BindAddress, Config, Key};
-use srt_seq::{Access, Entry, Mode, Role, RoleAccess};
+use srt_types::{Access, Entry, Mode, Role, RoleAccess};
 use std::alloc::{AllocError, Global};
 use toml::Table;
 
@@ -82,6 +84,28 @@ pub enum Warning {
         /// The route's sessions.
         sessions: u32,
     },
+    /// A route's table doesn't have `callers`: the route follows the draft to the byte, and nearly all callers use libsrt.
+    NoCallers {
+        /// The route.
+        route: usize,
+    },
+    /// A route's table doesn't have `reserved`: subscribers may take all slots.
+    NoReserved {
+        /// The route.
+        route: usize,
+        /// The slots to keep for publishers.
+        slots: u32,
+    },
+    /// The table of a live route doesn't have `takeover_ms`: the standby waits for the end of the active publisher's session.
+    NoTakeover {
+        /// The route.
+        route: usize,
+    },
+    /// A route's table doesn't have `resend_percent`: packets are sent again without a limit.
+    NoResendLimit {
+        /// The route.
+        route: usize,
+    },
 }
 
 impl Warning {
@@ -97,7 +121,25 @@ impl Warning {
             | Warning::OpenKey { route, .. }
             | Warning::UnusedTakeover { route }
             | Warning::UnusedAddressLimit { route, .. }
-            | Warning::OneUnreserved { route, .. } => Some(route),
+            | Warning::OneUnreserved { route, .. }
+            | Warning::NoCallers { route }
+            | Warning::NoReserved { route, .. }
+            | Warning::NoTakeover { route }
+            | Warning::NoResendLimit { route } => Some(route),
+        }
+    }
+
+    /// Whether it is about a key that the route's table doesn't have. A run doesn't log these, since they would be
+    /// several lines for each route that follows the draft.
+    pub fn names_missing_key(self) -> bool
+        ensures { result ≡ names_missing_key self }
+    {
+        match self {
+            Warning::NoCallers { .. }
+            | Warning::NoReserved { .. }
+            | Warning::NoTakeover { .. }
+            | Warning::NoResendLimit { .. } => true,
+            _ => false,
         }
     }
 }
@@ -153,14 +195,21 @@ fn is_small_outbox(entry: &Entry) -> bool
     u64::from(entry.outbox) < replies_of(entry)
 }
 
+/// Whether a route is live, and this holds of it.
+fn if_live(mode: Mode, holds: bool) -> bool
+    ensures { result ≡ if_live mode holds }
+{
+    match mode {
+        Mode::Live => holds,
+        Mode::Buffer => false,
+    }
+}
+
 /// Whether a live route's window holds fewer packets than it should.
 fn is_small_window(entry: &Entry) -> bool
     ensures { result ≡ is_small_window (terms_of entry.now) }
 {
-    match entry.mode {
-        Mode::Live => u64::from(entry.buffer) < packets_of(entry),
-        Mode::Buffer => false,
-    }
+    if_live(entry.mode, u64::from(entry.buffer) < packets_of(entry))
 }
 
 fn has_one_session(entry: &Entry) -> bool
@@ -295,9 +344,71 @@ fn push_rules(list: &mut Vec<Warning>, route: usize, entry: &Entry) -> Result<()
     Ok(())
 }
 
-/// Adds the warnings about the route of this number.
-fn push_route(list: &mut Vec<Warning>, route: usize, entry: &Entry) -> Result<(), AllocError>
-    ensures { OnOk result (list.new.items ≡ list.old.items ++ route_warnings route (terms_of entry.now)) }
+/// Returns the slots to keep for publishers: two, if two more are left.
+fn advised_slots(entry: &Entry) -> u32
+    ensures { result ≡ advised_slots (terms_of entry.now) }
+{
+    entry.sessions.saturating_sub(2).min(2)
+}
+
+/// Whether the table of the route of this number has no `reserved`, and the route has slots to keep.
+fn lacks_reserved(table: &Table, route: usize, entry: &Entry) -> bool
+    ensures { result ≡ lacks_reserved (route_table (table_view table.now) route) (terms_of entry.now) }
+{
+    lacks(table, route, Key::Reserved) && entry.sessions > 2
+}
+
+fn reserved_warning(route: usize, entry: &Entry) -> Warning
+    ensures { result ≡ reserved_warning route (terms_of entry.now) }
+{
+    Warning::NoReserved {
+        route,
+        slots: advised_slots(entry),
+    }
+}
+
+/// Whether the table of the live route of this number has no `takeover_ms`.
+fn lacks_takeover(table: &Table, route: usize, entry: &Entry) -> bool
+    ensures { result ≡ lacks_takeover (route_table (table_view table.now) route) (terms_of entry.now) }
+{
+    if_live(entry.mode, lacks(table, route, Key::TakeoverMs))
+}
+
+/// Adds the warnings about `callers` and `reserved`, if the table of the route of this number leaves them out.
+fn push_default_admission(
+    list: &mut Vec<Warning>,
+    table: &Table,
+    route: usize,
+    entry: &Entry,
+) -> Result<(), AllocError>
+    ensures { OnOk result (list.new.items ≡ list.old.items ++ default_admission route (route_table (table_view table.now) route) (terms_of entry.now)) }
+{
+    let is_draft = lacks(table, route, Key::Callers);
+    push_if(list, is_draft, Warning::NoCallers { route })?;
+    let is_open = lacks_reserved(table, route, entry);
+    push_if(list, is_open, reserved_warning(route, entry))?;
+    Ok(())
+}
+
+/// Adds the warnings about `takeover_ms` and `resend_percent`, if the table of the route of this number leaves them out.
+fn push_default_limits(
+    list: &mut Vec<Warning>,
+    table: &Table,
+    route: usize,
+    entry: &Entry,
+) -> Result<(), AllocError>
+    ensures { OnOk result (list.new.items ≡ list.old.items ++ default_limits route (route_table (table_view table.now) route) (terms_of entry.now)) }
+{
+    let is_slow = lacks_takeover(table, route, entry);
+    push_if(list, is_slow, Warning::NoTakeover { route })?;
+    let is_unlimited = lacks(table, route, Key::ResendPercent);
+    push_if(list, is_unlimited, Warning::NoResendLimit { route })?;
+    Ok(())
+}
+
+/// Adds the warnings about the values of the route of this number.
+fn push_values(list: &mut Vec<Warning>, route: usize, entry: &Entry) -> Result<(), AllocError>
+    ensures { OnOk result (list.new.items ≡ list.old.items ++ value_warnings route (terms_of entry.now)) }
 {
     push_numbers(list, route, entry)?;
     push_keys(list, route, &entry.access)?;
@@ -305,16 +416,27 @@ fn push_route(list: &mut Vec<Warning>, route: usize, entry: &Entry) -> Result<()
     Ok(())
 }
 
-/// Adds the warnings about these routes, which are numbered from 1.
-fn push_routes(list: &mut Vec<Warning>, entries: &[Entry]) -> Result<(), AllocError>
-    ensures { OnOk result (list.new.items ≡ list.old.items ++ routes_warnings 1 (map terms_of entries.now)) }
+/// Adds the warnings about the route of this number in a configuration's table.
+fn push_route(
+    list: &mut Vec<Warning>,
+    table: &Table,
+    route: usize,
+    entry: &Entry,
+) -> Result<(), AllocError>
+    ensures { OnOk result (list.new.items ≡ list.old.items ++ route_warnings route (route_table (table_view table.now) route) (terms_of entry.now)) }
 {
-    let mut rest = entries;
-    let mut route = 1usize;
-    while !rest.is_empty() {
-        push_route(list, route, &rest[0])?;
-        rest = &rest[1..];
-        route += 1;
+    push_values(list, route, entry)?;
+    push_default_admission(list, table, route, entry)?;
+    push_default_limits(list, table, route, entry)?;
+    Ok(())
+}
+
+/// Adds the warnings about these routes of a configuration's table, which are numbered from 1.
+fn push_routes(list: &mut Vec<Warning>, table: &Table, entries: &[Entry]) -> Result<(), AllocError>
+    ensures { OnOk result (list.new.items ≡ list.old.items ++ routes_warnings (table_view table.now) 1 (map terms_of entries.now)) }
+{
+    for at in 0..entries.len() {
+        push_route(list, table, at + 1, &entries[at])?;
     }
     Ok(())
 }
@@ -352,6 +474,6 @@ pub(crate) fn warnings_of(
     let mut list = Vec::new(alloc);
     push_if(&mut list, is_example_secret(table), Warning::ExampleSecret)?;
     push_status(&mut list, config.status)?;
-    push_routes(&mut list, config.entries.as_slice())?;
+    push_routes(&mut list, table, config.entries.as_slice())?;
     Ok(list)
 }

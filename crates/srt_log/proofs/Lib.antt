@@ -1,3 +1,6 @@
 pub mod Puts
 pub mod Slots
 pub mod Equal
+pub mod Between
+pub mod Limits
+pub mod Calendar

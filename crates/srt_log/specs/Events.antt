@@ -1,18 +1,20 @@
 -- The line of each event.
 use Rattle.std.specs.Prelude.{ℕ, ◌/◌, Bool, ◌==◌, List, [], ◌∷◌, ◌++◌, Option, None, Some, codes, decimal, if◌then◌else◌}
-use Rattle.srt_seq.specs.declared.shared.Peer.{Peer}
-use Rattle.srt_seq.specs.declared.shared.Role.{Role}
-use Rattle.srt_seq.specs.declared.shared.Role.TheVariants.{Publish, Request}
+use Rattle.std.specs.Fmt.{signed_decimal}
+use Rattle.srt_types.specs.declared.shared.Peer.{Peer}
+use Rattle.srt_types.specs.declared.shared.Role.{Role}
+use Rattle.srt_types.specs.declared.shared.Role.TheVariants.{Publish, Request}
 use Rattle.srt_log.specs.declared.events.Caller.{Caller}
 use Rattle.srt_log.specs.declared.events.SessionCounts.{SessionCounts}
+use Rattle.srt_log.specs.declared.events.ClockDrift.{ClockDrift}
 use Rattle.srt_log.specs.declared.events.EndReason.{EndReason}
 use Rattle.srt_log.specs.declared.events.EndReason.TheVariants.{Shutdown, DrainedTooLong, Silence, WindowLost, StreamEnd, RouteClosed, GatewayStops, Unknown}
 use Rattle.srt_log.specs.declared.events.StopCause.{StopCause}
 use Rattle.srt_log.specs.declared.events.StopCause.TheVariants as causes
 use Rattle.srt_log.specs.declared.events.Trouble.{Trouble}
 use Rattle.srt_log.specs.declared.events.Trouble.TheVariants as troubles
-use Rattle.srt_seq.specs.declared.shared.NotAdmitted.{NotAdmitted}
-use Rattle.srt_seq.specs.declared.shared.NotAdmitted.TheVariants as obstacles
+use Rattle.srt_types.specs.declared.shared.NotAdmitted.{NotAdmitted}
+use Rattle.srt_types.specs.declared.shared.NotAdmitted.TheVariants as obstacles
 use Rattle.srt_log.specs.declared.events.LogEvent.{LogEvent}
 use Rattle.srt_log.specs.declared.events.LogEvent.TheVariants as events
 use Rattle.srt_log.specs.Texts.{put, id_text, escaped_all}
@@ -49,10 +51,16 @@ counts_text counts =
     decimal counts.packets ++ codes " packets, " ++ decimal counts.bytes ++ codes " bytes, " ++ decimal counts.lost ++ codes " lost, "
     ++ decimal counts.resent ++ codes " resent"
 
-abbrev pub ended_text : Caller → EndReason → (lasted_ms : ℕ) → SessionCounts → List ℕ
-ended_text caller reason lasted_ms counts =
+-- how a publisher's clock was followed
+abbrev pub clock_text : Option ClockDrift → List ℕ
+clock_text None = []
+clock_text (Some clock) =
+    codes ", clock drift " ++ signed_decimal clock.ppm ++ codes " ppm, correction " ++ signed_decimal clock.correction ++ codes " us"
+
+abbrev pub ended_text : Caller → EndReason → (lasted_ms : ℕ) → SessionCounts → Option ClockDrift → List ℕ
+ended_text caller reason lasted_ms counts clock =
     caller_text caller ++ codes " ended, socket " ++ id_text caller.id ++ reason_text reason ++ codes ", after " ++ decimal lasted_ms ++ codes " ms, "
-    ++ counts_text counts
+    ++ counts_text counts ++ clock_text clock
 
 -- the name of a reason for a refusal (section 4.3, table 7)
 unfoldable pub code_text : (code : ℕ) → List ℕ
@@ -134,7 +142,7 @@ troubled_text caller trouble = caller_text caller ++ trouble_text trouble ++ id_
 abbrev pub event_text : LogEvent → List ℕ
 event_text (events.Started ip port routes workers memory) = started_text ip port routes workers memory
 event_text (events.Opened caller standby latency_ms) = session_opened_text caller standby latency_ms
-event_text (events.Ended caller reason lasted_ms counts) = ended_text caller reason lasted_ms counts
+event_text (events.Ended caller reason lasted_ms counts clock) = ended_text caller reason lasted_ms counts clock
 event_text (events.TookOver caller) = took_over_text caller
 event_text (events.Troubled caller trouble) = troubled_text caller trouble
 event_text (events.Refused code peer name by) = refused_text code peer name.now by

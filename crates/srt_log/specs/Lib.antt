@@ -1,3 +1,5 @@
+pub mod Dates
+pub mod Times
 pub mod Texts
 pub mod Peers
 pub mod ConfigEvents
@@ -6,3 +8,4 @@ pub mod LineLimit
 pub mod Snapshots
 pub mod Changes
 pub mod Telling
+pub mod Between

@@ -1,5 +1,5 @@
 -- How many lines a second may have, by all calls so far, the newest first.
-use Rattle.std.specs.Prelude.{◌≡◌, ℕ, ◌+◌, ◌-◌, ◌/◌, ◌^◌, Bool, true, nat_lt, nat_le, List, [], ◌∷◌, min, if◌then◌else◌}
+use Rattle.std.specs.Prelude.{◌≡◌, ℕ, ◌+◌, ◌-◌, ◌/◌, ◌^◌, ◌≤◌, Bool, true, nat_lt, nat_le, ◌&&◌, List, [], ◌∷◌, min, if◌then◌else◌}
 use Rattle.srt_log.specs.declared.limit.LineLimit.{LineLimit}
 
 -- a line to be written, or a poll, at a time in microseconds
@@ -41,3 +41,39 @@ omitted_at calls moment = if begins calls moment then left_out_in calls else 0
 pub record StandsFor (limit : LineLimit) (calls : List LimitCall) : Type 0 where
   pub second_is : limit.second ≡ second_of calls
   pub lines_are : limit.lines ≡ lines_in calls
+
+-- one more, if so
+abbrev pub more_if : Bool → ℕ → ℕ
+more_if b n = if b then n + 1 else n
+
+-- a call is a line that is written
+abbrev pub writes : LimitCall → List LimitCall → Bool
+writes a calls = a.is_line && is_written calls a.moment
+
+-- the lines that were written in the latest second
+abbrev pub written_in : List LimitCall → ℕ
+written_in [] = 0
+written_in (a ∷ calls) = more_if (writes a calls) (if begins calls a.moment then 0 else written_in calls)
+
+-- of the lines of a second the first fifty are written, and no more, at any times
+pub record KeepsTheLimit (calls : List LimitCall) : Type 0 where
+  pub first_ones : written_in calls ≡ min (lines_in calls) 50
+  pub most : written_in calls ≤ 50
+
+-- all lines so far, those that were written, and those whose number was returned as left out
+abbrev pub all_lines : List LimitCall → ℕ
+all_lines [] = 0
+all_lines (a ∷ calls) = more_if a.is_line (all_lines calls)
+
+abbrev pub all_written : List LimitCall → ℕ
+all_written [] = 0
+all_written (a ∷ calls) = more_if (writes a calls) (all_written calls)
+
+abbrev pub all_omitted : List LimitCall → ℕ
+all_omitted [] = 0
+all_omitted (a ∷ calls) = all_omitted calls + omitted_at calls a.moment
+
+-- each line is written, was counted as left out, or is left out in the latest second
+abbrev pub CountsEachLine : Type 0
+CountsEachLine =
+    (calls : List LimitCall) → all_lines calls ≤ 2 ^ 64 - 1 → all_lines calls ≡ all_written calls + all_omitted calls + left_out_in calls

@@ -1,7 +1,7 @@
 -- A caller's address and port in a line.
 use Rattle.std.specs.Prelude.{ℕ, ◌+◌, ◌/◌, ◌%◌, List, [], ◌∷◌, ◌++◌, take, slice_index, codes, decimal, if◌then◌else◌}
 use Rattle.std.specs.Str.{bytes_eq}
-use Rattle.srt_seq.specs.declared.shared.Peer.{Peer}
+use Rattle.srt_types.specs.declared.shared.Peer.{Peer}
 use Rattle.srt_log.specs.Texts.{hex_digit}
 
 -- the bytes from an index on

@@ -1,5 +1,5 @@
 -- The session of a slot, and what the log states of it.
-use Rattle.std.specs.Prelude.{ℕ, ◌-◌, ◌==◌, min, Bool, Option, None, Some, if◌then◌else◌}
+use Rattle.std.specs.Prelude.{ℕ, suc, ◌-◌, ◌*◌, ◌/◌, ◌==◌, min, ℤ, pos, negsuc, neg_ℤ, Bool, Option, None, Some, if◌then◌else◌}
 use Rattle.srt_route.specs.declared.ledger.EndCause.{EndCause}
 use Rattle.srt_route.specs.declared.ledger.EndCause.TheVariants as causes
 use Rattle.srt_route.specs.declared.ledger.EndedSession.{EndedSession}
@@ -9,6 +9,7 @@ use Rattle.srt_route.specs.declared.view.Traffic.TheVariants.{Received, Sent}
 use Rattle.srt_log.specs.declared.events.EndReason.{EndReason}
 use Rattle.srt_log.specs.declared.events.EndReason.TheVariants as reasons
 use Rattle.srt_log.specs.declared.events.SessionCounts.{SessionCounts}
+use Rattle.srt_log.specs.declared.events.ClockDrift.{ClockDrift}
 use Rattle.srt_log.specs.declared.events.Trouble.{Trouble}
 use Rattle.srt_log.specs.declared.events.Trouble.TheVariants.{Misdirected, FullWindow, LatePackets}
 use Rattle.srt_log.specs.declared.snapshots.SlotSession.{SlotSession}
@@ -39,8 +40,22 @@ reason_of stops causes.Closed = if stops then reasons.GatewayStops else reasons.
 -- up, and sent again
 abbrev pub counts_of : Traffic → SessionCounts
 counts_of (Received x) =
-    record { packets = x.counts.received; bytes = x.counts.bytes; lost = x.counts.given_up; resent = x.counts.came - x.counts.received }
+    record { packets = x.counts.received; bytes = x.counts.bytes; lost = x.counts.given_up; resent = x.counts.arrived - x.counts.received }
 counts_of (Sent x) = record { packets = x.sendings.fresh; bytes = x.counts.bytes; lost = x.counts.given_up; resent = x.sendings.again }
+
+-- a correction in parts per million of the time since the opening, in microseconds, rounded toward 0; 0 at the opening
+abbrev pub ppm_of : (correction : ℤ) → (elapsed : ℕ) → ℤ
+ppm_of (pos n) elapsed = if elapsed == 0 then pos 0 else pos (1_000_000 * n / elapsed)
+ppm_of (negsuc n) elapsed = if elapsed == 0 then pos 0 else neg_ℤ (pos (1_000_000 * suc n / elapsed))
+
+-- how the clock of a session was followed in the time that it was open; none where it isn't followed
+abbrev pub clock_after : Option ℤ → (elapsed : ℕ) → Option ClockDrift
+clock_after None elapsed = None
+clock_after (Some correction) elapsed = Some (record { ppm = ppm_of correction elapsed; correction = correction })
+
+abbrev pub clock_of : Traffic → (elapsed : ℕ) → Option ClockDrift
+clock_of (Received x) elapsed = clock_after x.correction elapsed
+clock_of (Sent x) elapsed = None
 
 -- how often something was wrong with a session's stream; of a publisher's, at most as many packets arrived too late as were given up
 abbrev pub received_trouble : Trouble → (full_windows late given_up : ℕ) → ℕ

@@ -1,8 +1,8 @@
 -- What the log states of a change.
 use Rattle.std.specs.Prelude.{ℕ, ◌-◌, ◌/◌, Bool, true, false, not, ◌&&◌, nat_lt, List, Option, None, Some, if◌then◌else◌}
 use denote.Ref.{Bor}
-use Rattle.srt_seq.specs.declared.shared.Role.{Role}
-use Rattle.srt_seq.specs.declared.shared.Role.TheVariants.{Publish, Request}
+use Rattle.srt_types.specs.declared.shared.Role.{Role}
+use Rattle.srt_types.specs.declared.shared.Role.TheVariants.{Publish, Request}
 use Rattle.srt_log.specs.declared.events.Caller.{Caller}
 use Rattle.srt_log.specs.declared.events.EndReason.TheVariants as reasons
 use Rattle.srt_log.specs.declared.events.Trouble.{Trouble}
@@ -14,7 +14,7 @@ use Rattle.srt_log.specs.declared.snapshots.SlotSession.TheVariants as sessions
 use Rattle.srt_log.specs.declared.snapshots.RouteSnapshot.{RouteSnapshot}
 use Rattle.srt_log.specs.declared.changes.Change.{Change}
 use Rattle.srt_log.specs.declared.changes.Change.TheVariants.{Gone, Ended, Opened, TookOver, Troubled, Unseen}
-use Rattle.srt_log.specs.Snapshots.{view_of, counts_of, reason_of, latency_of}
+use Rattle.srt_log.specs.Snapshots.{view_of, counts_of, clock_of, reason_of, latency_of}
 use Rattle.srt_log.specs.Changes.{slot_at}
 
 -- the session in a slot
@@ -40,10 +40,13 @@ opened_event route view = events.Opened (caller_of route view) (stands_by view) 
 abbrev pub ended_event : Bor (List ℕ) → (stops : Bool) → SlotSession → Option LogEvent
 ended_event route stops (sessions.Open view) = None
 ended_event route stops (sessions.Ended x) =
-    Some (events.Ended (caller_of route x.view) (reason_of stops x.cause) ((x.moment - x.view.opened) / 1000) (counts_of x.view.traffic))
+    Some (events.Ended (caller_of route x.view) (reason_of stops x.cause) ((x.moment - x.view.opened) / 1000) (counts_of x.view.traffic)
+    (clock_of x.view.traffic (x.moment - x.view.opened)))
 
 abbrev pub gone_event : Bor (List ℕ) → SessionView → (moment : ℕ) → LogEvent
-gone_event route view moment = events.Ended (caller_of route view) reasons.Unknown ((moment - view.opened) / 1000) (counts_of view.traffic)
+gone_event route view moment =
+    events.Ended (caller_of route view) reasons.Unknown ((moment - view.opened) / 1000) (counts_of view.traffic)
+    (clock_of view.traffic (moment - view.opened))
 
 abbrev pub took_over_event : Bor (List ℕ) → SessionView → LogEvent
 took_over_event route view = events.TookOver (caller_of route view)

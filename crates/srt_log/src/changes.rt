@@ -8,7 +8,7 @@ ghost use Rattle.srt_log.specs.Changes.{has_trouble, trouble_at, troubled_at, op
 use crate::events::Trouble;
 use crate::snapshots::{RouteSnapshot, SlotSession};
 use srt_route::{SessionView, Traffic};
-use srt_seq::limits::MAX_SESSIONS;
+use srt_types::product_limits::MAX_SESSIONS;
 
 /// The number of steps in which two snapshots are compared.
 pub const STEPS: usize = 120;

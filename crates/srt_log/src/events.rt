@@ -1,7 +1,7 @@
 //! The events of the log.
 
 use crate::config_events::ConfigEvent;
-use srt_seq::{NotAdmitted, Peer, Role};
+use srt_types::{NotAdmitted, Peer, Role};
 
 /// A session as a line names it.
 #[derive(Clone, Copy)]
@@ -27,6 +27,15 @@ pub struct SessionCounts {
     pub lost: u64,
     /// Packets that were sent again; of a publisher's session, those that arrived in addition to the ones counted.
     pub resent: u64,
+}
+
+/// How a publisher's clock was followed. Both numbers are positive for a clock that is slow.
+#[derive(Clone, Copy)]
+pub struct ClockDrift {
+    /// The correction in parts per million of the time that the session was open, rounded toward 0.
+    pub ppm: i128,
+    /// Microseconds by which delivery moved since the opening.
+    pub correction: i64,
 }
 
 /// Something wrong with a session's stream, of which its caller learns nothing.
@@ -107,6 +116,8 @@ pub enum LogEvent<'a> {
         lasted_ms: u64,
         /// Its counts.
         counts: SessionCounts,
+        /// How its clock was followed; `None` where it isn't followed.
+        clock: Option<ClockDrift>,
     },
     /// A publisher that stood by is the active one now.
     TookOver {

@@ -12,12 +12,13 @@
 //!
 //! Calls: [`write_line`] (`writing.rt`, `config_lines.rt`) writes an event's line, [`LineLimit::line`] returns whether it may,
 //! [`change_at`] compares two snapshots, step by step, and [`event_of`] (`telling.rt`) returns the event of a change.
-//! `srt_watch` makes these calls.
+//! [`utc_text`] (`times.rt`) is the text of a time. `srt_watch` makes these calls.
 #![tactic(auto)]
 
 mod changes;
 mod config_events;
 mod config_lines;
+mod dates;
 mod events;
 pub mod laws;
 mod limit;
@@ -25,15 +26,19 @@ mod line;
 mod peers;
 mod snapshots;
 mod telling;
+mod times;
 mod writing;
 
 pub use changes::{Change, STEPS, change_at};
 pub use config_events::{ChangeSummary, CloseCause, ConfigEvent};
-pub use events::{Caller, EndReason, LogEvent, SessionCounts, StopCause, Trouble};
+pub use events::{Caller, ClockDrift, EndReason, LogEvent, SessionCounts, StopCause, Trouble};
 pub use limit::{LineAllowance, LineLimit};
 pub use snapshots::{RouteSnapshot, SlotSession, slot_of};
 pub use telling::event_of;
+pub use times::utc_text;
 pub use writing::write_line;
 
 #[cfg(test)]
 mod tests;
+#[cfg(test)]
+mod time_tests;

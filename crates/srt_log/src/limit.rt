@@ -2,8 +2,7 @@
 
 ghost use Rattle.std.specs.Prelude.{◌≡◌, [], ◌∷◌, List, true, false};
 
-/// The greatest number of lines in a second.
-const MAX_LINES: u64 = 50;
+use srt_types::product_limits::MAX_LOG_LINES;
 
 /// The microseconds of a second.
 const SECOND: u64 = 1_000_000;
@@ -43,7 +42,7 @@ impl LineLimit {
     pub fn left_out(&self) -> u64
         ensures { (calls : List LimitCall) → StandsFor self.now calls → result ≡ left_out_in calls }
     {
-        self.lines.saturating_sub(MAX_LINES)
+        self.lines.saturating_sub(MAX_LOG_LINES)
     }
 
     /// Whether one more line may be written at this time.
@@ -55,7 +54,7 @@ impl LineLimit {
         let left_out = self.poll(moment);
         self.lines = self.lines.saturating_add(1);
         LineAllowance {
-            written: self.lines <= MAX_LINES,
+            written: self.lines <= MAX_LOG_LINES,
             left_out,
         }
     }

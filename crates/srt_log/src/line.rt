@@ -1,13 +1,12 @@
 //! A line while it is made.
 
 ghost use Rattle.std.specs.Prelude.{◌≡◌, ◌+◌, ◌≤◌, ◌<◌, ◌++◌, ◌∷◌, [], length, decimal};
+ghost use Rattle.std.specs.Fmt.{signed_decimal};
 ghost use Rattle.srt_log.specs.Texts.{put, hex_digit, id_text, escaped, escaped_all, readable, readable_all};
 
 use arrayvec::ArrayVec;
 use itoa::Buffer;
-
-/// The greatest length of a line, in bytes, with its line feed.
-pub(crate) const MAX_LINE: usize = 1024;
+use srt_types::product_limits::MAX_LOG_LINE;
 
 /// The greatest length of a line's text, in bytes.
 const MAX_TEXT: usize = 1023;
@@ -15,12 +14,12 @@ const MAX_TEXT: usize = 1023;
 /// The text of a line: at most 1,023 bytes.
 #[derive(Drop)]
 pub(crate) struct Line {
-    pub(crate) text: ArrayVec<u8, MAX_LINE>,
+    pub(crate) text: ArrayVec<u8, MAX_LOG_LINE>,
     pub(crate) ghost within: { length text.items ≤ 1023 },
 }
 
 /// Puts bytes behind others, where there is room for them.
-fn append(text: &mut ArrayVec<u8, MAX_LINE>, bytes: &[u8])
+fn append(text: &mut ArrayVec<u8, MAX_LOG_LINE>, bytes: &[u8])
     requires { length text.old.items + length bytes.now ≤ 1024 }
     ensures { text.new.items ≡ text.old.items ++ bytes.now }
 {
@@ -63,6 +62,14 @@ impl Line {
         ensures { self.new.text.items ≡ put self.old.text.items (decimal number) }
     {
         self.put_number(u64::from(number));
+    }
+
+    /// Puts a number that may be negative in decimal digits.
+    pub(crate) fn put_signed(&mut self, number: i128)
+        ensures { self.new.text.items ≡ put self.old.text.items (signed_decimal number) }
+    {
+        let mut digits = Buffer::new();
+        self.put(digits.format(number).as_bytes());
     }
 
     /// Puts a socket ID as eight hexadecimal digits behind `0x`.
@@ -131,7 +138,7 @@ impl Line {
     }
 
     /// The line with its line feed.
-    pub(crate) fn ended(self) -> ArrayVec<u8, MAX_LINE>
+    pub(crate) fn ended(self) -> ArrayVec<u8, MAX_LOG_LINE>
         ensures { result.items ≡ self.text.items ++ 10 ∷ [] }
     {
         let mut text = self.text;

@@ -5,7 +5,7 @@ ghost use Rattle.srt_log.specs.Texts.{put};
 ghost use Rattle.srt_log.specs.Peers.{group_text, half_text, ip_text, ipv4_text, ipv6_text, socket_text, peer_text};
 
 use crate::line::{Line, hex_digit};
-use srt_seq::Peer;
+use srt_types::Peer;
 
 /// The first twelve bytes of an IPv4 address in the form `::ffff:a.b.c.d`.
 const MAPPED: [u8; 12] = [0, 0, 0, 0, 0, 0, 0, 0, 0, 0, 0xff, 0xff];

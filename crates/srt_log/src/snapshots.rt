@@ -4,7 +4,7 @@ ghost use Rattle.std.specs.Prelude.{◌≡◌};
 ghost use Rattle.srt_log.specs.Snapshots.{view_of, slot_of};
 
 use srt_route::{EndedSession, SessionView};
-use srt_seq::limits::MAX_SESSIONS;
+use srt_types::product_limits::MAX_SESSIONS;
 
 /// The session of a slot.
 #[derive(Clone, Copy)]

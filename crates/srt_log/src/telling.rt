@@ -1,15 +1,15 @@
 //! What the log states of a change.
 
 ghost use Rattle.std.specs.Prelude.{◌≡◌};
-ghost use Rattle.srt_log.specs.Snapshots.{counts_of, reason_of, latency_of};
+ghost use Rattle.srt_log.specs.Snapshots.{counts_of, ppm_of, clock_after, clock_of, reason_of, latency_of};
 ghost use Rattle.srt_log.specs.Telling.{session_at, caller_of, stands_by, opened_event, ended_event, gone_event, took_over_event, troubled_event, event_of};
 
 use crate::changes::Change;
-use crate::events::{Caller, EndReason, LogEvent, SessionCounts, Trouble};
+use crate::events::{Caller, ClockDrift, EndReason, LogEvent, SessionCounts, Trouble};
 use crate::snapshots::{RouteSnapshot, SlotSession};
 use srt_route::{EndCause, SessionView, Traffic};
-use srt_seq::Role;
-use srt_seq::limits::MAX_SESSIONS;
+use srt_types::Role;
+use srt_types::product_limits::MAX_SESSIONS;
 
 // Returns why a session ended. `stops`: the gateway is about to end.
 fn reason_of(stops: bool, cause: EndCause) -> EndReason
@@ -43,7 +43,7 @@ fn counts_of(traffic: &Traffic) -> SessionCounts
             lost: statistics.counts.given_up,
             resent: statistics
                 .counts
-                .came
+                .arrived
                 .saturating_sub(statistics.counts.received),
         },
         Traffic::Sent(statistics) => SessionCounts {
@@ -52,6 +52,39 @@ fn counts_of(traffic: &Traffic) -> SessionCounts
             lost: statistics.counts.given_up,
             resent: statistics.sendings.again,
         },
+    }
+}
+
+// Returns a correction in parts per million of this time, rounded toward 0. Both are in microseconds.
+fn ppm_of(correction: i64, elapsed: u64) -> i128
+    ensures { result ≡ ppm_of correction elapsed }
+{
+    if elapsed == 0 {
+        return 0;
+    }
+    1_000_000 * i128::from(correction) / i128::from(elapsed)
+}
+
+// Returns how a clock was followed that has this correction after this time.
+fn clock_after(correction: Option<i64>, elapsed: u64) -> Option<ClockDrift>
+    ensures { result ≡ clock_after correction elapsed }
+{
+    match correction {
+        Some(micros) => Some(ClockDrift {
+            ppm: ppm_of(micros, elapsed),
+            correction: micros,
+        }),
+        None => None,
+    }
+}
+
+// Returns how the clock of a session was followed that was open for this time, in microseconds.
+fn clock_of(traffic: &Traffic, elapsed: u64) -> Option<ClockDrift>
+    ensures { result ≡ clock_of traffic.now elapsed }
+{
+    match traffic {
+        Traffic::Received(statistics) => clock_after(statistics.correction, elapsed),
+        Traffic::Sent(_) => None,
     }
 }
 
@@ -114,12 +147,16 @@ fn ended_event<'a>(route: &'a [u8], stops: bool, session: &SlotSession) -> Optio
 {
     match session {
         SlotSession::Open(_) => None,
-        SlotSession::Ended(ended) => Some(LogEvent::Ended {
-            caller: caller_of(route, &ended.view),
-            reason: reason_of(stops, ended.cause),
-            lasted_ms: ended.moment.saturating_sub(ended.view.opened) / 1000,
-            counts: counts_of(&ended.view.traffic),
-        }),
+        SlotSession::Ended(ended) => {
+            let elapsed = ended.moment.saturating_sub(ended.view.opened);
+            Some(LogEvent::Ended {
+                caller: caller_of(route, &ended.view),
+                reason: reason_of(stops, ended.cause),
+                lasted_ms: elapsed / 1000,
+                counts: counts_of(&ended.view.traffic),
+                clock: clock_of(&ended.view.traffic, elapsed),
+            })
+        }
     }
 }
 
@@ -127,11 +164,13 @@ fn ended_event<'a>(route: &'a [u8], stops: bool, session: &SlotSession) -> Optio
 fn gone_event<'a>(route: &'a [u8], view: &SessionView, moment: u64) -> LogEvent<'a>
     ensures { result ≡ gone_event route.entry view.now moment }
 {
+    let elapsed = moment.saturating_sub(view.opened);
     LogEvent::Ended {
         caller: caller_of(route, view),
         reason: EndReason::Unknown,
-        lasted_ms: moment.saturating_sub(view.opened) / 1000,
+        lasted_ms: elapsed / 1000,
         counts: counts_of(&view.traffic),
+        clock: clock_of(&view.traffic, elapsed),
     }
 }
 

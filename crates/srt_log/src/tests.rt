@@ -7,8 +7,8 @@ use crate::{
 };
 use srt_config::FixedKeys;
 use srt_route::{EndCause, EndedSession, SessionView, Traffic};
-use srt_seq::limits::MAX_SESSIONS;
-use srt_seq::{NotAdmitted, Peer, Role};
+use srt_types::product_limits::MAX_SESSIONS;
+use srt_types::{NotAdmitted, Peer, Role};
 use std::process::Abort;
 use std::test::Fail;
 
@@ -100,6 +100,7 @@ fn lines_of_ends_and_take_overs(rt: HostRuntime) -> Result<(), Fail> {
             reason: EndReason::Silence,
             lasted_ms: 3_600_123,
             counts,
+            clock: None,
         },
         "studio: subscriber [2001:0db8:0000:0000:0000:0000:0000:0001]:9 ended, socket 0xfedcba98, nothing arrived from its peer, after 3600123 ms, 1000 packets, 1316000 bytes, 3 lost, 2 resent\n",
     )?;
@@ -131,6 +132,7 @@ fn assert_reason<R: Abort + AllocGlobal>(
             reason,
             lasted_ms: 0,
             counts,
+            clock: None,
         },
         line,
     )
@@ -235,7 +237,7 @@ fn a_refusal_names_the_list_or_key(rt: HostRuntime) -> Result<(), Fail> {
 }
 
 #[test]
-fn the_limits_of_a_route_are_told_apart(rt: HostRuntime) -> Result<(), Fail> {
+fn the_limits_of_a_route_are_distinguished(rt: HostRuntime) -> Result<(), Fail> {
     assert_line(
         &rt,
         None,
@@ -452,7 +454,7 @@ fn lines_of_a_change_that_is_refused(rt: HostRuntime) -> Result<(), Fail> {
 
 #[test]
 fn a_long_line_is_cut_off(rt: HostRuntime) -> Result<(), Fail> {
-    let asked = [b'x'; 2000];
+    let requested = [b'x'; 2000];
     let mut out = Vec::new(rt.alloc());
     write_line(
         &mut out,
@@ -460,7 +462,7 @@ fn a_long_line_is_cut_off(rt: HostRuntime) -> Result<(), Fail> {
         LogEvent::Refused {
             code: 1002,
             peer: near(1),
-            name: &asked,
+            name: &requested,
             by: None,
         },
     )?;
@@ -494,7 +496,7 @@ fn fifty_lines_of_a_second(rt: HostRuntime) {
 }
 
 #[test]
-fn lines_left_out_are_told_by_a_look(rt: HostRuntime) {
+fn lines_left_out_are_reported_by_a_look(rt: HostRuntime) {
     let mut limit = LineLimit::new();
     for _ in 0..60u32 {
         let _ = limit.line(0);
@@ -508,7 +510,7 @@ fn lines_left_out_are_told_by_a_look(rt: HostRuntime) {
 fn received(full_windows: u64, late: u64) -> Traffic {
     Traffic::Received(srt_pub::Statistics {
         counts: srt_pub::Counts {
-            came: 0,
+            arrived: 0,
             late,
             ahead: 0,
             received: 0,
@@ -523,6 +525,7 @@ fn received(full_windows: u64, late: u64) -> Traffic {
         available: 32,
         rtt: 100_000,
         variance: 50_000,
+        correction: None,
     })
 }
 
@@ -637,7 +640,7 @@ fn troubled(full_windows: u64, late: u64, misdirected: u64) -> RouteSnapshot {
 }
 
 #[test]
-fn a_trouble_is_told_the_first_time(rt: HostRuntime) {
+fn a_trouble_is_reported_the_first_time(rt: HostRuntime) {
     let none = troubled(0, 0, 0);
     let some = troubled(0, 1, 9);
     let more = troubled(2, 1, 10);
@@ -661,19 +664,19 @@ fn a_trouble_is_told_the_first_time(rt: HostRuntime) {
 #[test]
 fn lines_of_troubles(rt: HostRuntime) -> Result<(), Fail> {
     let none = troubled(0, 0, 0);
-    assert_told(
+    assert_reported(
         &rt,
         &none,
         &troubled(0, 0, 1),
         "studio: subscriber 192.0.2.7:50123 sends data, but has not asked to publish (m=publish), socket 0x00000002\n",
     )?;
-    assert_told(
+    assert_reported(
         &rt,
         &none,
         &troubled(1, 0, 0),
         "studio: publisher 192.0.2.7:50123 fills its window and waits, buffer is too small, socket 0x00000001\n",
     )?;
-    assert_told(
+    assert_reported(
         &rt,
         &none,
         &troubled(0, 1, 0),
@@ -697,17 +700,100 @@ fn closed(stops: bool) -> RouteSnapshot {
 #[test]
 fn a_closed_route_ends_its_sessions(rt: HostRuntime) -> Result<(), Fail> {
     let open = route(slot_of(Some(view(1, true)), None), None, 1);
-    assert_told(
+    assert_reported(
         &rt,
         &open,
         &closed(false),
         "studio: publisher 192.0.2.7:50123 ended, socket 0x00000001, its route was closed, after 12 ms, 0 packets, 0 bytes, 0 lost, 0 resent\n",
     )?;
-    assert_told(
+    assert_reported(
         &rt,
         &open,
         &closed(true),
         "studio: publisher 192.0.2.7:50123 ended, socket 0x00000001, the gateway stops, after 12 ms, 0 packets, 0 bytes, 0 lost, 0 resent\n",
+    )
+}
+
+/// A publisher's session that was opened at 1 s, with this correction of its clock.
+fn followed(correction: Option<i64>) -> SessionView {
+    let mut seen = view(1, true);
+    seen.opened = 1_000_000;
+    seen.traffic = Traffic::Received(srt_pub::Statistics {
+        counts: srt_pub::Counts {
+            arrived: 0,
+            late: 0,
+            ahead: 0,
+            received: 0,
+            bytes: 0,
+            delivered: 0,
+            given_up: 0,
+            naks: 0,
+            reported_lost: 0,
+            full_windows: 0,
+        },
+        in_use: 0,
+        available: 32,
+        rtt: 100_000,
+        variance: 50_000,
+        correction,
+    });
+    seen
+}
+
+/// Asserts that a session with this correction has this line if it ends at this time by a SHUTDOWN.
+fn assert_followed<R: Abort + AllocGlobal>(
+    rt: &R,
+    correction: Option<i64>,
+    moment: u64,
+    line: &str,
+) -> Result<(), Fail> {
+    let end = EndedSession {
+        view: followed(correction),
+        cause: EndCause::Shutdown,
+        moment,
+    };
+    let open = route(slot_of(Some(followed(correction)), None), None, 1);
+    let after = route(slot_of(None, Some(end)), None, 1);
+    assert_reported(rt, &open, &after, line)
+}
+
+#[test]
+fn the_end_of_a_publisher_has_its_clock(rt: HostRuntime) -> Result<(), Fail> {
+    assert_followed(
+        &rt,
+        Some(12_061),
+        37_710_000,
+        "studio: publisher 192.0.2.7:50123 ended, socket 0x00000001, its peer sent a SHUTDOWN, after 36710 ms, 0 packets, 0 bytes, 0 lost, 0 resent, clock drift 328 ppm, correction 12061 us\n",
+    )?;
+    assert_followed(
+        &rt,
+        Some(-1_100),
+        3_200_010,
+        "studio: publisher 192.0.2.7:50123 ended, socket 0x00000001, its peer sent a SHUTDOWN, after 2200 ms, 0 packets, 0 bytes, 0 lost, 0 resent, clock drift -499 ppm, correction -1100 us\n",
+    )?;
+    assert_followed(
+        &rt,
+        Some(0),
+        1_000_000,
+        "studio: publisher 192.0.2.7:50123 ended, socket 0x00000001, its peer sent a SHUTDOWN, after 0 ms, 0 packets, 0 bytes, 0 lost, 0 resent, clock drift 0 ppm, correction 0 us\n",
+    )?;
+    assert_followed(
+        &rt,
+        None,
+        3_200_010,
+        "studio: publisher 192.0.2.7:50123 ended, socket 0x00000001, its peer sent a SHUTDOWN, after 2200 ms, 0 packets, 0 bytes, 0 lost, 0 resent\n",
+    )
+}
+
+#[test]
+fn the_end_of_a_publisher_that_is_gone_has_its_clock(rt: HostRuntime) -> Result<(), Fail> {
+    let old = route(slot_of(Some(followed(Some(-1_501))), None), None, 1);
+    let new = route(Some(session(2, true)), None, 2);
+    assert_reported(
+        &rt,
+        &old,
+        &new,
+        "studio: publisher 192.0.2.7:50123 ended, socket 0x00000001, its slot was taken again, after 3000 ms, 0 packets, 0 bytes, 0 lost, 0 resent, clock drift -500 ppm, correction -1501 us\nstudio: publisher 192.0.2.7:50123 opened, socket 0x00000002, latency 120 ms\n",
     )
 }
 
@@ -742,7 +828,7 @@ fn what_came_and_went_is_counted(rt: HostRuntime) {
 }
 
 /// Asserts that the changes between two looks at the route `studio` have these lines.
-fn assert_told<R: Abort + AllocGlobal>(
+fn assert_reported<R: Abort + AllocGlobal>(
     rt: &R,
     old: &RouteSnapshot,
     new: &RouteSnapshot,
@@ -766,21 +852,21 @@ fn lines_of_changes(rt: HostRuntime) -> Result<(), Fail> {
     let two = route(Some(session(1, true)), Some(session(2, false)), 2);
     let over = route(Some(ended(1)), Some(session(2, true)), 2);
     let again = route(Some(session(257, false)), Some(session(2, true)), 4);
-    assert_told(
+    assert_reported(
         &rt,
         &none,
         &two,
         "studio: publisher 192.0.2.7:50123 opened, socket 0x00000001, latency 120 ms\n\
 studio: publisher 192.0.2.7:50123 opened as standby, socket 0x00000002, latency 120 ms\n",
     )?;
-    assert_told(
+    assert_reported(
         &rt,
         &two,
         &over,
         "studio: publisher 192.0.2.7:50123 ended, socket 0x00000001, its peer sent a SHUTDOWN, after 12 ms, 0 packets, 0 bytes, 0 lost, 0 resent\n\
 studio: publisher 192.0.2.7:50123 took over, socket 0x00000002\n",
     )?;
-    assert_told(
+    assert_reported(
         &rt,
         &two,
         &again,

@@ -4,15 +4,15 @@ ghost use Rattle.std.specs.Prelude.{◌≡◌, ◌++◌, [], OnOk};
 ghost use Rattle.std.specs.Io.KnownBytes.{Appends};
 ghost use Rattle.srt_log.specs.Texts.{put};
 ghost use Rattle.srt_log.specs.Events.{role_text, caller_text, latency_text, opened_text, session_opened_text, took_over_text};
-ghost use Rattle.srt_log.specs.Events.{trouble_text, troubled_text, reason_text, counts_text, ended_text, code_text, started_text};
+ghost use Rattle.srt_log.specs.Events.{trouble_text, troubled_text, reason_text, counts_text, clock_text, ended_text, code_text, started_text};
 ghost use Rattle.srt_log.specs.Events.{list_text, key_text, refused_by_text, refused_text, limits_text, limited_text, unseen_text, unblocked_text};
 ghost use Rattle.srt_log.specs.Events.{count_text, cause_text, event_text, time_text, line_text};
 
 use crate::config_lines::put_config;
-use crate::events::{Caller, EndReason, LogEvent, SessionCounts, StopCause, Trouble};
+use crate::events::{Caller, ClockDrift, EndReason, LogEvent, SessionCounts, StopCause, Trouble};
 use crate::line::Line;
 use crate::peers::{put_peer, put_socket};
-use srt_seq::{NotAdmitted, Peer, Role};
+use srt_types::{NotAdmitted, Peer, Role};
 use std::io::{self, Write};
 
 fn put_role(line: &mut Line, role: Role)
@@ -96,6 +96,23 @@ fn put_counts(line: &mut Line, counts: SessionCounts)
     line.put(b" resent");
 }
 
+/// Puts how a publisher's clock was followed, if it was.
+#[tactic(auto, using(crate::proofs::Puts::put_put))]
+fn put_clock(line: &mut Line, clock: Option<ClockDrift>)
+    ensures { line.new.text.items ≡ put line.old.text.items (clock_text clock) }
+{
+    match clock {
+        Some(drift) => {
+            line.put(b", clock drift ");
+            line.put_signed(drift.ppm);
+            line.put(b" ppm, correction ");
+            line.put_signed(i128::from(drift.correction));
+            line.put(b" us");
+        }
+        None => line.put(b""),
+    }
+}
+
 #[tactic(auto, using(crate::proofs::Puts::put_put))]
 fn put_ended(
     line: &mut Line,
@@ -103,8 +120,9 @@ fn put_ended(
     reason: EndReason,
     lasted_ms: u64,
     counts: SessionCounts,
+    clock: Option<ClockDrift>,
 )
-    ensures { line.new.text.items ≡ put line.old.text.items (ended_text caller.entry reason lasted_ms counts) }
+    ensures { line.new.text.items ≡ put line.old.text.items (ended_text caller.entry reason lasted_ms counts clock) }
 {
     put_caller(line, caller);
     line.put(b" ended, socket ");
@@ -114,6 +132,7 @@ fn put_ended(
     line.put_number(lasted_ms);
     line.put(b" ms, ");
     put_counts(line, counts);
+    put_clock(line, clock);
 }
 
 #[tactic(auto, using(crate::proofs::Puts::put_put))]
@@ -325,7 +344,8 @@ fn put_event(line: &mut Line, event: LogEvent<'_>)
             reason,
             lasted_ms,
             counts,
-        } => put_ended(line, caller, reason, lasted_ms, counts),
+            clock,
+        } => put_ended(line, caller, reason, lasted_ms, counts, clock),
         LogEvent::TookOver { caller } => put_took_over(line, caller),
         LogEvent::Troubled { caller, trouble } => put_troubled(line, caller, trouble),
         LogEvent::Refused {

@@ -1,4 +1,4 @@
 pub mod Puts
 pub mod Slots
 pub mod Pieces
-pub mod Asked
+pub mod Requested

@@ -1,5 +1,5 @@
 -- The families of figures: their names, help and values.
-use Rattle.std.specs.Prelude.{ℕ, ◌-◌, ◌*◌, ◌==◌, Bool, true, false, List, [], ◌∷◌, codes, Option, None, Some, if◌then◌else◌}
+use Rattle.std.specs.Prelude.{ℕ, suc, ◌-◌, ◌*◌, ◌/◌, ◌==◌, ℤ, pos, negsuc, neg_ℤ, Bool, true, false, List, [], ◌∷◌, codes, Option, None, Some, if◌then◌else◌}
 use Rattle.srt_pub.specs.declared.counts.Counts.{Counts as ReceivedCounts}
 use Rattle.srt_pub.specs.declared.statistics.Statistics.{Statistics as PublisherStatistics}
 use Rattle.srt_sub.specs.declared.counts.Counts.{Counts as QueuedCounts}
@@ -13,7 +13,7 @@ use Rattle.srt_status.specs.declared.gateway.RefusalCounts.{RefusalCounts}
 use Rattle.srt_status.specs.declared.routes.RouteStatus.{RouteStatus}
 use Rattle.srt_status.specs.declared.routes.LimitCounts.{LimitCounts}
 use Rattle.srt_status.specs.declared.figures.Amount.{Amount}
-use Rattle.srt_status.specs.declared.figures.Amount.TheVariants.{Number, Micros}
+use Rattle.srt_status.specs.declared.figures.Amount.TheVariants.{Number, Micros, SignedMicros, PartsPerMillion}
 use Rattle.srt_status.specs.declared.figures.Count.{Count}
 use Rattle.srt_status.specs.declared.figures.Count.TheVariants as counts
 use Rattle.srt_status.specs.declared.figures.Gauge.{Gauge}
@@ -70,7 +70,7 @@ count_help counts.Misdirected = codes "Data packets from clients that did not re
 
 -- the data packets that publishers' sessions count under nothing else: repeats of packets that were received before
 abbrev pub repeats_of : ReceivedCounts → ℕ
-repeats_of counts = counts.came - counts.received - counts.late - counts.ahead
+repeats_of counts = counts.arrived - counts.received - counts.late - counts.ahead
 
 -- what publishers' sessions count of it
 abbrev pub publisher_count : Count → ReceivedCounts → Option ℕ
@@ -131,6 +131,8 @@ gauge_name gauges.WindowAvailable = codes "window_available_packets"
 gauge_name gauges.FreePlaces = codes "free_packets"
 gauge_name gauges.InFlight = codes "in_flight_packets"
 gauge_name gauges.FlowWindow = codes "flow_window_packets"
+gauge_name gauges.ClockDrift = codes "publisher_clock_drift_ppm"
+gauge_name gauges.ClockCorrection = codes "publisher_clock_correction_seconds"
 
 -- its help
 abbrev pub gauge_help : Gauge → List ℕ
@@ -145,6 +147,8 @@ gauge_help gauges.WindowAvailable = codes "The places of a publisher's window th
 gauge_help gauges.FreePlaces = codes "The free places of a subscriber's buffer."
 gauge_help gauges.InFlight = codes "The packets of a subscriber in flight."
 gauge_help gauges.FlowWindow = codes "The flow window that a subscriber reported last."
+gauge_help gauges.ClockDrift = codes "How much a publisher's clock is off, over its session: positive for one that is slow."
+gauge_help gauges.ClockCorrection = codes "By how much delivery follows a publisher's clock: positive for one that is slow."
 
 -- this of a publisher's session
 abbrev pub publisher_amount : Gauge → (active : Bool) → PublisherStatistics → Option Amount
@@ -159,6 +163,8 @@ publisher_amount gauges.WindowAvailable active x = Some (Number x.available)
 publisher_amount gauges.FreePlaces active x = None
 publisher_amount gauges.InFlight active x = None
 publisher_amount gauges.FlowWindow active x = None
+publisher_amount gauges.ClockDrift active x = None
+publisher_amount gauges.ClockCorrection active x = None
 
 -- this of a subscriber's session
 abbrev pub subscriber_amount : Gauge → SubscriberStatistics → Option Amount
@@ -173,6 +179,8 @@ subscriber_amount gauges.WindowAvailable x = None
 subscriber_amount gauges.FreePlaces x = Some (Number x.room)
 subscriber_amount gauges.InFlight x = Some (Number x.in_flight)
 subscriber_amount gauges.FlowWindow x = Some (Number x.flow_window)
+subscriber_amount gauges.ClockDrift x = None
+subscriber_amount gauges.ClockCorrection x = None
 
 -- a latency; a session in buffer mode has 0, which isn't shown
 abbrev pub latency_amount : (latency_ms : ℕ) → Option Amount
@@ -190,6 +198,24 @@ abbrev pub traffic_amount : Gauge → (active : Bool) → Traffic → Option Amo
 traffic_amount gauge active (Received x) = publisher_amount gauge active x
 traffic_amount gauge active (Sent x) = subscriber_amount gauge x
 
+-- the microseconds by which delivery follows the clock of a publisher; none where the clock isn't followed
+abbrev pub correction_of : Traffic → Option ℤ
+correction_of (Received x) = x.correction
+correction_of (Sent x) = None
+
+-- a correction in parts per million of the time since the opening, in microseconds, rounded toward 0; 0 at the opening
+abbrev pub ppm_of : (correction : ℤ) → (elapsed : ℕ) → ℤ
+ppm_of (pos n) elapsed = if elapsed == 0 then pos 0 else pos (1_000_000 * n / elapsed)
+ppm_of (negsuc n) elapsed = if elapsed == 0 then pos 0 else neg_ℤ (pos (1_000_000 * suc n / elapsed))
+
+abbrev pub drift_amount : Option ℤ → (elapsed : ℕ) → Option Amount
+drift_amount None elapsed = None
+drift_amount (Some correction) elapsed = Some (PartsPerMillion (ppm_of correction elapsed))
+
+abbrev pub correction_amount : Option ℤ → Option Amount
+correction_amount None = None
+correction_amount (Some correction) = Some (SignedMicros correction)
+
 -- this of a session at a time
 abbrev pub gauge_amount : Gauge → (moment : ℕ) → SessionView → Option Amount
 gauge_amount gauges.Active moment session = traffic_amount gauges.Active session.is_active session.traffic
@@ -203,6 +229,8 @@ gauge_amount gauges.WindowAvailable moment session = traffic_amount gauges.Windo
 gauge_amount gauges.FreePlaces moment session = traffic_amount gauges.FreePlaces session.is_active session.traffic
 gauge_amount gauges.InFlight moment session = traffic_amount gauges.InFlight session.is_active session.traffic
 gauge_amount gauges.FlowWindow moment session = traffic_amount gauges.FlowWindow session.is_active session.traffic
+gauge_amount gauges.ClockDrift moment session = drift_amount (correction_of session.traffic) (moment - session.opened)
+gauge_amount gauges.ClockCorrection moment session = correction_amount (correction_of session.traffic)
 
 -- the name of what is said of the gateway, behind its prefix
 abbrev pub total_name : Total → List ℕ
@@ -323,7 +351,7 @@ all_counts =
 abbrev pub all_gauges : List Gauge
 all_gauges =
     gauges.Active ∷ gauges.Open ∷ gauges.Silent ∷ gauges.Latency ∷ gauges.RoundTrip ∷ gauges.RoundTripVariance ∷ gauges.WindowUsed
-    ∷ gauges.WindowAvailable ∷ gauges.FreePlaces ∷ gauges.InFlight ∷ gauges.FlowWindow ∷ []
+    ∷ gauges.WindowAvailable ∷ gauges.FreePlaces ∷ gauges.InFlight ∷ gauges.FlowWindow ∷ gauges.ClockDrift ∷ gauges.ClockCorrection ∷ []
 
 -- all that is said of the gateway, in the order in which they are shown
 abbrev pub all_totals : List Total

@@ -2,10 +2,10 @@
 -- that isn't known is left out.
 use Rattle.std.specs.Prelude.{ℕ, Bool, true, false, ◌&&◌, List, [], ◌∷◌, ◌++◌, codes, decimal, Option, None, Some, is_none, string_bytes}
 use Rattle.std.specs.List.{flat_map}
-use Rattle.srt_seq.specs.declared.shared.Role.{Role}
-use Rattle.srt_seq.specs.declared.shared.Role.TheVariants.{Publish, Request}
-use Rattle.srt_seq.specs.declared.shared.Mode.{Mode}
-use Rattle.srt_seq.specs.declared.shared.Mode.TheVariants.{Live, Buffer}
+use Rattle.srt_types.specs.declared.shared.Role.{Role}
+use Rattle.srt_types.specs.declared.shared.Role.TheVariants.{Publish, Request}
+use Rattle.srt_types.specs.declared.shared.Mode.{Mode}
+use Rattle.srt_types.specs.declared.shared.Mode.TheVariants.{Live, Buffer}
 use Rattle.srt_status.specs.declared.gateway.GatewayStatus.{GatewayStatus}
 use Rattle.srt_status.specs.declared.gateway.RefusalCounts.{RefusalCounts}
 use Rattle.srt_status.specs.declared.routes.RouteStatus.{RouteStatus}

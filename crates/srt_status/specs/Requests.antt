@@ -44,14 +44,14 @@ request_of method target =
     else (if bytes_eq method (codes "HEAD") then shown_in methods.Head target else requests.NotAllowed)
 
 -- a head within these bytes asks for it
-abbrev pub IsAskedFor : (bytes : List ℕ) → Request → Type 0
-IsAskedFor bytes request = (head : RequestHead) × (rest : List ℕ) × ReadsRequest bytes head rest × (request ≡ request_of head.method head.target)
+abbrev pub IsRequestedFor : (bytes : List ℕ) → Request → Type 0
+IsRequestedFor bytes request = (head : RequestHead) × (rest : List ℕ) × ReadsRequest bytes head rest × (request ≡ request_of head.method head.target)
 
 -- what an answer says of the bytes
 abbrev pub WhatItSays : (bytes : List ℕ) → Option Request → Type 0
 WhatItSays bytes None = HasNoRequest bytes × (length bytes < 4096)
 WhatItSays bytes (Some requests.Bad) = NeverHasRequest bytes
 WhatItSays bytes (Some requests.TooLong) = (HasNoRequest bytes × (4096 ≤ length bytes)) ⊎ RequestExceeds 64 bytes
-WhatItSays bytes (Some (requests.Page method page)) = IsAskedFor bytes (requests.Page method page)
-WhatItSays bytes (Some (requests.Unknown method)) = IsAskedFor bytes (requests.Unknown method)
-WhatItSays bytes (Some requests.NotAllowed) = IsAskedFor bytes requests.NotAllowed
+WhatItSays bytes (Some (requests.Page method page)) = IsRequestedFor bytes (requests.Page method page)
+WhatItSays bytes (Some (requests.Unknown method)) = IsRequestedFor bytes (requests.Unknown method)
+WhatItSays bytes (Some requests.NotAllowed) = IsRequestedFor bytes requests.NotAllowed

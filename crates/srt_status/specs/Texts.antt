@@ -1,8 +1,9 @@
 -- The parts of a text.
-use Rattle.std.specs.Prelude.{ℕ, ◌+◌, ◌-◌, ◌/◌, ◌%◌, Bool, ◌==◌, nat_lt, List, [], ◌∷◌, ◌++◌, codes, decimal, if◌then◌else◌}
+use Rattle.std.specs.Prelude.{ℕ, suc, ◌+◌, ◌-◌, ◌/◌, ◌%◌, ℤ, pos, negsuc, ◌==◌, nat_lt, List, [], ◌∷◌, ◌++◌, codes, decimal, if◌then◌else◌}
+use Rattle.std.specs.Fmt.{signed_decimal}
 use Rattle.std.specs.List.{flat_map}
 use Rattle.srt_status.specs.declared.figures.Amount.{Amount}
-use Rattle.srt_status.specs.declared.figures.Amount.TheVariants.{Number, Micros}
+use Rattle.srt_status.specs.declared.figures.Amount.TheVariants.{Number, Micros, SignedMicros, PartsPerMillion}
 
 -- a byte of a name as it stands between quotation marks
 abbrev pub shown : (byte : ℕ) → List ℕ
@@ -30,7 +31,14 @@ micros_text micros =
     ++ (46 ∷ (48 + micros / 100_000 % 10) ∷ (48 + micros / 10_000 % 10) ∷ (48 + micros / 1_000 % 10) ∷ (48 + micros / 100 % 10)
     ∷ (48 + micros / 10 % 10) ∷ (48 + micros % 10) ∷ [])
 
+-- the same of a time that may be negative
+abbrev pub signed_micros_text : (micros : ℤ) → List ℕ
+signed_micros_text (pos n) = micros_text n
+signed_micros_text (negsuc n) = codes "-" ++ micros_text (suc n)
+
 -- a value in its unit
 abbrev pub amount_text : Amount → List ℕ
 amount_text (Number number) = decimal number
 amount_text (Micros micros) = micros_text micros
+amount_text (SignedMicros micros) = signed_micros_text micros
+amount_text (PartsPerMillion ppm) = signed_decimal ppm

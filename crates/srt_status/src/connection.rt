@@ -3,7 +3,7 @@
 ghost use Rattle.std.specs.Prelude.{◌≡◌, ◌≤◌, ◌++◌, [], true, false, length, take, drop, vec_len, OnOk, OnErr};
 ghost use Rattle.srt_status.specs.Connections.{ConnectionState, is_over};
 
-use crate::request::MAX_REQUEST;
+use srt_types::product_limits::MAX_REQUEST;
 use std::alloc::{AllocError, Global};
 use std::marker::Model;
 

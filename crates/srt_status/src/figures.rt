@@ -3,7 +3,7 @@
 ghost use Rattle.std.specs.Prelude.{◌≡◌};
 ghost use Rattle.srt_status.specs.Figures.{count_name, count_help, publisher_count, subscriber_count, gauge_name, gauge_help, gauge_amount};
 ghost use Rattle.srt_status.specs.Figures.{publisher_amount, subscriber_amount, latency_amount, round_trip_of, variance_of, traffic_amount};
-ghost use Rattle.srt_status.specs.Figures.{repeats_of, session_count, total_name};
+ghost use Rattle.srt_status.specs.Figures.{correction_of, ppm_of, drift_amount, correction_amount, repeats_of, session_count, total_name};
 ghost use Rattle.srt_status.specs.Figures.{total_help, total_kind, total_value, reason_labels, reason_name, refusal_count, figure_name};
 ghost use Rattle.srt_status.specs.Figures.{figure_help, figure_kind, limit_figure, route_figure};
 
@@ -19,6 +19,10 @@ pub(crate) enum Amount {
     Number(u64),
     /// A time in microseconds, which is shown in seconds.
     Micros(u64),
+    /// The same of a time that may be negative.
+    SignedMicros(i64),
+    /// Parts per million.
+    PartsPerMillion(i128),
 }
 
 /// What sessions count.
@@ -76,10 +80,12 @@ pub(crate) enum Gauge {
     FreePlaces,
     InFlight,
     FlowWindow,
+    ClockDrift,
+    ClockCorrection,
 }
 
 /// All states of an open session, in the order in which they are shown.
-pub(crate) const GAUGES: [Gauge; 11] = [
+pub(crate) const GAUGES: [Gauge; 13] = [
     Gauge::Active,
     Gauge::Open,
     Gauge::Silent,
@@ -91,6 +97,8 @@ pub(crate) const GAUGES: [Gauge; 11] = [
     Gauge::FreePlaces,
     Gauge::InFlight,
     Gauge::FlowWindow,
+    Gauge::ClockDrift,
+    Gauge::ClockCorrection,
 ];
 
 /// What is shown of the gateway as a whole.
@@ -201,7 +209,7 @@ fn repeats_of(counts: &srt_pub::Counts) -> u64
     ensures { result ≡ repeats_of counts.now }
 {
     counts
-        .came
+        .arrived
         .saturating_sub(counts.received)
         .saturating_sub(counts.late)
         .saturating_sub(counts.ahead)
@@ -274,6 +282,8 @@ pub(crate) fn gauge_name(gauge: Gauge) -> &'static str
         Gauge::FreePlaces => "free_packets",
         Gauge::InFlight => "in_flight_packets",
         Gauge::FlowWindow => "flow_window_packets",
+        Gauge::ClockDrift => "publisher_clock_drift_ppm",
+        Gauge::ClockCorrection => "publisher_clock_correction_seconds",
     }
 }
 
@@ -292,6 +302,10 @@ pub(crate) fn gauge_help(gauge: Gauge) -> &'static str
         Gauge::FreePlaces => "The free places of a subscriber's buffer.",
         Gauge::InFlight => "The packets of a subscriber in flight.",
         Gauge::FlowWindow => "The flow window that a subscriber reported last.",
+        Gauge::ClockDrift =>
+            "How much a publisher's clock is off, over its session: positive for one that is slow.",
+        Gauge::ClockCorrection =>
+            "By how much delivery follows a publisher's clock: positive for one that is slow.",
     }
 }
 
@@ -347,6 +361,45 @@ fn variance_of(traffic: &Traffic) -> u32
     }
 }
 
+/// Returns the microseconds by which delivery follows the clock of a publisher; None where the clock isn't followed.
+fn correction_of(traffic: &Traffic) -> Option<i64>
+    ensures { result ≡ correction_of traffic.now }
+{
+    match traffic {
+        Traffic::Received(statistics) => statistics.correction,
+        Traffic::Sent(_) => None,
+    }
+}
+
+/// Returns a correction in parts per million of this time, rounded toward 0. Both are in microseconds.
+fn ppm_of(correction: i64, elapsed: u64) -> i128
+    ensures { result ≡ ppm_of correction elapsed }
+{
+    if elapsed == 0 {
+        return 0;
+    }
+    1_000_000 * i128::from(correction) / i128::from(elapsed)
+}
+
+/// Returns the drift of a clock that is followed since this time.
+fn drift_amount(correction: Option<i64>, elapsed: u64) -> Option<Amount>
+    ensures { result ≡ drift_amount correction elapsed }
+{
+    match correction {
+        Some(micros) => Some(Amount::PartsPerMillion(ppm_of(micros, elapsed))),
+        None => None,
+    }
+}
+
+fn correction_amount(correction: Option<i64>) -> Option<Amount>
+    ensures { result ≡ correction_amount correction }
+{
+    match correction {
+        Some(micros) => Some(Amount::SignedMicros(micros)),
+        None => None,
+    }
+}
+
 /// Returns this state of a session by its role.
 fn traffic_amount(gauge: Gauge, active: bool, traffic: &Traffic) -> Option<Amount>
     ensures { result ≡ traffic_amount gauge active traffic.now }
@@ -367,6 +420,11 @@ pub(crate) fn gauge_amount(gauge: Gauge, moment: u64, session: &SessionView) -> 
         Gauge::Latency => latency_amount(session.latency_ms),
         Gauge::RoundTrip => Some(Amount::Micros(u64::from(round_trip_of(&session.traffic)))),
         Gauge::RoundTripVariance => Some(Amount::Micros(u64::from(variance_of(&session.traffic)))),
+        Gauge::ClockDrift => drift_amount(
+            correction_of(&session.traffic),
+            moment.saturating_sub(session.opened),
+        ),
+        Gauge::ClockCorrection => correction_amount(correction_of(&session.traffic)),
         _ => traffic_amount(gauge, session.is_active, &session.traffic),
     }
 }

@@ -21,7 +21,7 @@ use crate::peers::put_peer;
 use crate::routes::RouteStatus;
 use crate::text::{put, put_amount, put_id, put_name, put_number};
 use srt_route::{SessionView, Totals};
-use srt_seq::{Mode, Role};
+use srt_types::{Mode, Role};
 use std::alloc::AllocError;
 
 /// Puts a member that isn't the first one of its object.

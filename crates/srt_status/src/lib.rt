@@ -30,7 +30,7 @@ pub use gateway::{CauseCounts, ChangeCounts, GatewayStatus, RefusalCounts};
 pub use json::put_json;
 pub use metrics::put_metrics;
 pub use overview::OVERVIEW;
-pub use request::{MAX_REQUEST, Method, Page, Request, request_in};
+pub use request::{Method, Page, Request, request_in};
 pub use response::respond;
 pub use routes::{LimitCounts, RouteStatus};
 

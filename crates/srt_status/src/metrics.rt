@@ -23,7 +23,7 @@ use crate::peers::put_peer;
 use crate::routes::RouteStatus;
 use crate::text::{put, put_amount, put_id, put_name, put_number};
 use srt_route::SessionView;
-use srt_seq::Role;
+use srt_types::Role;
 use std::alloc::AllocError;
 
 /// Puts a line of the head of a family.

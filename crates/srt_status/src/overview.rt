@@ -74,7 +74,7 @@ main { margin-top: 12px; }
 .who small, .session small { display: block; color: var(--dim); font-size: 12.5px; }
 .marks { grid-column: 1 / -1; display: flex; flex-wrap: wrap; gap: 4px 6px; }
 .marks:empty { display: none; }
-#told { margin: 0 0 16px; }
+#reported { margin: 0 0 16px; }
 .route > .marks { padding: 0 14px 8px; }
 .mark { padding: 1px 8px; border-radius: 5px; font-size: 12.5px; color: var(--dim); background: var(--page); }
 .mark.warn { color: var(--warn); background: var(--warn-back); }
@@ -112,7 +112,7 @@ a { color: inherit; }
 </header>
 <div id="gone" role="status"></div>
 <section id="sums" aria-label="Gateway"></section>
-<section id="told" class="marks" aria-label="Refused callers and changes of the configuration"></section>
+<section id="reported" class="marks" aria-label="Refused callers and changes of the configuration"></section>
 <input id="filter" type="search" placeholder="Filter routes and callers" aria-label="Filter routes and callers" autocomplete="off">
 <main>
   <div class="heads">
@@ -219,6 +219,13 @@ function plot() {
   return svg;
 }
 
+// How much a publisher's clock is off, where it is followed. It is followed by at most 1000 ppm.
+const MOST_PPM = 950;
+function clock(session) {
+  const ppm = session.publisher_clock_drift_ppm;
+  if (ppm === undefined) return "";
+  return ppm ? ", clock " + count(Math.abs(ppm)) + " ppm " + (ppm > 0 ? "slow" : "fast") : ", clock right";
+}
 function marks(session, past) {
   const list = [];
   const add = (total, field, text) => {
@@ -229,6 +236,9 @@ function marks(session, past) {
     add(past.now.late, "late", count(past.now.late) + " packets came too late");
     add(past.now.full, "full", "window full, " + count(past.now.full) + " times");
     add(session.ahead_packets_total, "full", count(session.ahead_packets_total) + " packets ahead of the window");
+  }
+  if (Math.abs(session.publisher_clock_drift_ppm) >= MOST_PPM && session.open_seconds > 3600) {
+    list.push(["bad", "its clock is further off than can be followed"]);
   }
   if (session.silent_seconds > 2) list.push(["warn", "silent for " + lasted(session.silent_seconds)]);
   return list;
@@ -307,7 +317,7 @@ function fill(node, text, small) {
 function showSession(parts, session, past) {
   const publishes = session.role === "publisher";
   const role = publishes ? (session.active ? "Publisher" : "Standby publisher") : "Subscriber";
-  fill(parts.who, session.peer, role + ", open for " + lasted(session.open_seconds));
+  fill(parts.who, session.peer, role + ", open for " + lasted(session.open_seconds) + clock(session));
   fill(parts.rate, bits(rate(past)), "");
   parts.plot.className = "plot " + (publishes ? "in" : "out");
   draw(parts.svg, past.rates);
@@ -437,7 +447,7 @@ function show(status) {
     write(node.firstChild, value);
     write(node.lastChild, label);
   });
-  showCauses(byId("told"), status, CAUSES);
+  showCauses(byId("reported"), status, CAUSES);
   write(byId("version"), status.version);
   write(byId("uptime"), "up for " + lasted(status.uptime_seconds));
 }

@@ -4,7 +4,7 @@ ghost use Rattle.std.specs.Prelude.{◌≡◌, ◌++◌, ◌≤◌, OnOk};
 ghost use Rattle.srt_status.specs.Peers.{group_text, half_text, ip_text, ipv4_text, ipv6_text, peer_text};
 
 use crate::text::{hex_digit, put, put_number};
-use srt_seq::Peer;
+use srt_types::Peer;
 use std::alloc::AllocError;
 
 /// The first twelve bytes of an IPv4 address in the form `::ffff:a.b.c.d`.

@@ -7,12 +7,7 @@ ghost use Rattle.srt_status.specs.Requests.{begins_query, is_for, page_in, shown
 
 use httparse::spans::{EMPTY_HEADER_SPAN, parse_request};
 use httparse::{Error, Status};
-
-/// The greatest length of a request's head, in bytes.
-pub const MAX_REQUEST: usize = 4096;
-
-/// The greatest number of header fields of a request.
-const MAX_FIELDS: usize = 64;
+use srt_types::product_limits::{MAX_REQUEST, MAX_REQUEST_FIELDS};
 
 /// What can be asked for.
 #[derive(Clone, Copy, PartialEq, Eq)]
@@ -130,7 +125,7 @@ pub fn request_in(bytes: &[u8]) -> Option<Request>
         → ReadsRequest bytes.now head rest → length head.fields ≤ 64 → result ≡ Some (request_of head.method head.target) }
     ensures other { WhatItSays bytes.now result }
 {
-    let mut fields = [EMPTY_HEADER_SPAN; MAX_FIELDS];
+    let mut fields = [EMPTY_HEADER_SPAN; MAX_REQUEST_FIELDS];
     match parse_request(bytes, &mut fields) {
         Ok(Status::Complete(head)) => Some(request_of(head.method.of(bytes), head.path.of(bytes))),
         Ok(Status::Partial) => {

@@ -2,8 +2,8 @@
 
 use crate::gateway::RefusalCounts;
 use srt_route::{SessionView, Totals};
-use srt_seq::Mode;
-use srt_seq::limits::MAX_SESSIONS;
+use srt_types::Mode;
+use srt_types::product_limits::MAX_SESSIONS;
 
 /// The conclusions that a route refused with 1003, by reason.
 #[derive(Clone, Copy, Default)]

@@ -1,15 +1,14 @@
 //! Texts as programs and people read them, requests as callers send them, and a connection from its beginning to its end.
 
 use crate::{
-    CauseCounts, ChangeCounts, Connection, GatewayStatus, LimitCounts, MAX_REQUEST, Method,
-    OVERVIEW, PATIENCE, Page, RefusalCounts, Request, RouteStatus, put_json, put_metrics,
-    request_in, respond,
+    CauseCounts, ChangeCounts, Connection, GatewayStatus, LimitCounts, Method, OVERVIEW, PATIENCE,
+    Page, RefusalCounts, Request, RouteStatus, put_json, put_metrics, request_in, respond,
 };
 use srt_route::{SessionView, Totals, Traffic};
-use srt_seq::limits::MAX_SESSIONS;
-use srt_seq::{Mode, Peer, Role};
 use srt_sub::Sendings;
 use srt_supervision::Report;
+use srt_types::product_limits::{MAX_REQUEST, MAX_SESSIONS};
+use srt_types::{Mode, Peer, Role};
 use std::process::Abort;
 use std::str;
 use std::test::Fail;
@@ -85,7 +84,7 @@ fn publisher() -> SessionView {
         latency_ms: 120,
         traffic: Traffic::Received(srt_pub::Statistics {
             counts: srt_pub::Counts {
-                came: 109,
+                arrived: 109,
                 received: 100,
                 bytes: 131_600,
                 delivered: 98,
@@ -100,6 +99,7 @@ fn publisher() -> SessionView {
             available: 22,
             rtt: 20_345,
             variance: 7,
+            correction: None,
         }),
     }
 }
@@ -154,7 +154,7 @@ fn route<R: AllocGlobal>(
         sessions,
         totals: Totals {
             received: srt_pub::Counts {
-                came: 1006,
+                arrived: 1006,
                 received: 1000,
                 bytes: 1_316_000,
                 delivered: 990,
@@ -260,6 +260,76 @@ fn status_of_a_gateway(rt: HostRuntime) -> Result<(), Fail> {
     Ok(())
 }
 
+/// That publisher, with this correction of its clock.
+fn followed(correction: Option<i64>) -> SessionView {
+    let mut session = publisher();
+    if let Traffic::Received(statistics) = &mut session.traffic {
+        statistics.correction = correction;
+    }
+    session
+}
+
+/// Asserts that the metrics of a route of this publisher have these lines, and its status this text.
+fn assert_clock<R: Abort + AllocGlobal>(
+    rt: &R,
+    session: SessionView,
+    lines: &[&'static str],
+    status: &'static str,
+) -> Result<(), Fail> {
+    let routes = [route(rt, "studio", Some(session), None)?];
+    let mut page = Vec::new(rt.alloc());
+    put_metrics(&mut page, &gateway(), &routes)?;
+    put_json(&mut page, &gateway(), &routes)?;
+    let Ok(text) = str::from_utf8(page.as_slice()) else {
+        panic!(rt; "not UTF-8");
+    };
+    assert_pieces(rt, text, lines);
+    assert!(rt; text.contains(status));
+    Ok(())
+}
+
+#[test]
+fn clock_of_a_publisher(rt: HostRuntime) -> Result<(), Fail> {
+    assert_clock(
+        &rt,
+        followed(Some(1_012_061)),
+        &[
+            "\n# TYPE srtgw_session_publisher_clock_drift_ppm gauge\nsrtgw_session_publisher_clock_drift_ppm{route=\"studio\",role=\"publisher\",session=\"00100000\",peer=\"192.0.2.7:5000\"} 16867\n# HELP srtgw_session_publisher_clock_correction_seconds ",
+            "\n# TYPE srtgw_session_publisher_clock_correction_seconds gauge\nsrtgw_session_publisher_clock_correction_seconds{route=\"studio\",role=\"publisher\",session=\"00100000\",peer=\"192.0.2.7:5000\"} 1.012061\n# HELP ",
+        ],
+        ",\"window_available_packets\":22,\"publisher_clock_drift_ppm\":16867,\"publisher_clock_correction_seconds\":1.012061,\"received_packets_total\":100,",
+    )?;
+    assert_clock(
+        &rt,
+        followed(Some(-29_999)),
+        &[
+            "\"} -499\n# HELP srtgw_session_publisher_clock_correction_seconds ",
+            "\nsrtgw_session_publisher_clock_correction_seconds{route=\"studio\",role=\"publisher\",session=\"00100000\",peer=\"192.0.2.7:5000\"} -0.029999\n",
+        ],
+        ",\"publisher_clock_drift_ppm\":-499,\"publisher_clock_correction_seconds\":-0.029999,",
+    )?;
+    assert_clock(
+        &rt,
+        publisher(),
+        &[
+            "\n# TYPE srtgw_session_publisher_clock_drift_ppm gauge\n# HELP srtgw_session_publisher_clock_correction_seconds ",
+        ],
+        ",\"window_available_packets\":22,\"received_packets_total\":100,",
+    )
+}
+
+#[test]
+fn clock_of_a_publisher_at_its_opening(rt: HostRuntime) -> Result<(), Fail> {
+    let mut session = followed(Some(0));
+    session.opened = 61_500_000;
+    assert_clock(
+        &rt,
+        session,
+        &[],
+        ",\"publisher_clock_drift_ppm\":0,\"publisher_clock_correction_seconds\":0.000000,",
+    )
+}
+
 #[test]
 fn commas_between_routes_and_sessions(rt: HostRuntime) -> Result<(), Fail> {
     let both = [
@@ -285,79 +355,79 @@ fn commas_between_routes_and_sessions(rt: HostRuntime) -> Result<(), Fail> {
 }
 
 /// What bytes ask for.
-struct Asked {
+struct Requested {
     bytes: &'static [u8],
     request: Option<Request>,
 }
 
-const ASKED: [Asked; 12] = [
-    Asked {
+const ASKED: [Requested; 12] = [
+    Requested {
         bytes: b"GET / HTTP/1.1\r\nHost: x\r\n\r\n",
         request: Some(Request::Page {
             method: Method::Get,
             page: Page::Overview,
         }),
     },
-    Asked {
+    Requested {
         bytes: b"GET /status.json?at=1 HTTP/1.1\r\n\r\n",
         request: Some(Request::Page {
             method: Method::Get,
             page: Page::Json,
         }),
     },
-    Asked {
+    Requested {
         bytes: b"HEAD /metrics HTTP/1.0\r\n\r\n",
         request: Some(Request::Page {
             method: Method::Head,
             page: Page::Metrics,
         }),
     },
-    Asked {
+    Requested {
         bytes: b"GET /healthz HTTP/1.1\r\n\r\n",
         request: Some(Request::Page {
             method: Method::Get,
             page: Page::Health,
         }),
     },
-    Asked {
+    Requested {
         bytes: b"GET /metricsx HTTP/1.1\r\n\r\n",
         request: Some(Request::Unknown {
             method: Method::Get,
         }),
     },
-    Asked {
+    Requested {
         bytes: b"HEAD /favicon.ico HTTP/1.1\r\n\r\n",
         request: Some(Request::Unknown {
             method: Method::Head,
         }),
     },
-    Asked {
+    Requested {
         bytes: b"POST /metrics HTTP/1.1\r\n\r\n",
         request: Some(Request::NotAllowed),
     },
-    Asked {
+    Requested {
         bytes: b"get / HTTP/1.1\r\n\r\n",
         request: Some(Request::NotAllowed),
     },
-    Asked {
+    Requested {
         bytes: b"",
         request: None,
     },
-    Asked {
+    Requested {
         bytes: b"GET / HTTP/1.1\r\nHost: x\r\n",
         request: None,
     },
-    Asked {
+    Requested {
         bytes: b"\x16\x03\x01\x02\x00",
         request: Some(Request::Bad),
     },
-    Asked {
+    Requested {
         bytes: b"GET / HTTP/3.0\r\n\r\n",
         request: Some(Request::Bad),
     },
 ];
 
-fn assert_asked(rt: &impl Abort, rows: &[Asked]) {
+fn assert_requested(rt: &impl Abort, rows: &[Requested]) {
     for row in rows {
         assert!(rt; request_in(row.bytes) == row.request);
     }
@@ -365,7 +435,7 @@ fn assert_asked(rt: &impl Abort, rows: &[Asked]) {
 
 #[test]
 fn what_bytes_ask_for(rt: HostRuntime) {
-    assert_asked(&rt, &ASKED);
+    assert_requested(&rt, &ASKED);
 }
 
 #[test]

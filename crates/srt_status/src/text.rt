@@ -2,7 +2,8 @@
 //! bytes of all calls before.
 
 ghost use Rattle.std.specs.Prelude.{◌≡◌, ◌++◌, ◌<◌, OnOk, decimal};
-ghost use Rattle.srt_status.specs.Texts.{hex_digit, id_text, micros_text, amount_text, shown, name_text};
+ghost use Rattle.std.specs.Fmt.{signed_decimal};
+ghost use Rattle.srt_status.specs.Texts.{hex_digit, id_text, micros_text, signed_micros_text, amount_text, shown, name_text};
 
 use crate::figures::Amount;
 use itoa::Buffer;
@@ -99,6 +100,25 @@ fn put_micros(out: &mut Vec<u8>, micros: u64) -> Result<(), AllocError>
     )
 }
 
+/// Puts microseconds that may be negative as seconds with six decimals.
+#[tactic(auto, using(crate::proofs::Puts::joined))]
+fn put_signed_micros(out: &mut Vec<u8>, micros: i64) -> Result<(), AllocError>
+    ensures { OnOk result (out.new.items ≡ out.old.items ++ signed_micros_text micros) }
+{
+    if micros < 0 {
+        put(out, b"-")?;
+    }
+    put_micros(out, micros.unsigned_abs())
+}
+
+/// Puts a number that may be negative in decimal digits.
+fn put_signed_number(out: &mut Vec<u8>, number: i128) -> Result<(), AllocError>
+    ensures { OnOk result (out.new.items ≡ out.old.items ++ signed_decimal number) }
+{
+    let mut digits = Buffer::new();
+    put(out, digits.format(number).as_bytes())
+}
+
 /// Puts a value in its unit.
 pub(crate) fn put_amount(out: &mut Vec<u8>, amount: Amount) -> Result<(), AllocError>
     ensures { OnOk result (out.new.items ≡ out.old.items ++ amount_text amount) }
@@ -106,5 +126,7 @@ pub(crate) fn put_amount(out: &mut Vec<u8>, amount: Amount) -> Result<(), AllocE
     match amount {
         Amount::Number(number) => put_number(out, number),
         Amount::Micros(micros) => put_micros(out, micros),
+        Amount::SignedMicros(micros) => put_signed_micros(out, micros),
+        Amount::PartsPerMillion(ppm) => put_signed_number(out, ppm),
     }
 }

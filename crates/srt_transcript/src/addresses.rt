@@ -1,7 +1,7 @@
 //! The words of an address and its port.
 
 use crate::text::Words;
-use srt_seq::Peer;
+use srt_types::Peer;
 use std::fmt::InlineText;
 use std::net::Ipv6Addr;
 

@@ -5,7 +5,7 @@ use crate::packets::put_packet;
 use crate::text::{Words, front};
 use srt_config::{parted, read_number};
 use srt_replay::{read_address, read_bytes};
-use srt_seq::Peer;
+use srt_types::Peer;
 
 /// The most bytes that are shown of a line that no replay prints.
 const MAX_SHOWN: usize = 80;

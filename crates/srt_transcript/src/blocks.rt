@@ -1,8 +1,8 @@
 //! The words of a conclusion's extension blocks (draft-sharabayko-srt-01, section 3.2.1), also of those that are malformed.
 
 use crate::text::Words;
-use srt_seq::limits::MAX_DATAGRAM;
-use srt_seq::read_word;
+use srt_types::limits::MAX_DATAGRAM;
+use srt_types::read_word;
 
 /// The names of the low eight flags of an HSREQ (section 3.2.1.1.1), the lowest bit first.
 const FLAGS: [&[u8]; 8] = [

@@ -8,7 +8,7 @@ use crate::text::{Words, front};
 use memchr::memchr;
 use srt_config::RouteNumbers;
 use srt_replay::{NewRoute, TapeEvent};
-use srt_seq::{Mode, Peer};
+use srt_types::{Mode, Peer};
 
 /// The most bytes that are shown of a line that isn't an event.
 const MAX_SHOWN: usize = 80;

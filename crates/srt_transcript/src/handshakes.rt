@@ -2,7 +2,7 @@
 
 use crate::blocks::put_blocks;
 use crate::text::Words;
-use srt_seq::read_word;
+use srt_types::read_word;
 
 /// The length of a handshake without extension blocks, in bytes.
 const FIXED: usize = 48;

@@ -6,7 +6,7 @@ ghost use Rattle.srt_transcript.specs.Transcript.{line_text, answer_text};
 
 use itoa::Buffer;
 use memchr::memchr;
-use srt_seq::write_at;
+use srt_types::write_at;
 
 /// The greatest length of an explanation's line, in bytes, with its LF.
 pub(crate) const MAX_ENTRY: usize = 16_640;

@@ -1,7 +1,7 @@
 //! The words of a loss list (draft-sharabayko-srt-01, appendix A), also of one that is malformed.
 
 use crate::text::Words;
-use srt_seq::read_word;
+use srt_types::read_word;
 
 /// The bits of a sequence number in a word.
 pub(crate) const NUMBER: u32 = 0x7fff_ffff;

@@ -6,8 +6,8 @@ use crate::handshakes::put_handshake;
 use crate::losses::{NUMBER, put_losses};
 use crate::text::Words;
 use srt_packet::{Kind, PacketFault, decode};
-use srt_seq::limits::MAX_DATAGRAM;
-use srt_seq::read_word;
+use srt_types::limits::MAX_DATAGRAM;
+use srt_types::read_word;
 
 /// The length of a packet's header, in bytes.
 const HEADER: usize = 16;

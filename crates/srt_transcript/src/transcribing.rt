@@ -15,10 +15,8 @@ use crate::answers::put_output;
 use crate::events::{put_event, put_long_line, put_no_event};
 use crate::lines::{MAX_ENTRY, first_line, write_answer, write_line};
 use crate::text::Words;
-use srt_replay::{
-    Brought, CountedReader, CountedWriter, MAX_LINE, MAX_LINES, Taken, next_line, read_event,
-};
-use srt_seq::limits::MAX_ROUTES;
+use srt_replay::{Brought, CountedReader, CountedWriter, Taken, next_line, read_event};
+use srt_types::product_limits::{MAX_ROUTES, MAX_TAPE_LINE, MAX_TAPE_LINES};
 use std::io::{BufRead, Write};
 use thiserror::Error;
 
@@ -70,7 +68,7 @@ struct Desk {
 /// What a transcript works with, made once: a buffer for a line, and what its explanation is made with.
 #[derive(Drop)]
 struct Workspace {
-    line: [u8; MAX_LINE],
+    line: [u8; MAX_TAPE_LINE],
     desk: Desk,
 }
 
@@ -96,7 +94,7 @@ fn describe(
     ensures short { result ≡ true → number ≤ 1000000 }
 {
     words.clear();
-    if number > MAX_LINES {
+    if number > MAX_TAPE_LINES {
         put_no_event(words, line, has_lf);
         return false;
     }
@@ -242,7 +240,7 @@ fn explain_answer<B: BufRead, W: Write>(
         Ok(Taken::End) => return Ok(true),
         Err(_) => return Err(TranscriptFault::Read),
     };
-    if number > MAX_LINES + 1 {
+    if number > MAX_TAPE_LINES + 1 {
         return Err(TranscriptFault::Output);
     }
     match explain_output(&work.line[..len], writer, &mut work.desk) {
@@ -361,7 +359,7 @@ fn transcribe_lines<T: BufRead, O: BufRead, W: Write>(
         tape: false,
         output: false,
     };
-    for before in 0..MAX_LINES + 2 {
+    for before in 0..MAX_TAPE_LINES + 2 {
         ended = match make_round(tape, output, writer, work, before + 1, ended) {
             Ok(ended) => ended,
             Err(fault) => return Err(fault),
@@ -394,7 +392,7 @@ pub fn transcribe<T: BufRead, O: BufRead, W: Write>(
         (W.contents (sink writer.old)) (W.contents (sink writer.new)) result }
 {
     let mut work = Workspace {
-        line: [0; MAX_LINE],
+        line: [0; MAX_TAPE_LINE],
         desk: Desk {
             datagram: [0; 2048],
             words: Words::new(),

@@ -3,8 +3,8 @@ use Rattle.std.proofs.Common.{◌≡◌, ℕ, ◌+◌, ◌<◌, List, [], ◌∷
 use Rattle.std.proofs.Common.{append_assoc, append-nil, add-one}
 use Rattle.std.proofs.lemmas.List.{take_more, flat_map_more, map-append}
 use Rattle.std.specs.List.{flat_map}
-use Rattle.srt_seq.specs.declared.shared.Entry.{Entry}
-use Rattle.srt_seq.specs.Terms.{Terms, terms_of}
+use Rattle.srt_types.specs.declared.shared.Entry.{Entry}
+use Rattle.srt_types.specs.Terms.{Terms, terms_of}
 use Rattle.srt_config.specs.declared.changes.RouteChange.{RouteChange}
 use Rattle.srt_log.specs.declared.config_events.ChangeSummary.{ChangeSummary}
 use Rattle.srt_watch.specs.Indexes.{index_of, next_after, indexes_from, counted, counted_all}

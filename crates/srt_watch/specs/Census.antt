@@ -1,15 +1,18 @@
 -- The refusals of a route and of the lobby, as the status page shows them.
-use Rattle.std.specs.Prelude.{ℕ, ◌+◌, ◌-◌, ◌^◌, ◌==◌, ◌&&◌, min, Option, None, Some, if◌then◌else◌}
-use Rattle.srt_seq.specs.declared.shared.Role.TheVariants.{Publish, Request}
-use Rattle.srt_seq.specs.declared.shared.NotAdmitted.{NotAdmitted}
-use Rattle.srt_seq.specs.declared.shared.NotAdmitted.TheVariants.{NoName, UnknownName, Address, Key}
+use Rattle.std.specs.Prelude.{ℕ, ◌+◌, ◌-◌, ◌^◌, ◌==◌, ◌&&◌, min, List, Option, None, Some, if◌then◌else◌}
+use Rattle.srt_types.specs.declared.shared.Role.TheVariants.{Publish, Request}
+use Rattle.srt_types.specs.declared.shared.NotAdmitted.{NotAdmitted}
+use Rattle.srt_types.specs.declared.shared.NotAdmitted.TheVariants.{NoName, UnknownName, Address, Key}
 use Rattle.srt_hs.specs.declared.refusals.RefusalCode.TheVariants as reasons
 use Rattle.srt_route.specs.declared.route.Route.{Route}
 use Rattle.srt_route.specs.declared.refusals.RefusalCause.TheVariants as causes
-use Rattle.srt_route.specs.Ledgers.{refused_in, refused_of}
+use Rattle.srt_route.specs.declared.totals.Totals.{Totals}
+use Rattle.srt_route.specs.declared.view.SessionView.{SessionView}
+use Rattle.srt_route.specs.Ledgers.{opened_in, refused_in, refused_of}
 use Rattle.srt_status.specs.declared.gateway.RefusalCounts.{RefusalCounts}
 use Rattle.srt_status.specs.declared.gateway.CauseCounts.{CauseCounts}
 use Rattle.srt_status.specs.declared.routes.LimitCounts.{LimitCounts}
+use Rattle.srt_status.specs.declared.routes.RouteStatus.{RouteStatus}
 
 -- the conclusions that a route refused, by their codes, and by the limits of the route
 abbrev pub refusals_of : Route → RefusalCounts
@@ -29,6 +32,16 @@ limits_of route = record {
   sessions = refused_of causes.Resource route;
   reserved = refused_of causes.Reserved route;
   sessions_per_address = refused_of causes.Address route;
+}
+
+-- the status of a route with these open sessions and these counts; its name, its mode, the number of sessions allowed and the take-overs are the old ones
+abbrev pub status_with : Route → List (Option SessionView) → Totals → RouteStatus → RouteStatus
+status_with route sessions totals status = record status {
+  sessions = sessions;
+  totals = totals;
+  opened = opened_in route;
+  refused = refusals_of route;
+  limits = Some (limits_of route);
 }
 
 -- one more, or 2^64 - 1 if that is the count already

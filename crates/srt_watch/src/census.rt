@@ -1,14 +1,14 @@
 //! The status of a route, and the counts of refusals.
 
-ghost use Rattle.std.specs.Prelude.{◌≡◌, Some};
-ghost use Rattle.srt_route.specs.Ledgers.{opened_in};
-ghost use Rattle.srt_watch.specs.Census.{refusals_of, limits_of, with_refusal, with_cause, grown_limits};
+ghost use Rattle.std.specs.Prelude.{◌≡◌};
+ghost use Rattle.srt_watch.specs.Showing.{AreTotals};
+ghost use Rattle.srt_watch.specs.Census.{refusals_of, limits_of, status_with, with_refusal, with_cause, grown_limits};
 
 use srt_hs::RefusalCode;
 use srt_route::{RefusalCause, Route, SessionView};
-use srt_seq::limits::MAX_SESSIONS;
-use srt_seq::{NotAdmitted, Role};
 use srt_status::{CauseCounts, LimitCounts, RefusalCounts, RouteStatus};
+use srt_types::product_limits::MAX_SESSIONS;
+use srt_types::{NotAdmitted, Role};
 
 // Returns the conclusions that a route refused, by their codes.
 fn refusals_of(route: &Route) -> RefusalCounts
@@ -44,12 +44,8 @@ pub(crate) fn note_route(
     sessions: &[Option<SessionView>; MAX_SESSIONS],
     status: &mut RouteStatus,
 )
-    ensures name { status.new.name ≡ status.old.name }
-    ensures sessions { status.new.sessions ≡ sessions.now }
-    ensures opened { status.new.opened ≡ opened_in route.now }
-    ensures refused { status.new.refused ≡ refusals_of route.now }
-    ensures limits { status.new.limits ≡ Some (limits_of route.now) }
-    ensures take_overs { status.new.take_overs ≡ status.old.take_overs }
+    ensures status { status.new ≡ status_with route.now sessions.now status.new.totals status.old }
+    ensures totals { AreTotals route.now status.new.totals }
 {
     status.sessions = *sessions;
     status.totals = route.totals();

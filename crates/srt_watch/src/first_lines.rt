@@ -1,7 +1,11 @@
 //! The first lines of a log: the address of the gateway, and the warnings of its configuration.
 
+ghost use Rattle.std.specs.Prelude.{◌≡◌, [], ◌∷◌, ◌++◌, OnOk, Some, None};
+ghost use Rattle.srt_log.specs.Events.{event_text};
+ghost use Rattle.srt_watch.specs.Log.{Logged};
+ghost use Rattle.srt_watch.specs.FirstLines.{started_words, first_calls, warning_call, warning_calls, unblocked_calls, lasts_of};
+
 use crate::log::{LogWriter, When};
-use crate::machine::Machine;
 use srt_log::LogEvent;
 use std::alloc::{AllocError, Global};
 use std::fmt::{Display, InlineText};
@@ -37,7 +41,10 @@ pub(crate) struct FirstLines {
 }
 
 impl FirstLines {
-    pub(crate) fn new(alloc: Global, start: Start) -> FirstLines {
+    pub(crate) fn new(alloc: Global, start: Start) -> FirstLines
+        ensures start { result.start ≡ Some start }
+        ensures warnings { result.warnings.items ≡ [] }
+    {
         FirstLines {
             start: Some(start),
             warnings: Vec::new(alloc),
@@ -53,36 +60,81 @@ impl FirstLines {
     }
 
     // Writes the warnings, once.
-    fn log_warnings<W: Write + Drop>(&mut self, log: &mut LogWriter<W>, when: When) {
-        for warning in self.warnings.iter() {
-            let warning = warning.as_str().as_bytes();
-            log.append_always(when, LogEvent::Warned { warning });
-        }
+    fn log_warnings<W: Write + Drop>(&mut self, log: &mut LogWriter<W>, when: When)
+        ensures start { self.new.start ≡ self.old.start }
+        ensures warnings { self.new.warnings.items ≡ [] }
+        ensures logged { Logged (W.contents log.old.out) (W.contents log.new.out) log.old.pace log.new.pace
+            (warning_calls when self.old.warnings.items) }
+    {
+        log_all(log, when, self.warnings.as_slice());
         self.warnings.clear();
     }
 
-    /// Writes the first lines, once all threads run and all memory is allocated. Returns how long the gateway serves callers
-    /// from now on, if it stops by itself. None if the lines were written before.
-    pub(crate) fn log<M: Machine, W: Write + Drop>(
-        &mut self,
-        machine: &M,
-        log: &mut LogWriter<W>,
-        when: When,
-        routes: u32,
-    ) -> Option<u64> {
-        let start = self.start.take()?;
-        let memory = machine.memory().unwrap_or(0);
-        log.append_always(when, started(start, routes, memory));
+    // Writes that signals aren't blocked, unless they are.
+    #[tactic(auto, using(crate::proofs::Logging::logged_nothing))]
+    fn log_unblocked<W: Write + Drop>(start: Start, log: &mut LogWriter<W>, when: When)
+        ensures { Logged (W.contents log.old.out) (W.contents log.new.out) log.old.pace log.new.pace (unblocked_calls when start.is_blocked) }
+    {
         if !start.is_blocked {
             log.append_always(when, LogEvent::Unblocked);
         }
+    }
+
+    /// Writes the first lines, once all threads run and all memory is allocated. Returns how long the gateway serves callers
+    /// from now on, if it stops by itself. None if the lines were written before. `memory`: that of the process, in bytes.
+    #[tactic(auto, using(crate::proofs::Logging::logged_nothing, crate::proofs::Logging::logged_both))]
+    pub(crate) fn log<W: Write + Drop>(
+        &mut self,
+        log: &mut LogWriter<W>,
+        when: When,
+        routes: u32,
+        memory: u64,
+    ) -> Option<u64>
+        ensures result { result ≡ lasts_of self.old.start }
+        ensures start { self.new.start ≡ None }
+        ensures logged { Logged (W.contents log.old.out) (W.contents log.new.out) log.old.pace log.new.pace
+            (first_calls self.old.start self.old.warnings.items when routes memory) }
+    {
+        let Some(start) = self.start.take() else {
+            return None;
+        };
+        log.append_always(when, started(start, routes, memory));
+        FirstLines::log_unblocked(start, log, when);
         self.log_warnings(log, when);
         start.lasts
     }
 }
 
+// Writes these warnings.
+#[tactic(auto, using(crate::proofs::Logging::logged_nothing, crate::proofs::Logging::logged_mapped))]
+fn log_all<W: Write + Drop>(
+    log: &mut LogWriter<W>,
+    when: When,
+    warnings: &[InlineText<MAX_WARNING>],
+)
+    ensures { Logged (W.contents log.old.out) (W.contents log.new.out) log.old.pace log.new.pace (warning_calls when warnings.now) }
+{
+    for warning in warnings {
+        log_warning(log, when, warning);
+    }
+}
+
+// Writes a warning.
+fn log_warning<W: Write + Drop>(
+    log: &mut LogWriter<W>,
+    when: When,
+    warning: &InlineText<MAX_WARNING>,
+)
+    ensures { Logged (W.contents log.old.out) (W.contents log.new.out) log.old.pace log.new.pace (warning_call when warning.now ∷ []) }
+{
+    let warning = warning.as_str().as_bytes();
+    log.append_always(when, LogEvent::Warned { warning });
+}
+
 // Returns the event that the gateway serves callers.
-fn started(start: Start, routes: u32, memory: u64) -> LogEvent<'static> {
+fn started(start: Start, routes: u32, memory: u64) -> LogEvent<'static>
+    ensures { event_text result ≡ started_words start routes memory }
+{
     LogEvent::Started {
         ip: start.ip,
         port: start.port,

@@ -1,8 +1,16 @@
 //! How a watcher follows the configuration's file: the change that a changed file requests, and what becomes of it.
 
+ghost use Rattle.std.specs.Prelude.{◌≡◌, IfOk, IfSome, map, length};
+ghost use Rattle.srt_types.specs.Terms.{terms_of};
+ghost use Rattle.srt_supervision.specs.Answers.{Answer};
+ghost use Rattle.srt_watch.specs.Indexes.{numbers_of};
+ghost use Rattle.srt_watch.specs.Requests.{config_of, first_indexes};
+ghost use Rattle.srt_watch.specs.Following.{IsWanted, IsTaken, IsRequested, IsFollowed, closes_of, opens_of};
+
 use crate::change_log::ChangeLog;
 use crate::config_file::ConfigFile;
 use crate::in_force::{InForce, NotTaken, Wanted};
+use crate::log::When;
 use crate::prepared_change::PreparedChange;
 use crate::watched_file::WatchedFile;
 use crate::watched_routes::WatchedRoutes;
@@ -10,6 +18,13 @@ use srt_config::Config;
 use srt_supervision::{ChangeRoutes, RouteChanges};
 use std::alloc::{AllocError, Global};
 use std::io::Write;
+
+// A change with the memory that it needs here, and what is requested of the run.
+#[derive(Drop)]
+struct Requested {
+    change: PreparedChange,
+    changes: RouteChanges,
+}
 
 /// The configuration that the gateway follows.
 #[derive(Drop)]
@@ -26,7 +41,10 @@ impl<'a, F: ConfigFile + Drop> Following<'a, F> {
         alloc: Global,
         config: &'a Config,
         file: F,
-    ) -> Result<Following<'a, F>, AllocError> {
+    ) -> Result<Following<'a, F>, AllocError>
+        ensures config { IfOk result (λ f. config_of f.in_force ≡ config.now) }
+        ensures indexes { IfOk result (λ f. f.in_force.indexes.items ≡ first_indexes (length config.now.entries.items)) }
+    {
         Ok(Following {
             alloc,
             file: WatchedFile::new(file),
@@ -35,7 +53,10 @@ impl<'a, F: ConfigFile + Drop> Following<'a, F> {
     }
 
     // Polls the file, once a second. None if it has nothing new.
-    fn poll(&mut self, moment: u64) -> Option<Result<Wanted, NotTaken>> {
+    fn poll(&mut self, moment: u64) -> Option<Result<Wanted, NotTaken>>
+        ensures in_force { self.new.in_force ≡ self.old.in_force }
+        ensures wanted { IfSome result (λ found. IfOk found (IsWanted self.old.in_force)) }
+    {
         match self.file.poll(moment)? {
             Ok(content) => {
                 let wanted = self.in_force.wanted(self.alloc, content.as_slice());
@@ -49,35 +70,45 @@ impl<'a, F: ConfigFile + Drop> Following<'a, F> {
     // Puts the configuration in force whose change the run made, and logs it. Routes opened from the index `first` on.
     fn note_made<W: Write + Drop>(
         &mut self,
-        log: &mut ChangeLog<'_, W>,
+        log: &mut ChangeLog<W>,
+        when: When,
         routes: &mut WatchedRoutes,
         change: PreparedChange,
         first: usize,
-    ) {
+    )
+        ensures { IsTaken self.old.in_force self.new.in_force change.wanted first }
+    {
         let before = routes.used();
-        log.taken(&change, self.in_force.config(), first);
+        log.taken(when, &change, self.in_force.config(), first);
         change.put_in_force(self.alloc, first, &mut self.in_force, routes);
-        log.few_indexes(before, routes.used());
+        log.few_indexes(when, before, routes.used());
     }
 
-    // Requests a change of the run, unless no route opens or closes: then the configuration is in force at once, without
-    // a line.
+    // Puts the configuration in force at once, without a line, if no route opens or closes. Otherwise requests its change of
+    // the run.
     fn request<W: Write + Drop, C: ChangeRoutes>(
         &mut self,
-        log: &mut ChangeLog<'_, W>,
+        log: &mut ChangeLog<W>,
+        when: When,
         routes: &mut WatchedRoutes,
         run: &mut C,
-        change: PreparedChange,
-        requested: RouteChanges,
-    ) {
+        requested: Requested,
+    )
+        requires known { (a : Answer) → C.requires_of a }
+        requires numbers { requested.change.numbers ≡ numbers_of requested.change.wanted.changes.gone.items requested.change.wanted.changes.routes.items }
+        requires closes { requested.changes.closes.items ≡ closes_of self.old.in_force requested.change.wanted }
+        requires opens { map terms_of requested.changes.opens.items ≡ opens_of requested.change.wanted }
+        ensures { IsRequested self.old.in_force self.new.in_force requested.change.wanted (C.asked run.old) (C.asked run.new) }
+    {
+        let Requested { change, changes } = requested;
         if change.changes_nothing() {
             let first = routes.used();
             change.put_in_force(self.alloc, first, &mut self.in_force, routes);
             return;
         }
-        match run.change(requested) {
-            Ok(first) => self.note_made(log, routes, change, first),
-            Err(fault) => log.rejected(&change, fault),
+        match run.change(changes) {
+            Ok(first) => self.note_made(log, when, routes, change, first),
+            Err(fault) => log.rejected(when, &change, fault),
         }
     }
 
@@ -85,22 +116,27 @@ impl<'a, F: ConfigFile + Drop> Following<'a, F> {
     /// it. Logs the outcome and counts it; after a fault the configuration in force stays.
     pub(crate) fn follow<W: Write + Drop, C: ChangeRoutes>(
         &mut self,
-        log: &mut ChangeLog<'_, W>,
+        log: &mut ChangeLog<W>,
+        when: When,
         routes: &mut WatchedRoutes,
         run: &mut C,
-    ) {
-        match self.poll(log.when.moment) {
-            Some(Ok(wanted)) => match PreparedChange::of(
-                self.alloc,
-                &self.in_force,
-                routes,
-                wanted,
-            ) {
-                Ok((change, requested)) => self.request(log, routes, run, change, requested),
-                Err(no_room) => log.no_room(&no_room),
-            },
-            Some(Err(not_taken)) => log.not_taken(&not_taken),
-            None => {}
+    )
+        requires known { (a : Answer) → C.requires_of a }
+        ensures { IsFollowed self.old.in_force self.new.in_force (C.asked run.old) (C.asked run.new) }
+    {
+        let wanted = match self.poll(when.moment) {
+            Some(Ok(wanted)) => wanted,
+            Some(Err(not_taken)) => {
+                log.not_taken(when, &not_taken);
+                return;
+            }
+            None => return,
+        };
+        match PreparedChange::of(self.alloc, &self.in_force, routes, wanted) {
+            Ok((change, changes)) => {
+                self.request(log, when, routes, run, Requested { change, changes });
+            }
+            Err(no_room) => log.no_room(when, &no_room),
         }
     }
 }

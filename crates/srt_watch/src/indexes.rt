@@ -3,13 +3,13 @@
 
 ghost use Rattle.std.specs.Prelude.{◌≡◌, ◌≤◌, [], ◌++◌, IfOk, OnOk, map, length, vec_len, vec_capacity};
 ghost use Rattle.std.specs.List.{flat_map};
-ghost use Rattle.srt_seq.specs.Terms.{terms_of};
+ghost use Rattle.srt_types.specs.Terms.{terms_of};
 ghost use Rattle.srt_watch.specs.Indexes.{index_at, reopened_at, closing, index_of, next_after, indexes_from};
 ghost use Rattle.srt_watch.specs.Indexes.{opens, counted, counted_all, numbers_of, changes_nothing, mark_of, reaches_mark, megabytes_of};
 
 use srt_config::{Changes, RouteChange};
 use srt_log::ChangeSummary;
-use srt_seq::Entry;
+use srt_types::Entry;
 use std::alloc::{AllocError, Global};
 
 // Returns the index of the route at a place. Callers pass places of routes alone.

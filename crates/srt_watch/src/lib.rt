@@ -21,7 +21,7 @@
 //!   indexes the others get.
 //!
 //! `machine.rt`, `status_server.rt` and `config_file.rt` have the traits. The words of each line are in `srt_log`, those of the
-//! page in `srt_status`, the changes of a configuration in `srt_config`, and the steps of a stop in `srt_operate`.
+//! page in `srt_status`, and the changes of a configuration in `srt_config`. `stopping.rt` has the steps of a stop.
 #![tactic(auto)]
 
 mod census;
@@ -32,6 +32,7 @@ mod first_lines;
 mod following;
 mod in_force;
 mod indexes;
+pub mod laws;
 mod log;
 mod losses;
 mod machine;
@@ -41,6 +42,7 @@ mod prepared_change;
 mod route_lines;
 mod showing;
 mod status_server;
+mod stopping;
 mod watched_file;
 mod watched_routes;
 mod watcher;
@@ -50,3 +52,6 @@ pub use first_lines::Start;
 pub use machine::Machine;
 pub use status_server::{NoStatusServer, StatusServer};
 pub use watcher::Watcher;
+
+#[cfg(test)]
+mod stopping_tests;

@@ -1,7 +1,13 @@
 //! The machine that a watcher runs on.
 
-/// Clocks, signals and counters of the machine. No clause is about their values.
+/// Clocks, signals and counters of the machine.
 pub trait Machine {
+    ghost use Rattle.std.specs.Prelude.{◌≡◌, Option, None, IfSome};
+    ghost use Rattle.srt_watch.specs.Machines.{MachineState};
+
+    /// What its calls return, or `None` for a machine that doesn't tell.
+    ghost says: { Self → Option MachineState } = { λ _. None };
+
     /// Rests for some milliseconds.
     fn rest(&self);
 
@@ -9,17 +15,23 @@ pub trait Machine {
     fn pause(&self);
 
     /// Reads the routes' clock, in microseconds.
-    fn moment(&mut self) -> u64;
+    fn moment(&mut self) -> u64
+        ensures moment { IfSome (says self.old) (λ s. result ≡ s.moment) }
+        ensures stays { says self.new ≡ says self.old };
 
     /// Reads the system's clock, in microseconds since 1970.
-    fn time(&self) -> u64;
+    fn time(&self) -> u64
+        ensures { IfSome (says self.now) (λ s. result ≡ s.time) };
 
     /// Whether a signal to stop has arrived.
-    fn stop_requested(&self) -> bool;
+    fn stop_requested(&self) -> bool
+        ensures { IfSome (says self.now) (λ s. result ≡ s.stops) };
 
     /// Returns the memory of the process, in bytes; `None` if that isn't known.
-    fn memory(&self) -> Option<u64>;
+    fn memory(&self) -> Option<u64>
+        ensures { IfSome (says self.now) (λ s. result ≡ s.memory) };
 
     /// Returns the number of datagrams so far that the kernel dropped at the gateway's socket; `None` if that isn't known.
-    fn drops(&self) -> Option<u64>;
+    fn drops(&self) -> Option<u64>
+        ensures { IfSome (says self.now) (λ s. result ≡ s.drops) };
 }

@@ -1,13 +1,12 @@
 //! The gateway as a whole, as the status page shows it.
 
-ghost use Rattle.std.specs.Prelude.{◌≡◌, ◌-◌, nat_lt};
-ghost use Rattle.srt_watch.specs.Census.{with_refusal, with_cause};
-ghost use Rattle.srt_watch.specs.Overview.{after_report, changes_with};
+ghost use Rattle.std.specs.Prelude.{◌≡◌};
+ghost use Rattle.srt_watch.specs.Overview.{after_report, with_report, no_overview, with_refused, gateway_of};
 
 use crate::census::{count_cause, count_refusal};
-use srt_seq::NotAdmitted;
 use srt_status::{CauseCounts, ChangeCounts, GatewayStatus, RefusalCounts};
 use srt_supervision::{Report, RunStatus};
+use srt_types::NotAdmitted;
 
 /// The time without a report after which the poller counts as stalled, in microseconds.
 const ROUND_MISSED: u64 = 2_000_000;
@@ -41,8 +40,6 @@ pub(crate) struct Overview {
     pub drops: Option<u64>,
     /// The memory of the process, in bytes; `None` if that isn't known.
     pub memory: Option<u64>,
-    /// The counts of changes of the configuration. `indexes` is set by `status`.
-    pub changes: ChangeCounts,
     // the refusals of the lobby
     refused: RefusalCounts,
     causes: CauseCounts,
@@ -51,11 +48,12 @@ pub(crate) struct Overview {
 
 impl Overview {
     /// Returns the one of a gateway that begins.
-    pub(crate) fn new() -> Overview {
+    pub(crate) fn new() -> Overview
+        ensures { result ≡ no_overview }
+    {
         Overview {
             drops: None,
             memory: None,
-            changes: ChangeCounts::default(),
             refused: RefusalCounts::default(),
             causes: CauseCounts::default(),
             poller: PollerReport {
@@ -68,36 +66,28 @@ impl Overview {
 
     /// Notes the poller's counters, and the time if they are of a new report.
     pub(crate) fn note_poller(&mut self, moment: u64, status: RunStatus)
-        ensures { self.new.poller ≡ after_report self.old.poller moment status }
+        ensures { self.new ≡ with_report self.old moment status }
     {
         self.poller.note(moment, status);
     }
 
     /// Counts a refusal by the lobby.
     pub(crate) fn count_refusal(&mut self, code: u32, cause: Option<NotAdmitted>)
-        ensures refused { self.new.refused ≡ with_refusal self.old.refused code }
-        ensures causes { self.new.causes ≡ with_cause self.old.causes cause }
+        ensures { self.new ≡ with_refused self.old code cause }
     {
         count_refusal(&mut self.refused, code);
         count_cause(&mut self.causes, cause);
     }
 
-    /// Returns the status at this time of a gateway that has this many routes, and has used this many indexes.
+    /// Returns the status at this time of a gateway that has this many routes, and whose configuration was changed so often.
     pub(crate) fn status<'v>(
         &self,
         version: &'v str,
         moment: u64,
         routes: usize,
-        indexes: usize,
+        changes: ChangeCounts,
     ) -> GatewayStatus<'v>
-        ensures polling { result.polling ≡ nat_lt (moment - self.now.poller.reported_at) 2_000_000 }
-        ensures poller { result.poller ≡ self.now.poller.counts }
-        ensures refused { result.refused ≡ self.now.refused }
-        ensures causes { result.causes ≡ self.now.causes }
-        ensures changes { result.changes ≡ changes_with indexes self.now.changes }
-        ensures moment { result.moment ≡ moment }
-        ensures kernel { result.kernel_drops ≡ self.now.drops }
-        ensures memory { result.resident_bytes ≡ self.now.memory }
+        ensures { result ≡ gateway_of self.now version.entry moment routes changes }
     {
         GatewayStatus {
             version,
@@ -108,10 +98,7 @@ impl Overview {
             poller: self.poller.counts,
             refused: self.refused,
             causes: self.causes,
-            changes: ChangeCounts {
-                indexes: indexes as u64,
-                ..self.changes
-            },
+            changes,
             kernel_drops: self.drops,
             resident_bytes: self.memory,
         }

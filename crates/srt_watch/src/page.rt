@@ -1,9 +1,14 @@
 //! The status page, and the rests of the watcher, in which the page is served.
 
+ghost use Rattle.std.specs.Prelude.{◌≡◌, [], ◌∷◌};
+ghost use Rattle.srt_watch.specs.Pages.{page_at, with_pages, ShowedPages};
+ghost use Rattle.srt_watch.specs.Routes.{used_of};
+
 use crate::machine::Machine;
 use crate::overview::Overview;
 use crate::status_server::StatusServer;
 use crate::watched_routes::WatchedRoutes;
+use srt_status::ChangeCounts;
 
 /// The most pauses in place of a rest, while a client is connected to the page, and the time after which they end, in
 /// microseconds. A response may take longer than a pause.
@@ -19,33 +24,77 @@ pub(crate) struct Page<P: Drop> {
 }
 
 impl<P: StatusServer + Drop> Page<P> {
-    pub(crate) fn new(server: P, version: &'static str) -> Page<P> {
+    pub(crate) fn new(server: P, version: &'static str) -> Page<P>
+        ensures server { result.server ≡ server }
+        ensures version { result.version ≡ version.entry }
+    {
         Page { server, version }
     }
 
     /// Serves the page, with the last snapshots.
-    pub(crate) fn show(&mut self, moment: u64, overview: &Overview, routes: &WatchedRoutes) {
+    pub(crate) fn show(
+        &mut self,
+        moment: u64,
+        overview: &Overview,
+        counts: ChangeCounts,
+        routes: &WatchedRoutes,
+    )
+        ensures version { self.new.version ≡ self.old.version }
+        ensures shown { P.shown self.new.server ≡ with_pages (P.shown self.old.server)
+            (page_at overview.now counts self.old.version routes.now.shown.items (used_of routes.now.routes.items) moment ∷ []) }
+    {
         let shown = routes.shown();
-        let gateway = overview.status(self.version, moment, shown.len(), routes.used());
+        let changes = ChangeCounts {
+            indexes: routes.used() as u64,
+            ..counts
+        };
+        let gateway = overview.status(self.version, moment, shown.len(), changes);
         self.server.serve(&gateway, shown);
     }
 
+    // Rests for a millisecond, and serves the page. Returns the time.
+    fn pause<M: Machine>(
+        &mut self,
+        machine: &mut M,
+        overview: &Overview,
+        counts: ChangeCounts,
+        routes: &WatchedRoutes,
+    ) -> u64
+        ensures version { self.new.version ≡ self.old.version }
+        ensures machine { M.says machine.new ≡ M.says machine.old }
+        ensures shown { ShowedPages (P.shown self.old.server) (P.shown self.new.server) overview.now counts self.old.version routes.now.shown.items
+            (used_of routes.now.routes.items) }
+    {
+        machine.pause();
+        let moment = machine.moment();
+        self.show(moment, overview, counts, routes);
+        machine.moment()
+    }
+
     /// Rests. While a client is connected to the page, rests by pauses, and serves the page after each.
+    #[tactic(auto, using(crate::proofs::PagesShown::showed_none, crate::proofs::PagesShown::showed_both))]
     pub(crate) fn rest<M: Machine>(
         &mut self,
         machine: &mut M,
         overview: &Overview,
+        counts: ChangeCounts,
         routes: &WatchedRoutes,
-    ) {
+    )
+        ensures version { self.new.version ≡ self.old.version }
+        ensures machine { M.says machine.new ≡ M.says machine.old }
+        ensures shown { ShowedPages (P.shown self.old.server) (P.shown self.new.server) overview.now counts self.old.version routes.now.shown.items
+            (used_of routes.now.routes.items) }
+    {
         if !self.server.is_awaited() {
             machine.rest();
             return;
         }
         let ends = machine.moment().saturating_add(MAX_PAUSING);
-        for _ in 0..MAX_PAUSES {
-            machine.pause();
-            self.show(machine.moment(), overview, routes);
-            if machine.moment() >= ends {
+        let mut pauses = 0u32;
+        while pauses < MAX_PAUSES {
+            pauses += 1;
+            let moment = self.pause(machine, overview, counts, routes);
+            if moment >= ends {
                 return;
             }
         }

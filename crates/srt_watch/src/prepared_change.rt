@@ -1,8 +1,8 @@
 //! A change of the run's routes, with all memory that it needs here allocated.
 
 ghost use Rattle.std.specs.Prelude.{◌≡◌, ◌≤◌, [], ◌∷◌, ◌++◌, IfOk, OnOk, length, map, vec_len, vec_capacity};
-ghost use Rattle.srt_seq.specs.Terms.{terms_of};
-ghost use Rattle.srt_watch.specs.Indexes.{closing, indexes_from};
+ghost use Rattle.srt_types.specs.Terms.{terms_of};
+ghost use Rattle.srt_watch.specs.Indexes.{closing, indexes_from, numbers_of, changes_nothing};
 ghost use Rattle.srt_watch.specs.Requests.{opened_at, opened_by, config_of};
 
 use crate::in_force::{InForce, Wanted};
@@ -10,9 +10,9 @@ use crate::indexes::{changes_nothing, closing, fill_indexes, numbers_of, opens};
 use crate::watched_routes::{OpeningRoute, WatchedRoutes};
 use srt_config::{Changes, Config, RouteChange};
 use srt_log::ChangeSummary;
-use srt_seq::Entry;
 use srt_status::RouteStatus;
 use srt_supervision::RouteChanges;
+use srt_types::Entry;
 use std::alloc::{AllocError, Global};
 use std::fmt::InlineText;
 
@@ -153,7 +153,8 @@ impl PreparedChange {
         wanted: Wanted,
         opening: Vec<OpeningRoute>,
     ) -> Result<PreparedChange, AllocError>
-        ensures { IfOk result (λ p. p.wanted ≡ wanted) }
+        ensures wanted { IfOk result (λ p. p.wanted ≡ wanted) }
+        ensures numbers { IfOk result (λ p. p.numbers ≡ numbers_of wanted.changes.gone.items wanted.changes.routes.items) }
     {
         let room = Room::new(alloc, routes, wanted.changes.routes.len(), opening)?;
         Ok(PreparedChange {
@@ -172,6 +173,7 @@ impl PreparedChange {
         wanted: Wanted,
     ) -> Result<(PreparedChange, RouteChanges), NoRoom>
         ensures wanted { IfOk result (λ p. p.0.wanted ≡ wanted) }
+        ensures numbers { IfOk result (λ p. p.0.numbers ≡ numbers_of wanted.changes.gone.items wanted.changes.routes.items) }
         ensures closes { IfOk result (λ p. p.1.closes.items ≡ closing in_force.now.indexes.items wanted.changes.gone.items wanted.changes.routes.items) }
         ensures opens { IfOk result (λ p. map terms_of p.1.opens.items ≡ opened_by wanted.changes.routes.items (map terms_of wanted.config.entries.items)) }
     {
@@ -188,17 +190,23 @@ impl PreparedChange {
     }
 
     /// The number of routes of each kind.
-    pub(crate) fn numbers(&self) -> ChangeSummary {
+    pub(crate) fn numbers(&self) -> ChangeSummary
+        ensures { result ≡ self.now.numbers }
+    {
         self.numbers
     }
 
     /// Whether no route opens or closes.
-    pub(crate) fn changes_nothing(&self) -> bool {
+    pub(crate) fn changes_nothing(&self) -> bool
+        ensures { result ≡ changes_nothing self.now.numbers }
+    {
         changes_nothing(self.numbers)
     }
 
     /// The configuration, and what it changes.
-    pub(crate) fn wanted(&self) -> &Wanted {
+    pub(crate) fn wanted(&self) -> &Wanted
+        ensures { result.now ≡ self.now.wanted }
+    {
         &self.wanted
     }
 

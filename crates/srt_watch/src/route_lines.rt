@@ -1,49 +1,85 @@
 //! The lines of what changed between two snapshots of a route.
 
+ghost use Rattle.std.specs.Prelude.{◌≡◌};
+ghost use Rattle.srt_watch.specs.Log.{Logged};
+ghost use Rattle.srt_watch.specs.RouteLines.{step_calls, calls_to, change_calls, limit_calls, take_over_more, take_overs_to};
+
 use crate::log::{LogWriter, When};
-use crate::watched_routes::{SnapshotPair, WatchedRoutes};
+use crate::watched_routes::SnapshotPair;
 use srt_log::{Change, LogEvent, STEPS, change_at, event_of};
 use srt_status::LimitCounts;
 use std::io::Write;
 
-// Writes the line of a change.
-fn log_change<W: Write + Drop>(
-    log: &mut LogWriter<W>,
-    when: When,
-    name: &[u8],
-    pair: &SnapshotPair,
-    change: Change,
-) {
-    if let Some(event) = event_of(name, &pair.old, &pair.new, change) {
-        log.append(when, event);
-    }
+/// The name of a route, and the time at which its lines are written.
+#[derive(Clone, Copy)]
+pub(crate) struct RouteLog<'n> {
+    pub name: &'n [u8],
+    pub when: When,
 }
 
-/// Writes the lines of what changed between two snapshots of the route with this index, and counts its take-overs.
-pub(crate) fn log_changes<W: Write + Drop>(
+// Writes the line of what changed in a step, if something did.
+#[tactic(auto, using(crate::proofs::Logging::logged_nothing))]
+fn log_step<W: Write + Drop>(
     log: &mut LogWriter<W>,
-    when: When,
-    routes: &mut WatchedRoutes,
-    index: usize,
+    route: RouteLog<'_>,
     pair: &SnapshotPair,
-) {
-    for step in 0..STEPS {
-        if let Some(change) = change_at(&pair.old, &pair.new, step) {
-            if let Change::TookOver { .. } = change {
-                routes.count_take_over(index);
-            }
-            log_change(log, when, routes.name_of(index).as_bytes(), pair, change);
+    step: usize,
+)
+    ensures { Logged (W.contents log.old.out) (W.contents log.new.out) log.old.pace log.new.pace (step_calls route.entry.when route.entry.name pair.now step) }
+{
+    if let Some(change) = change_at(&pair.old, &pair.new, step) {
+        if let Some(event) = event_of(route.name, &pair.old, &pair.new, change) {
+            log.append(route.when, event);
         }
     }
 }
 
+/// Writes the lines of what changed between two snapshots of the route with this name.
+#[tactic(auto, using(crate::proofs::RouteLines::no_steps, crate::proofs::RouteLines::next_step))]
+pub(crate) fn log_changes<W: Write + Drop>(
+    log: &mut LogWriter<W>,
+    route: RouteLog<'_>,
+    pair: &SnapshotPair,
+)
+    ensures { Logged (W.contents log.old.out) (W.contents log.new.out) log.old.pace log.new.pace (change_calls route.entry.when route.entry.name pair.now) }
+{
+    for step in 0..STEPS {
+        log_step(log, route, pair, step);
+    }
+}
+
+// Counts a take-over, if this is one.
+fn counted(count: u64, change: Option<Change>) -> u64
+    ensures { result ≡ take_over_more count change }
+{
+    match change {
+        Some(Change::TookOver { .. }) => count.saturating_add(1),
+        _ => count,
+    }
+}
+
+/// Returns how many take-overs there were between two snapshots.
+#[tactic(auto, using(crate::proofs::RouteLines::no_take_over, crate::proofs::RouteLines::next_take_over))]
+pub(crate) fn take_overs(pair: &SnapshotPair) -> u64
+    ensures { result ≡ take_overs_to pair.now.old pair.now.new 120 }
+{
+    let mut count = 0;
+    for step in 0..STEPS {
+        count = counted(count, change_at(&pair.old, &pair.new, step));
+    }
+    count
+}
+
 /// Writes how many conclusions each limit of the route with this name refused since the last snapshot.
+#[tactic(auto, using(crate::proofs::Logging::logged_nothing))]
 pub(crate) fn log_limits<W: Write + Drop>(
     log: &mut LogWriter<W>,
     when: When,
     route: &[u8],
     grown: Option<LimitCounts>,
-) {
+)
+    ensures { Logged (W.contents log.old.out) (W.contents log.new.out) log.old.pace log.new.pace (limit_calls when route.now grown) }
+{
     let Some(grown) = grown else {
         return;
     };

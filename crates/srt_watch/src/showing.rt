@@ -1,16 +1,38 @@
 //! Snapshots of a route.
 
-use srt_log::{RouteSnapshot, slot_of};
+ghost use Rattle.std.specs.Prelude.{◌≡◌};
+ghost use Rattle.srt_route.specs.Ledgers.{opened_in};
+ghost use Rattle.srt_watch.specs.Showing.{AreShown, AreSlots, first_snapshot};
+
+use srt_log::{RouteSnapshot, SlotSession, slot_of};
 use srt_route::{Route, SessionView};
-use srt_seq::limits::MAX_SESSIONS;
+use srt_types::product_limits::MAX_SESSIONS;
 
 /// Returns the open sessions of a route, by their slots.
-pub(crate) fn sessions_of(route: &Route) -> [Option<SessionView>; MAX_SESSIONS] {
+#[tactic(auto, using(crate::proofs::ShownSlots::none_shown, crate::proofs::ShownSlots::next_shown))]
+pub(crate) fn sessions_of(route: &Route) -> [Option<SessionView>; MAX_SESSIONS]
+    ensures { AreShown 17 route.now result }
+{
     let mut sessions = [None; MAX_SESSIONS];
     for slot in 0..MAX_SESSIONS {
         sessions[slot] = route.session(slot);
     }
     sessions
+}
+
+// Returns the session of each slot: of the open sessions, or else the one that ended there last.
+#[tactic(auto, using(crate::proofs::ShownSlots::no_slots, crate::proofs::ShownSlots::next_slot))]
+fn slots_of(
+    route: &Route,
+    sessions: &[Option<SessionView>; MAX_SESSIONS],
+) -> [Option<SlotSession>; MAX_SESSIONS]
+    ensures { AreSlots 17 route.now sessions.now result }
+{
+    let mut slots = [None; MAX_SESSIONS];
+    for slot in 0..MAX_SESSIONS {
+        slots[slot] = slot_of(sessions[slot], route.ended(slot));
+    }
+    slots
 }
 
 /// Returns a snapshot of a route, whose open sessions are these, at this time in microseconds. `stops`: the gateway is
@@ -20,21 +42,24 @@ pub(crate) fn snapshot_of(
     sessions: &[Option<SessionView>; MAX_SESSIONS],
     moment: u64,
     stops: bool,
-) -> RouteSnapshot {
-    let mut slots = [None; MAX_SESSIONS];
-    for slot in 0..MAX_SESSIONS {
-        slots[slot] = slot_of(sessions[slot], route.ended(slot));
-    }
+) -> RouteSnapshot
+    ensures moment { result.moment ≡ moment }
+    ensures stops { result.stops ≡ stops }
+    ensures slots { AreSlots 17 route.now sessions.now result.slots }
+    ensures opened { result.opened ≡ opened_in route.now }
+{
     RouteSnapshot {
         moment,
         stops,
-        slots,
+        slots: slots_of(route, sessions),
         opened: route.opened(),
     }
 }
 
 /// Returns the snapshot before the first event of a route.
-pub(crate) fn first_snapshot() -> RouteSnapshot {
+pub(crate) fn first_snapshot() -> RouteSnapshot
+    ensures { result ≡ first_snapshot }
+{
     RouteSnapshot {
         moment: 0,
         stops: false,

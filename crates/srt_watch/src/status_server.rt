@@ -2,13 +2,20 @@
 
 use srt_status::{GatewayStatus, RouteStatus};
 
-/// A server of the status page. No clause is about it.
+/// A server of the status page.
 pub trait StatusServer {
+    ghost use Rattle.std.specs.Prelude.{◌≡◌, List, [], ◌∷◌, Option, None};
+    ghost use Rattle.srt_watch.specs.Pages.{ShownPage, page, with_pages};
+
+    /// What it was given to serve, the oldest first, or `None` for a server that doesn't record it.
+    ghost shown: { Self → Option (List ShownPage) } = { λ _. None };
+
     /// Whether a client is connected, so that the watcher rests for shorter times.
     fn is_awaited(&self) -> bool;
 
     /// Responds to pending requests, without waiting. Called after each rest of the watcher, with the last snapshots.
-    fn serve(&mut self, gateway: &GatewayStatus<'_>, routes: &[RouteStatus]);
+    fn serve(&mut self, gateway: &GatewayStatus<'_>, routes: &[RouteStatus])
+        ensures { shown self.new ≡ with_pages (shown self.old) (page gateway.now routes.now ∷ []) };
 }
 
 /// No page.

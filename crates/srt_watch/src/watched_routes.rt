@@ -1,14 +1,19 @@
 //! The routes of a run, by their indexes, and the status of those in the configuration in force.
 
+ghost use Rattle.std.specs.Prelude.{◌≡◌, slice_get};
+ghost use Rattle.std.specs.Option.{option_copied};
+ghost use Rattle.std.specs.List.{position};
+ghost use Rattle.srt_watch.specs.Routes.{used_of, has_index, is_of, place_of, route_at, name_of};
+
 use crate::census::{grown_limits, note_route};
 use crate::showing::{first_snapshot, sessions_of, snapshot_of};
 use srt_config::RouteChange;
 use srt_log::RouteSnapshot;
 use srt_route::{Route, Totals};
-use srt_seq::limits::MAX_SESSIONS;
-use srt_seq::{Entry, Mode};
 use srt_status::{LimitCounts, RefusalCounts, RouteStatus};
 use srt_sub::Sendings;
+use srt_types::product_limits::MAX_SESSIONS;
+use srt_types::{Entry, Mode};
 use std::alloc::{AllocError, Global};
 use std::mem;
 use std::vec::IntoIter;
@@ -16,7 +21,7 @@ use std::vec::IntoIter;
 // The totals of a route without sessions.
 const NO_TOTALS: Totals = Totals {
     received: srt_pub::Counts {
-        came: 0,
+        arrived: 0,
         late: 0,
         ahead: 0,
         received: 0,
@@ -72,12 +77,39 @@ pub(crate) struct WatchedRoutes {
     shown: Vec<RouteStatus>,
 }
 
-// Returns the place of the route with this index.
-fn place_of(routes: &[WatchedRoute], index: usize) -> Option<usize> {
-    match routes.binary_search_by_key(&index, |route| route.index) {
-        Ok(place) => Some(place),
-        Err(_) => None,
+impl WatchedRoute {
+    fn has_index(&self, index: usize) -> bool
+        ensures { result ≡ has_index index self.now }
+    {
+        self.index == index
     }
+}
+
+// Whether the route at this place has this index.
+fn is_at(routes: &[WatchedRoute], place: usize, index: usize) -> bool
+    ensures { result ≡ is_of index (slice_get routes.now place) }
+{
+    match routes.get(place) {
+        Some(route) => route.has_index(index),
+        None => false,
+    }
+}
+
+// Returns the first place at which a route has this index.
+fn find(routes: &[WatchedRoute], index: usize) -> Option<usize>
+    ensures { result ≡ position (has_index index) routes.now }
+{
+    routes.iter().position(|route| route.has_index(index))
+}
+
+// Returns the place of the route with this index. That is the index itself, unless the run left indexes out.
+fn place_of(routes: &[WatchedRoute], index: usize) -> Option<usize>
+    ensures { result ≡ place_of routes.now index }
+{
+    if is_at(routes, index, index) {
+        return Some(index);
+    }
+    find(routes, index)
 }
 
 // Returns the status of a route before its first snapshot, without a name.
@@ -139,7 +171,9 @@ impl WatchedRoutes {
     }
 
     /// Returns the number of indexes that are used.
-    pub(crate) fn used(&self) -> usize {
+    pub(crate) fn used(&self) -> usize
+        ensures { result ≡ used_of self.now.routes.items }
+    {
         match self.routes.last() {
             Some(route) => route.index.saturating_add(1),
             None => 0,
@@ -147,17 +181,26 @@ impl WatchedRoutes {
     }
 
     /// Returns the routes of the configuration in force, in its order.
-    pub(crate) fn shown(&self) -> &[RouteStatus] {
+    pub(crate) fn shown(&self) -> &[RouteStatus]
+        ensures { result.now ≡ self.now.shown.items }
+    {
         self.shown.as_slice()
     }
 
     // Returns the route with this index.
-    fn route(&self, index: usize) -> Option<&WatchedRoute> {
-        self.routes.get(place_of(self.routes.as_slice(), index)?)
+    fn route(&self, index: usize) -> Option<&WatchedRoute>
+        ensures { option_copied result ≡ route_at self.now.routes.items (place_of self.now.routes.items index) }
+    {
+        match place_of(self.routes.as_slice(), index) {
+            Some(place) => self.routes.get(place),
+            None => None,
+        }
     }
 
     /// Returns the name of the route with this index; empty if there is none.
-    pub(crate) fn name_of(&self, index: usize) -> &str {
+    pub(crate) fn name_of(&self, index: usize) -> &str
+        ensures { result.now ≡ name_of self.now index }
+    {
         match self.route(index) {
             Some(route) => route.name.as_str(),
             None => "",
@@ -200,11 +243,11 @@ impl WatchedRoutes {
         Some(SnapshotPair { old, new, grown })
     }
 
-    /// Counts a take-over on the route with this index.
-    pub(crate) fn count_take_over(&mut self, index: usize) {
+    /// Adds this many take-overs to those of the route with this index.
+    pub(crate) fn count_take_overs(&mut self, index: usize, more: u64) {
         if let Some(status) = self.status_of(index) {
             if let Some(count) = status.take_overs {
-                status.take_overs = Some(count.saturating_add(1));
+                status.take_overs = Some(count.saturating_add(more));
             }
         }
     }

@@ -1,5 +1,10 @@
 //! A watcher: its rests and snapshots, the changes that it requests of the run, and how it stops the gateway.
 
+ghost use Rattle.std.specs.Prelude.{◌≡◌, [], ◌∷◌};
+ghost use Rattle.srt_watch.specs.Log.{Logged};
+ghost use Rattle.srt_watch.specs.Routes.{name_of, requested_by};
+ghost use Rattle.srt_watch.specs.Watching.{refused_call, stop_calls, CheckedStop};
+
 use crate::change_log::ChangeLog;
 use crate::config_file::ConfigFile;
 use crate::course::Course;
@@ -10,26 +15,67 @@ use crate::losses::Losses;
 use crate::machine::Machine;
 use crate::overview::Overview;
 use crate::page::Page;
-use crate::route_lines::{log_changes, log_limits};
+use crate::route_lines::{RouteLog, log_changes, log_limits, take_overs};
 use crate::status_server::StatusServer;
+use crate::stopping::StopStep;
 use crate::watched_routes::WatchedRoutes;
 use srt_config::Config;
 use srt_log::{LogEvent, StopCause};
-use srt_operate::StopStep;
 use srt_route::Route;
-use srt_seq::Entry;
-use srt_supervision::{ChangeRoutes, Order, Refusal, RunStatus, Watch};
+use srt_supervision::{Answers, ChangeRoutes, Order, Refusal, RunStatus, Watch};
+use srt_types::Entry;
 use std::alloc::{AllocError, Global};
 use std::fmt::Display;
 use std::io::Write;
 use std::mem;
 
 // Returns the name that a refused conclusion requested. If a route refused it, that is the route's name.
-fn requested_name<'v>(routes: &'v WatchedRoutes, refusal: &'v Refusal) -> &'v [u8] {
+fn requested_name<'v>(routes: &'v WatchedRoutes, refusal: &'v Refusal) -> &'v [u8]
+    ensures { result.now ≡ requested_by routes.now refusal.now.name.items refusal.now.route }
+{
     match refusal.route {
         Some(route) => routes.name_of(route).as_bytes(),
         None => refusal.name.as_slice(),
     }
+}
+
+// Writes the line of a refused conclusion, which requested this name, if its second has room.
+fn log_refused<W: Write + Drop>(log: &mut LogWriter<W>, when: When, name: &[u8], refusal: &Refusal)
+    ensures { Logged (W.contents log.old.out) (W.contents log.new.out) log.old.pace log.new.pace (refused_call when name.now refusal.now ∷ []) }
+{
+    log.append(
+        when,
+        LogEvent::Refused {
+            code: refusal.code,
+            peer: refusal.peer,
+            name,
+            by: refusal.cause,
+        },
+    );
+}
+
+// Writes why a stop was requested, if it was.
+#[tactic(auto, using(crate::proofs::Logging::logged_nothing))]
+fn log_stop<W: Write + Drop>(log: &mut LogWriter<W>, when: When, by: Option<StopCause>)
+    ensures { Logged (W.contents log.old.out) (W.contents log.new.out) log.old.pace log.new.pace (stop_calls when by) }
+{
+    if let Some(by) = by {
+        log.append_always(when, LogEvent::StopRequested { by });
+    }
+}
+
+// Logs a requested stop, once.
+fn check_stop<M: Machine, W: Write + Drop>(
+    machine: &M,
+    course: &mut Course,
+    log: &mut LogWriter<W>,
+    when: When,
+)
+    ensures { CheckedStop (M.says machine.now) course.old course.new (W.contents log.old.out) (W.contents log.new.out) log.old.pace log.new.pace when }
+{
+    let requested = machine.stop_requested();
+    let by = course.stop(requested, when.moment);
+    log_stop(log, when, by);
 }
 
 /// The watcher of a gateway. It logs sessions, refusals and faults, shows the status page, requests the changes of a changed
@@ -39,7 +85,9 @@ pub struct Watcher<'a, M: Drop, W: Drop, P: Drop, F: Drop> {
     alloc: Global,
     machine: M,
     course: Course,
-    log: LogWriter<W>,
+    // lines begin with their time
+    is_timed: bool,
+    changes: ChangeLog<W>,
     first_lines: FirstLines,
     losses: Losses,
     page: Page<P>,
@@ -74,7 +122,8 @@ where
             alloc,
             machine,
             course: Course::new(),
-            log: LogWriter::new(out, is_timed),
+            is_timed,
+            changes: ChangeLog::new(out),
             first_lines: FirstLines::new(alloc, start),
             losses: Losses::none(),
             page: Page::new(page, start.version),
@@ -93,7 +142,9 @@ where
     }
 
     /// Returns the name of the route with this index, closed or not; empty if there is none.
-    pub fn name_of(&self, index: usize) -> &str {
+    pub fn name_of(&self, index: usize) -> &str
+        ensures { result.now ≡ name_of self.now.routes index }
+    {
         self.routes.name_of(index)
     }
 
@@ -106,9 +157,10 @@ where
     // Writes the first lines, once all threads run and all memory is allocated.
     fn begin(&mut self, when: When) {
         let routes = u32::try_from(self.routes.shown().len()).unwrap_or(u32::MAX);
+        let memory = self.machine.memory().unwrap_or(0);
         let lasts = self
             .first_lines
-            .log(&self.machine, &mut self.log, when, routes);
+            .log(&mut self.changes.log, when, routes, memory);
         if let Some(lasts) = lasts {
             self.course.end_after(when.moment, lasts);
         }
@@ -117,7 +169,9 @@ where
     // Notes the state of the run: the poller's counters and the socket's faults, and refusals that weren't reported.
     fn note_status(&mut self, moment: u64, status: RunStatus) {
         self.overview.note_poller(moment, status);
-        self.log.miss(self.losses.note_missed(status.missed));
+        self.changes
+            .log
+            .miss(self.losses.note_missed(status.missed));
         self.losses.note_faults(status.faults);
     }
 
@@ -125,33 +179,33 @@ where
     fn log_losses(&mut self, when: When) {
         let drops = self.machine.drops();
         self.overview.drops = drops;
-        self.losses.log(&mut self.log, when, drops);
-    }
-
-    // Logs a requested stop, once.
-    fn check_stop(&mut self, when: When) {
-        if let Some(by) = self.course.stop(&self.machine, when.moment) {
-            self.log.append_always(when, LogEvent::StopRequested { by });
-        }
+        self.losses.log(&mut self.changes.log, when, drops);
     }
 
     // Serves the page, with the last snapshots.
     fn serve_page(&mut self) {
         let moment = self.machine.moment();
-        self.page.show(moment, &self.overview, &self.routes);
+        self.page
+            .show(moment, &self.overview, self.changes.counts, &self.routes);
     }
 
     /// Writes the last line, after the gateway's end.
     pub fn end(&mut self) {
-        let when = When::now(&mut self.machine);
+        let when = When::now(&mut self.machine, self.is_timed);
         if !self.course.is_stopping() {
             let by = StopCause::Rounds;
-            self.log.append_always(when, LogEvent::StopRequested { by });
+            self.changes
+                .log
+                .append_always(when, LogEvent::StopRequested { by });
         }
         self.log_losses(when);
-        self.log.end(when);
-        self.log.append_always(when, LogEvent::Stopped);
+        self.changes.log.end(when);
+        self.changes.log.append_always(when, LogEvent::Stopped);
     }
+}
+
+impl<M: Drop, W: Drop, P: Drop, F: Drop> Answers for Watcher<'_, M, W, P, F> {
+    ghost answered = { λ a. Unit {0} };
 }
 
 impl<M, W, P, F> Watch for Watcher<'_, M, W, P, F>
@@ -162,13 +216,17 @@ where
     F: ConfigFile + Drop,
 {
     fn next(&mut self, status: RunStatus) -> Order {
-        self.page
-            .rest(&mut self.machine, &self.overview, &self.routes);
-        let when = When::now(&mut self.machine);
+        self.page.rest(
+            &mut self.machine,
+            &self.overview,
+            self.changes.counts,
+            &self.routes,
+        );
+        let when = When::now(&mut self.machine, self.is_timed);
         self.begin(when);
         self.note_status(when.moment, status);
-        self.log.end_second(when);
-        self.check_stop(when);
+        self.changes.log.end_second(when);
+        check_stop(&self.machine, &mut self.course, &mut self.changes.log, when);
         self.serve_page();
         match self.course.step(when.moment, status.is_quiet) {
             StopStep::GoOn => Order::GoOn,
@@ -178,7 +236,7 @@ where
     }
 
     fn wants_routes(&mut self) -> bool {
-        let when = When::now(&mut self.machine);
+        let when = When::now(&mut self.machine, self.is_timed);
         if !self.course.is_snapshot_due(when.moment) {
             return false;
         }
@@ -188,42 +246,31 @@ where
     }
 
     fn show_route(&mut self, index: usize, route: &Route) {
-        let when = When::now(&mut self.machine);
+        let when = When::now(&mut self.machine, self.is_timed);
         let stops = self.course.is_stopping();
         if let Some(pair) = self.routes.observe(index, route, when.moment, stops) {
-            log_changes(&mut self.log, when, &mut self.routes, index, &pair);
             let name = self.routes.name_of(index).as_bytes();
-            log_limits(&mut self.log, when, name, pair.grown);
+            log_changes(&mut self.changes.log, RouteLog { name, when }, &pair);
+            log_limits(&mut self.changes.log, when, name, pair.grown);
+            self.routes.count_take_overs(index, take_overs(&pair));
         }
     }
 
     fn refused(&mut self, refusal: &Refusal) {
-        let when = When::now(&mut self.machine);
+        let when = When::now(&mut self.machine, self.is_timed);
         if refusal.route.is_none() {
             self.overview.count_refusal(refusal.code, refusal.cause);
         }
-        self.log.append(
-            when,
-            LogEvent::Refused {
-                code: refusal.code,
-                peer: refusal.peer,
-                name: requested_name(&self.routes, refusal),
-                by: refusal.cause,
-            },
-        );
+        let name = requested_name(&self.routes, refusal);
+        log_refused(&mut self.changes.log, when, name, refusal);
     }
 
     fn change_routes<C: ChangeRoutes>(&mut self, run: &mut C) {
-        let when = When::now(&mut self.machine);
+        let when = When::now(&mut self.machine, self.is_timed);
         let Some(following) = self.following.as_mut() else {
             return;
         };
-        let mut log = ChangeLog {
-            log: &mut self.log,
-            when,
-            counts: &mut self.overview.changes,
-        };
-        following.follow(&mut log, &mut self.routes, run);
+        following.follow(&mut self.changes, when, &mut self.routes, run);
     }
 }
 

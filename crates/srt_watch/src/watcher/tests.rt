@@ -3,7 +3,7 @@
 //! further session there.
 
 ghost use Rattle.std.specs.Prelude.{◌≡◌};
-ghost use Rattle.srt_seq.specs.Items.{told, moment_of};
+ghost use Rattle.srt_types.specs.Items.{input_of, moment_of};
 
 mod changing;
 
@@ -11,9 +11,9 @@ use crate::{Machine, Start, StatusServer, Watcher};
 use arrayvec::ArrayVec;
 use changing::Written;
 use srt_route::{Reply, Route, SessionView, Totals, Traffic};
-use srt_seq::{Access, Entry, Item, Mode, NotAdmitted, Peer, Role, Rules};
 use srt_status::{CauseCounts, ChangeCounts, GatewayStatus, RefusalCounts, RouteStatus};
 use srt_supervision::{Order, Refusal, Report, RunStatus, Watch};
+use srt_types::{Access, Entry, Item, Mode, NotAdmitted, Peer, Role, Rules};
 use std::alloc::Global;
 use std::process::Abort;
 use std::test::Fail;
@@ -203,13 +203,13 @@ fn watcher<'a>(
 
 /// Asserts that these lines were written since the last such call, and nothing else.
 fn assert_lines(rt: &impl Abort, watcher: &mut Watching<'_>, lines: &str) {
-    assert_eq!(rt; watcher.log.out.as_slice(), lines.as_bytes());
-    watcher.log.out.clear();
+    assert_eq!(rt; watcher.changes.log.out.as_slice(), lines.as_bytes());
+    watcher.changes.log.out.clear();
 }
 
 /// Applies an item, and takes the replies.
 fn apply(alloc: Global, route: &mut Route, item: &Item, moment: u64) -> Result<(), Fail>
-    requires { moment_of (told item.now) ≡ moment }
+    requires { moment_of (input_of item.now) ≡ moment }
 {
     if route.waits() || moment > 10_000_000 {
         return Err(Fail::from("an early moment, and no reply that waits"));
@@ -269,7 +269,7 @@ fn a_signal_stops_it(rt: HostRuntime) -> Result<(), Fail> {
     let entries = vec![in rt.alloc(); entry(rt.alloc())?]?;
     let mut watcher = watcher(rt.alloc(), &entries, false, start(true, None))?;
     assert_eq!(rt; watcher.next(NOTHING), Order::GoOn);
-    watcher.log.out.clear();
+    watcher.changes.log.out.clear();
     watcher.machine.stops = true;
     watcher.machine.moment = 1_000_000;
     assert_eq!(rt; watcher.next(NOTHING), Order::CloseAll);
@@ -296,7 +296,7 @@ fn it_stops_after_its_time(rt: HostRuntime) -> Result<(), Fail> {
     let mut watcher = watcher(rt.alloc(), &entries, false, start(true, Some(3_000_000)))?;
     watcher.machine.moment = 500_000;
     assert_eq!(rt; watcher.next(NOTHING), Order::GoOn);
-    watcher.log.out.clear();
+    watcher.changes.log.out.clear();
     watcher.machine.moment = 3_499_999;
     assert_eq!(rt; watcher.next(NOTHING), Order::GoOn);
     watcher.machine.moment = 3_500_000;
@@ -343,7 +343,7 @@ fn a_session_opens_and_ends(rt: HostRuntime) -> Result<(), Fail> {
     );
     hear(rt.alloc(), &mut route, 4_000_000, PUBLISHER)?;
     watcher.show_route(0, &route);
-    watcher.log.out.clear();
+    watcher.changes.log.out.clear();
     close(rt.alloc(), &mut route, 5_000_000)?;
     watcher.show_route(0, &route);
     assert_lines(
@@ -355,7 +355,7 @@ fn a_session_opens_and_ends(rt: HostRuntime) -> Result<(), Fail> {
 }
 
 #[test]
-fn a_stop_is_told_as_the_cause(rt: HostRuntime) -> Result<(), Fail> {
+fn a_stop_is_reported_as_the_cause(rt: HostRuntime) -> Result<(), Fail> {
     let entries = vec![in rt.alloc(); entry(rt.alloc())?]?;
     let mut watcher = watcher(rt.alloc(), &entries, false, start(true, None))?;
     let mut route = Route::open(rt.alloc(), &entries[0], 0)?;
@@ -363,7 +363,7 @@ fn a_stop_is_told_as_the_cause(rt: HostRuntime) -> Result<(), Fail> {
     watcher.show_route(0, &route);
     watcher.machine.stops = true;
     assert_eq!(rt; watcher.next(NOTHING), Order::CloseAll);
-    watcher.log.out.clear();
+    watcher.changes.log.out.clear();
     close(rt.alloc(), &mut route, 1_500_000)?;
     watcher.show_route(0, &route);
     assert_lines(
@@ -397,13 +397,13 @@ fn what_came_and_went_between_two_looks(rt: HostRuntime) -> Result<(), Fail> {
 
 /// A refusal by a route, or by the lobby for this cause.
 fn refusal(route: Option<usize>, name: &[u8], cause: Option<NotAdmitted>) -> Result<Refusal, Fail> {
-    let mut asked = ArrayVec::new();
-    let _ = asked.try_extend_from_slice(name);
+    let mut requested = ArrayVec::new();
+    let _ = requested.try_extend_from_slice(name);
     Ok(Refusal {
         route,
         peer: CALLER,
         code: 1002,
-        name: asked,
+        name: requested,
         cause,
     })
 }
@@ -411,7 +411,7 @@ fn refusal(route: Option<usize>, name: &[u8], cause: Option<NotAdmitted>) -> Res
 const UNKNOWN: Option<NotAdmitted> = Some(NotAdmitted::UnknownName);
 
 #[test]
-fn refusals_are_told_with_what_was_asked_for(rt: HostRuntime) -> Result<(), Fail> {
+fn refusals_are_reported_with_what_was_asked_for(rt: HostRuntime) -> Result<(), Fail> {
     let entries = vec![in rt.alloc(); entry(rt.alloc())?]?;
     let mut watcher = watcher(rt.alloc(), &entries, false, start(true, None))?;
     watcher.refused(&refusal(None, b"studia", UNKNOWN)?);
@@ -432,19 +432,20 @@ fn a_flood_has_fifty_lines_a_second(rt: HostRuntime) -> Result<(), Fail> {
     let mut watcher = watcher(rt.alloc(), &entries, false, start(true, None))?;
     let flood = refusal(None, b"x", UNKNOWN)?;
     assert_eq!(rt; watcher.next(NOTHING), Order::GoOn);
-    watcher.log.out.clear();
+    watcher.changes.log.out.clear();
     watcher.machine.moment = 1_000_000;
     for _ in 0..1_000 {
         watcher.refused(&flood);
     }
     let lines = watcher
+        .changes
         .log
         .out
         .iter()
         .filter(|byte| **byte == b'\n')
         .count();
     assert_eq!(rt; lines, 50);
-    watcher.log.out.clear();
+    watcher.changes.log.out.clear();
     watcher.machine.moment = 2_000_000;
     assert_eq!(rt; watcher.next(NOTHING), Order::GoOn);
     assert_lines(&rt, &mut watcher, "lines left out 950\n");
@@ -452,18 +453,18 @@ fn a_flood_has_fifty_lines_a_second(rt: HostRuntime) -> Result<(), Fail> {
 }
 
 #[test]
-fn counts_are_told_when_they_grow(rt: HostRuntime) -> Result<(), Fail> {
+fn counts_are_reported_when_they_grow(rt: HostRuntime) -> Result<(), Fail> {
     let entries = vec![in rt.alloc(); entry(rt.alloc())?]?;
     let mut watcher = watcher(rt.alloc(), &entries, false, start(true, None))?;
     assert_eq!(rt; watcher.next(NOTHING), Order::GoOn);
     assert!(rt; watcher.wants_routes());
-    watcher.log.out.clear();
-    let told = RunStatus {
+    watcher.changes.log.out.clear();
+    let status = RunStatus {
         faults: 3,
         missed: 7,
         ..NOTHING
     };
-    assert_eq!(rt; watcher.next(told), Order::GoOn);
+    assert_eq!(rt; watcher.next(status), Order::GoOn);
     assert_lines(&rt, &mut watcher, "");
     watcher.machine.moment = 500_000;
     watcher.machine.drops = 208;
@@ -475,7 +476,7 @@ fn counts_are_told_when_they_grow(rt: HostRuntime) -> Result<(), Fail> {
     );
     watcher.machine.moment = 1_000_000;
     assert!(rt; watcher.wants_routes());
-    assert_eq!(rt; watcher.next(told), Order::GoOn);
+    assert_eq!(rt; watcher.next(status), Order::GoOn);
     assert_lines(&rt, &mut watcher, "lines left out 7\n");
     watcher.machine.drops = 210;
     watcher.end();
@@ -498,14 +499,14 @@ fn a_flood_hides_no_count(rt: HostRuntime) -> Result<(), Fail> {
     for _ in 0..60 {
         watcher.refused(&flood);
     }
-    watcher.log.out.clear();
+    watcher.changes.log.out.clear();
     watcher.machine.drops = 8_395;
-    let told = RunStatus {
+    let status = RunStatus {
         faults: 2,
         missed: 300,
         ..NOTHING
     };
-    assert_eq!(rt; watcher.next(told), Order::GoOn);
+    assert_eq!(rt; watcher.next(status), Order::GoOn);
     assert!(rt; watcher.wants_routes());
     assert_lines(
         &rt,
@@ -513,7 +514,7 @@ fn a_flood_hides_no_count(rt: HostRuntime) -> Result<(), Fail> {
         "socket faults 2\ndatagrams dropped by the kernel 8395\n",
     );
     watcher.machine.moment = 2_000_000;
-    assert_eq!(rt; watcher.next(told), Order::GoOn);
+    assert_eq!(rt; watcher.next(status), Order::GoOn);
     assert_lines(&rt, &mut watcher, "lines left out 310\n");
     Ok(())
 }
@@ -536,7 +537,7 @@ fn the_page_is_shown_sessions_and_totals(rt: HostRuntime) -> Result<(), Fail> {
     watcher.show_route(0, &route);
     assert_eq!(rt; watcher.next(NOTHING), Order::GoOn);
     let counts = srt_pub::Counts {
-        came: 3,
+        arrived: 3,
         late: 0,
         ahead: 0,
         received: 2,
@@ -567,6 +568,7 @@ fn the_page_is_shown_sessions_and_totals(rt: HostRuntime) -> Result<(), Fail> {
         available: 30,
         rtt: 100_000,
         variance: 50_000,
+        correction: None,
     };
     assert_eq!(rt; session.traffic, Traffic::Received(publisher));
     hear(rt.alloc(), &mut route, 1_005_000, SHUTDOWN)?;
@@ -591,7 +593,7 @@ fn the_page_is_shown_the_gateway(rt: HostRuntime) -> Result<(), Fail> {
     watcher.refused(&refusal(None, b"studio", keyless)?);
     watcher.refused(&refusal(Some(0), b"", None)?);
     watcher.machine.moment = 1_999_999;
-    let told = RunStatus {
+    let status = RunStatus {
         counts: Report {
             read: 11,
             dropped: 5,
@@ -600,7 +602,7 @@ fn the_page_is_shown_the_gateway(rt: HostRuntime) -> Result<(), Fail> {
         },
         ..NOTHING
     };
-    assert_eq!(rt; watcher.next(told), Order::GoOn);
+    assert_eq!(rt; watcher.next(status), Order::GoOn);
     assert!(rt; watcher.page.server.polling);
     assert_eq!(rt; watcher.page.server.uptime_seconds, 1);
     assert_eq!(rt; watcher.page.server.poller.read, 11);
@@ -616,10 +618,13 @@ fn the_page_is_shown_the_gateway(rt: HostRuntime) -> Result<(), Fail> {
     assert!(rt; watcher.page.server.causes == causes);
     assert_eq!(rt; watcher.page.server.take_overs, Some(0));
     watcher.machine.moment = 2_000_000;
-    assert_eq!(rt; watcher.next(told), Order::GoOn);
+    assert_eq!(rt; watcher.next(status), Order::GoOn);
     assert!(rt; !watcher.page.server.polling);
-    let told = RunStatus { reports: 1, ..told };
-    assert_eq!(rt; watcher.next(told), Order::GoOn);
+    let status = RunStatus {
+        reports: 1,
+        ..status
+    };
+    assert_eq!(rt; watcher.next(status), Order::GoOn);
     assert!(rt; watcher.page.server.polling);
     Ok(())
 }

@@ -1,6 +1,6 @@
 use Rattle.std.proofs.Common.{◌∙◌, ◌++◌, ap}
-use Rattle.srt_seq.specs.declared.shared.Role.TheVariants.{Publish, Request}
-use Rattle.srt_seq.specs.Access.{role_access_of}
+use Rattle.srt_types.specs.declared.shared.Role.TheVariants.{Publish, Request}
+use Rattle.srt_types.specs.Access.{role_access_of}
 use Rattle.srt_explain.specs.declared.warnings.Warning.TheVariants.{OpenKey}
 use Rattle.srt_explain.specs.Warnings.{given, has_open_key}
 use Rattle.srt_explain.proofs.Added.{two_more}

@@ -1,5 +1,5 @@
 use Rattle.std.proofs.Common.{refl}
-use Rattle.srt_seq.specs.Terms.{terms_of}
+use Rattle.srt_types.specs.Terms.{terms_of}
 use Rattle.srt_explain.specs.declared.warnings.Warning.TheVariants.{OneSession}
 use Rattle.srt_explain.specs.Warnings.{is_small_outbox, is_small_window, has_one_session, outbox_warning, window_warning}
 use Rattle.srt_explain.proofs.Added.{three_given}

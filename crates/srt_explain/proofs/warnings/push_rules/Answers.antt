@@ -1,5 +1,5 @@
 use Rattle.std.proofs.Common.{refl}
-use Rattle.srt_seq.specs.Terms.{terms_of}
+use Rattle.srt_types.specs.Terms.{terms_of}
 use Rattle.srt_explain.specs.declared.warnings.Warning.TheVariants.{UnusedTakeover}
 use Rattle.srt_explain.specs.Warnings.{has_unused_takeover, has_unused_limit, limit_warning, has_one_unreserved, unreserved_warning}
 use Rattle.srt_explain.proofs.Added.{three_given}

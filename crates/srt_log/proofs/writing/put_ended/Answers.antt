@@ -7,8 +7,10 @@ returns c =
     (followed _ _ _ _ _
     (followed _ _ _ _ _
     (followed _ _ _ _ _
+    (followed _ _ _ _ _
     (followed _ _ _ _ _ (followed _ _ _ _ _ (followed _ _ _ _ _ c.put_caller.ensures c.put.ensures) c.put_id.ensures) c.put_reason.ensures)
     c.put-2.ensures)
     c.put_number.ensures)
     c.put-3.ensures)
-    c.put_counts.ensures
+    c.put_counts.ensures)
+    c.put_clock.ensures

@@ -3,8 +3,8 @@ use Rattle.std.specs.Prelude.{is_some}
 use Rattle.srt_transcript.proofs.Numbers.{too_many, event_is}
 use Rattle.srt_transcript.proofs.transcribing.describe.Goals as goal
 
-pub returns-then-number-gt-MAX_LINES-clause-kind : goal.returns-then-number-gt-MAX_LINES-clause-kind
-returns-then-number-gt-MAX_LINES-clause-kind c = sym (too_many c.args.number c.args.line.now (omega arith))
+pub returns-then-number-gt-MAX_TAPE_LINES-clause-kind : goal.returns-then-number-gt-MAX_TAPE_LINES-clause-kind
+returns-then-number-gt-MAX_TAPE_LINES-clause-kind c = sym (too_many c.args.number c.args.line.now (omega arith))
 
 pub returns-in-Some-clause-kind : goal.returns-in-Some-clause-kind
 returns-in-Some-clause-kind c =

@@ -5,9 +5,9 @@ use crate::config_file::LastPoll;
 use crate::indexes::{megabytes_of, reaches_mark};
 use crate::{ConfigFile, FileStamp, MAX_REASON};
 use srt_config::{Config, read_config};
-use srt_seq::Role;
 use srt_status::ChangeCounts;
 use srt_supervision::{ChangeFault, ChangeRoutes, Order, RouteChanges, Watch};
+use srt_types::Role;
 use std::alloc::{AllocError, Global};
 use std::cell::Cell;
 use std::fmt::InlineText;
@@ -116,7 +116,7 @@ fn follower<'a>(
         },
     )?;
     let _ = watcher.next(NOTHING);
-    watcher.log.out.clear();
+    watcher.changes.log.out.clear();
     Ok(watcher)
 }
 
@@ -128,6 +128,8 @@ struct Run {
 }
 
 impl ChangeRoutes for Run {
+    ghost requires_of = { λ a. Unit {0} };
+
     fn change(&mut self, changes: RouteChanges) -> Result<usize, ChangeFault> {
         self.requested = Some(changes);
         self.outcome
@@ -322,7 +324,7 @@ fn what_is_not_taken_is_logged_once(rt: HostRuntime) -> Result<(), Fail> {
         "configuration not taken: bind can't change while the gateway runs (also: workers, secret); restart it to change it\n",
     );
     assert!(rt; next_change(&mut watcher, Ok(1)).is_none());
-    watcher.log.out.clear();
+    watcher.changes.log.out.clear();
     assert_page(&rt, &mut watcher, b"s", [0, 3, 1]);
     Ok(())
 }

@@ -1,5 +1,5 @@
 use Rattle.std.proofs.Common.{◌≡◌, ◌++◌, length, map}
-use Rattle.srt_seq.specs.Terms.{terms_of}
+use Rattle.srt_types.specs.Terms.{terms_of}
 use Rattle.srt_watch.specs.Requests.{opened_by}
 use Rattle.srt_watch.proofs.prepared_change.Opens.of.Given as goal
 

@@ -1,0 +1,14 @@
+use Rattle.std.proofs.Common.{[], ◌+◌, refl, ap, ◌∙◌}
+use Rattle.srt_watch.proofs.Logging.{logged_by, wrote_nothing}
+use Rattle.srt_watch.specs.Log.{most}
+use Rattle.srt_watch.proofs.log.LogWriter.miss.Goals as goal
+
+pub returns : goal.returns
+returns g c =
+    logged_by _ _ _ _ _ _ [] refl
+    (λ s h. record {
+      limit_stands = h.limit_stands;
+      missed_is = c.saturating_add-self.ensures ∙ ap (λ n. most (n + c.args.count)) h.missed_is;
+      second_is = h.second_is;
+    })
+    (λ s h. refl) (wrote_nothing _ _)

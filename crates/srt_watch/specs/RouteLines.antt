@@ -1,0 +1,38 @@
+-- The lines of what changed between two snapshots of a route.
+use Rattle.std.specs.Prelude.{ℕ, zero, suc, List, [], ◌∷◌, Option, None, Some}
+use denote.Ref.{Bor}
+use Rattle.srt_log.specs.Between.{event_at, events_between, events_to, listed}
+use Rattle.srt_log.specs.Changes.{change_at}
+use Rattle.srt_log.specs.Events.{limited_text}
+use Rattle.srt_log.specs.declared.changes.Change.{Change}
+use Rattle.srt_log.specs.declared.changes.Change.TheVariants.{TookOver}
+use Rattle.srt_log.specs.declared.snapshots.RouteSnapshot.{RouteSnapshot}
+use Rattle.srt_status.specs.declared.routes.LimitCounts.{LimitCounts}
+use Rattle.srt_watch.specs.declared.log.When.{When}
+use Rattle.srt_watch.specs.declared.watched_routes.SnapshotPair.{SnapshotPair}
+use Rattle.srt_watch.specs.Census.{one_more}
+use Rattle.srt_watch.specs.Log.{LogCall, Offered, offered}
+
+-- what changed, in the order of the steps, and the refusals by each limit
+abbrev pub step_calls : When → Bor (List ℕ) → SnapshotPair → (step : ℕ) → List LogCall
+step_calls when name pair step = offered when (listed (event_at name pair.old pair.new step))
+
+abbrev pub calls_to : When → Bor (List ℕ) → SnapshotPair → (steps : ℕ) → List LogCall
+calls_to when name pair steps = offered when (events_to name pair.old pair.new steps)
+
+abbrev pub change_calls : When → Bor (List ℕ) → SnapshotPair → List LogCall
+change_calls when name pair = offered when (events_between name pair.old pair.new)
+
+abbrev pub limit_calls : When → (name : List ℕ) → Option LimitCounts → List LogCall
+limit_calls when name None = []
+limit_calls when name (Some n) = Offered when (limited_text name n.sessions n.reserved n.sessions_per_address) ∷ []
+
+-- the take-overs in the first steps
+abbrev pub take_over_more : (count : ℕ) → Option Change → ℕ
+take_over_more count None = count
+take_over_more count (Some (TookOver slot)) = one_more count
+take_over_more count (Some change) = count
+
+unfoldable pub take_overs_to : (old new : RouteSnapshot) → (steps : ℕ) → ℕ
+take_overs_to old new zero = 0
+take_overs_to old new (suc step) = take_over_more (take_overs_to old new step) (change_at old new step)
