@@ -2,13 +2,11 @@
 
 use clap::builder::ValueParser;
 use clap::{Arg, ArgAction, Command};
+use srt_types::product_limits::MAX_SERVE_ROUNDS;
 use std::alloc::{AllocError, Global};
 
-/// The most rounds of `serve`.
-const MAX_SERVE_ROUNDS: u64 = 1_000_000_000;
-
 /// The version, as CHANGELOG.md has it.
-pub const VERSION: &str = "0.6";
+pub const VERSION: &str = "0.7";
 
 fn path<'a>(alloc: Global, name: &'a str, help: &'a str) -> Arg<'a> {
     Arg::new(alloc, name)

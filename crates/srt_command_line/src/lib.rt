@@ -9,14 +9,18 @@
 //! Calls: `words_given` takes the words of the process, and `read_words` makes a task of them. `VERSION` is what
 //! `--version` prints.
 //!
-//! Files: `commands.rt` has the commands with their help, `tasks.rt` finds the task in what was parsed, `words.rt` does
-//! both and prints. docs/OPERATING.md has the commands for people.
+//! Files: `commands.rt` has the commands with their help, `tasks.rt` finds the task in what was parsed, `durations.rt`
+//! reads a duration such as `8h`, `words.rt` does both and prints. docs/OPERATING.md has the commands for people.
 #![tactic(auto)]
 
 mod commands;
+mod durations;
 mod tasks;
 mod words;
 
 pub use commands::VERSION;
 pub use tasks::{Manner, Task};
 pub use words::{CommandLine, WordsFault, read_words, words_given};
+
+#[cfg(test)]
+mod duration_tests;

@@ -4,8 +4,8 @@ ghost use Rattle.std.specs.Prelude.{◌≡◌, IfSome, codes, option_map, Some};
 ghost use Rattle.clap.specs.Matches.{found_of, first_value, subcommand_name_of};
 ghost use Rattle.srt_command_line.specs.inside.Tasks.{lasts_of, command_of};
 
+use crate::durations::duration_in;
 use clap::ArgMatches;
-use srt_operate::duration_in;
 
 /// How a gateway runs.
 #[derive(Clone, Copy, Debug)]

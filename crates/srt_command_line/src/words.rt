@@ -19,7 +19,7 @@ pub enum CommandLine<'a> {
     Task(Task<'a>),
     /// A text, which was printed: the one that was asked for, with this status 0, or what is wrong with the words, with
     /// this status 2.
-    Told(u8),
+    Reported(u8),
 }
 
 /// Why words came to nothing.
@@ -75,7 +75,7 @@ where
     match task_of(rt.alloc(), words) {
         Ok(task) => Ok(CommandLine::Task(task)),
         Err(error) => match tell(rt, error) {
-            Ok(status) => Ok(CommandLine::Told(status)),
+            Ok(status) => Ok(CommandLine::Reported(status)),
             Err(fault) => Err(fault),
         },
     }

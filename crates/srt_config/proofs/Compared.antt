@@ -2,9 +2,9 @@
 use Rattle.std.proofs.Common.{◌≡◌, ℕ, zero, suc, ◌+◌, ◌<◌, cond, Some, List, [], ◌∷◌, ◌++◌, length, map, get_or, drop}
 use Rattle.std.proofs.Common.{refl, ap, arith}
 use Rattle.std.specs.Str.{bytes_eq}
-use Rattle.srt_seq.specs.declared.shared.Entry.{Entry}
-use Rattle.srt_seq.specs.declared.shared.Schedule.{Schedule}
-use Rattle.srt_seq.specs.Terms.{Terms, terms_of}
+use Rattle.srt_types.specs.declared.shared.Entry.{Entry}
+use Rattle.srt_types.specs.declared.shared.Schedule.{Schedule}
+use Rattle.srt_types.specs.Terms.{Terms, terms_of}
 use Rattle.srt_config.specs.Config.{Settings}
 use Rattle.srt_config.specs.Changes.{place_from, place_of, change_of, changes_of, gone_at, gone_from}
 

@@ -5,13 +5,13 @@ use Rattle.std.specs.Str.{bytes_eq}
 use Rattle.toml.specs.Data.{Data, Members, Items, no_items, item, get_member, as_str, as_integer, as_array, as_table}
 use Rattle.hex.specs.Hex.{decode_sized}
 use Rattle.hex.specs.declared.error.FromHexError.{FromHexError}
-use Rattle.srt_seq.specs.Entries.{is_between, is_name}
-use Rattle.srt_seq.specs.Terms.{Terms}
-use Rattle.srt_seq.specs.declared.shared.Network.{Network}
-use Rattle.srt_seq.specs.declared.shared.Mode.{Mode as TheMode}
-use Rattle.srt_seq.specs.declared.shared.Mode.TheVariants as mode
-use Rattle.srt_seq.specs.declared.shared.Callers.{Callers as TheCallers}
-use Rattle.srt_seq.specs.declared.shared.Callers.TheVariants as callers
+use Rattle.srt_types.specs.Entries.{is_between, is_name}
+use Rattle.srt_types.specs.Terms.{Terms}
+use Rattle.srt_types.specs.declared.shared.Network.{Network}
+use Rattle.srt_types.specs.declared.shared.Mode.{Mode as TheMode}
+use Rattle.srt_types.specs.declared.shared.Mode.TheVariants as mode
+use Rattle.srt_types.specs.declared.shared.Callers.{Callers as TheCallers}
+use Rattle.srt_types.specs.declared.shared.Callers.TheVariants as callers
 use Rattle.srt_lobby.specs.Opening.{is_taken}
 use Rattle.srt_config.specs.declared.config.table.Key.{Key}
 use Rattle.srt_config.specs.declared.config.table.Key.TheVariants.{Secret, Bind, Workers, Status, Route, Name, Mode, LatencyMs, Buffer}

@@ -3,8 +3,8 @@ use Rattle.std.proofs.Common.{◌≡◌, ℕ, suc, ◌⊎◌, inl, inr, Bool, tr
 use Rattle.std.proofs.Common.{Result, Ok, Err, refl, ap, subst, ◌∙◌}
 use Rattle.std.proofs.lemmas.Bool.{and_parts, false≢true}
 use Rattle.toml.specs.Data.{Data, Members, Items, no_items, item, get_member, as_array, as_table}
-use Rattle.srt_seq.specs.Entries.{is_between}
-use Rattle.srt_seq.specs.Terms.{Terms}
+use Rattle.srt_types.specs.Entries.{is_between}
+use Rattle.srt_types.specs.Terms.{Terms}
 use Rattle.srt_config.specs.declared.config.table.Key.{Key}
 use Rattle.srt_config.specs.declared.config.table.Key.TheVariants.{Bind, Workers, Status, Route}
 use Rattle.srt_config.specs.KeyTable.{key_name}

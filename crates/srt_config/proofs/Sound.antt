@@ -8,12 +8,12 @@ use Rattle.std.proofs.lemmas.List.{length-map}
 use Rattle.std.proofs.lemmas.Slice.Eq.{bytes_eq-Decides}
 use Rattle.std.proofs.lemmas.Bool.Decides.{nat_tests}
 use Rattle.toml.specs.Data.{Data, Items, no_items, item, Members, get_member, as_integer, as_array, as_table}
-use Rattle.srt_seq.specs.declared.shared.Mode.{Mode as TheMode}
-use Rattle.srt_seq.specs.declared.shared.Callers.{Callers as TheCallers}
-use Rattle.srt_seq.specs.declared.shared.Rules.{Rules}
-use Rattle.srt_seq.specs.declared.shared.Schedule.{Schedule}
-use Rattle.srt_seq.specs.Terms.{Terms, terms_of}
-use Rattle.srt_seq.specs.Entries.{is_between, is_between_if, is_name, are_rules, in_limits}
+use Rattle.srt_types.specs.declared.shared.Mode.{Mode as TheMode}
+use Rattle.srt_types.specs.declared.shared.Callers.{Callers as TheCallers}
+use Rattle.srt_types.specs.declared.shared.Rules.{Rules}
+use Rattle.srt_types.specs.declared.shared.Schedule.{Schedule}
+use Rattle.srt_types.specs.Terms.{Terms, terms_of}
+use Rattle.srt_types.specs.Entries.{is_between, is_between_if, is_name, are_rules, in_limits}
 use Rattle.srt_lobby.specs.Opening.{is_taken, is_fresh, are_names, fault_of}
 use Rattle.srt_config.specs.declared.config.table.Key.{Key}
 use Rattle.srt_config.specs.declared.config.table.Key.TheVariants.{Route, Name, LatencyMs, Buffer, Sessions, Inbox, Outbox, OpenRound, CloseRound}

@@ -4,9 +4,9 @@ use Rattle.std.specs.Prelude.{Ok, Err, if◌then◌else◌}
 use Rattle.std.specs.Int.{w32, from_be_bytes}
 use Rattle.std.specs.List.{list_all}
 use Rattle.toml.specs.Data.{Data, Items, no_items, item, Members, get_member, as_str, as_array}
-use Rattle.srt_seq.specs.declared.shared.Network.{Network}
-use Rattle.srt_seq.specs.Access.{AccessTerms, network_of}
-use Rattle.srt_seq.specs.Entries.{is_between}
+use Rattle.srt_types.specs.declared.shared.Network.{Network}
+use Rattle.srt_types.specs.Access.{AccessTerms, network_of}
+use Rattle.srt_types.specs.Entries.{is_between}
 use Rattle.srt_config.specs.declared.config.table.Key.{Key}
 use Rattle.srt_config.specs.declared.config.table.Key.TheVariants.{PublishFrom, RequestFrom, PublishKey, RequestKey}
 use Rattle.srt_config.specs.Address.{parted, octet_to}

@@ -1,8 +1,8 @@
 -- What the comparison of two configurations means.
 use Rattle.std.specs.Prelude.{◌≡◌, ℕ, suc, true, false, List, [], ◌∷◌, map, length, Option, Some, slice_get}
 use Rattle.std.specs.Bool.{Decides}
-use Rattle.srt_seq.specs.declared.shared.Schedule.{Schedule}
-use Rattle.srt_seq.specs.Terms.{Terms}
+use Rattle.srt_types.specs.declared.shared.Schedule.{Schedule}
+use Rattle.srt_types.specs.Terms.{Terms}
 use Rattle.srt_lobby.specs.Opening.{are_names}
 use Rattle.srt_config.specs.declared.changes.FixedKeys.{FixedKeys}
 use Rattle.srt_config.specs.declared.changes.RouteChange.{RouteChange}

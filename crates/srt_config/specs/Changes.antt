@@ -1,8 +1,8 @@
 -- The changes that a configuration requests of a running gateway (our choice).
 use Rattle.std.specs.Prelude.{ℕ, suc, ◌==◌, Bool, false, not, ◌&&◌, ◌||◌, List, [], ◌∷◌, ◌++◌, Option, None, Some, slice_get, if◌then◌else◌}
 use Rattle.std.specs.Str.{bytes_eq}
-use Rattle.srt_seq.specs.declared.shared.Schedule.{Schedule}
-use Rattle.srt_seq.specs.Terms.{Terms}
+use Rattle.srt_types.specs.declared.shared.Schedule.{Schedule}
+use Rattle.srt_types.specs.Terms.{Terms}
 use Rattle.srt_config.specs.declared.changes.Changes.{Changes}
 use Rattle.srt_config.specs.declared.changes.FixedKeys.{FixedKeys}
 use Rattle.srt_config.specs.declared.changes.RouteChange.{RouteChange}

@@ -4,8 +4,8 @@ use Rattle.toml.specs.Data.{Data, Members, get_member}
 use Rattle.hex.specs.Hex.{decode_sized}
 use Rattle.hex.specs.declared.error.FromHexError.{FromHexError}
 use Rattle.srt_cookie.specs.Cookie.{secret_bytes}
-use Rattle.srt_seq.specs.Terms.{Terms, terms_of}
-use Rattle.srt_seq.specs.declared.shared.Schedule.{Schedule}
+use Rattle.srt_types.specs.Terms.{Terms, terms_of}
+use Rattle.srt_types.specs.declared.shared.Schedule.{Schedule}
 use Rattle.srt_config.specs.declared.config.Config.{Config}
 use Rattle.srt_config.specs.declared.config.table.Key.{Key}
 use Rattle.srt_config.specs.declared.config.table.Key.TheVariants.{Secret, Bind, Workers, Status, Route}

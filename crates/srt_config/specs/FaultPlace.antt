@@ -1,7 +1,7 @@
 -- Which route has a configuration's fault (our choice).
 use Rattle.std.specs.Prelude.{◌≡◌, ℕ, suc, not, ◌⊎◌, Option, None, Some, Result, Ok, Err, IfErr, if◌then◌else◌}
 use Rattle.toml.specs.Data.{Items, no_items, item, Members, as_array}
-use Rattle.srt_seq.specs.Entries.{is_between}
+use Rattle.srt_types.specs.Entries.{is_between}
 use Rattle.srt_config.specs.declared.config.faults.ConfigFault.{ConfigFault}
 use Rattle.srt_config.specs.declared.config.faults.ConfigFault.TheVariants as code
 use Rattle.srt_config.specs.declared.config.placed.PlacedFault.{PlacedFault}

@@ -3,13 +3,13 @@ use Rattle.std.specs.Prelude.{ℕ, suc, ◌+◌, nat_lt, Bool, true, not, ◌&&�
 use Rattle.std.specs.Prelude.{Ok, Err, if◌then◌else◌}
 use Rattle.std.specs.Str.{bytes_eq}
 use Rattle.toml.specs.Data.{Data, Items, no_items, item, Members, as_array, as_table}
-use Rattle.srt_seq.specs.Access.{AccessTerms, anyone}
-use Rattle.srt_seq.specs.Terms.{Terms}
-use Rattle.srt_seq.specs.declared.shared.Mode.{Mode as TheMode}
-use Rattle.srt_seq.specs.declared.shared.Rules.{Rules}
-use Rattle.srt_seq.specs.declared.shared.Schedule.{Schedule}
-use Rattle.srt_seq.specs.declared.shared.Mode.TheVariants as mode
-use Rattle.srt_seq.specs.Entries.{is_between, is_name, draft_rules}
+use Rattle.srt_types.specs.Access.{AccessTerms, anyone}
+use Rattle.srt_types.specs.Terms.{Terms}
+use Rattle.srt_types.specs.declared.shared.Mode.{Mode as TheMode}
+use Rattle.srt_types.specs.declared.shared.Rules.{Rules}
+use Rattle.srt_types.specs.declared.shared.Schedule.{Schedule}
+use Rattle.srt_types.specs.declared.shared.Mode.TheVariants as mode
+use Rattle.srt_types.specs.Entries.{is_between, is_name, draft_rules}
 use Rattle.srt_lobby.specs.Opening.{is_taken}
 use Rattle.srt_config.specs.declared.config.table.Key.{Key}
 use Rattle.srt_config.specs.declared.config.table.Key.TheVariants.{Route, Name, Mode, LatencyMs, Buffer, Sessions, Inbox, Outbox}

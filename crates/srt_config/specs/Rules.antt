@@ -2,9 +2,9 @@
 use Rattle.std.specs.Prelude.{ℕ, ◌-◌, min, codes, List, Option, None, Some, Result, Ok, Err, if◌then◌else◌}
 use Rattle.std.specs.Str.{bytes_eq}
 use Rattle.toml.specs.Data.{Data, Members, get_member}
-use Rattle.srt_seq.specs.declared.shared.Callers.{Callers as TheCallers}
-use Rattle.srt_seq.specs.declared.shared.Callers.TheVariants as callers
-use Rattle.srt_seq.specs.declared.shared.Rules.{Rules}
+use Rattle.srt_types.specs.declared.shared.Callers.{Callers as TheCallers}
+use Rattle.srt_types.specs.declared.shared.Callers.TheVariants as callers
+use Rattle.srt_types.specs.declared.shared.Rules.{Rules}
 use Rattle.srt_config.specs.declared.config.table.Key.TheVariants.{Callers, Reserved, SessionsPerAddress, TakeoverMs, ResendPercent}
 use Rattle.srt_config.specs.KeyTable.{key_name, limits_of}
 use Rattle.srt_config.specs.FirstFault.{Fault, OutOfRange, ◌>>=◌}

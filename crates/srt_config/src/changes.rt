@@ -1,7 +1,7 @@
 //! What a changed configuration requests of a running gateway (our choice).
 
 ghost use Rattle.std.specs.Prelude.{◌≡◌, ℕ, List, ◌++◌, IfOk, OnOk, map, option_map, length};
-ghost use Rattle.srt_seq.specs.Terms.{terms_of};
+ghost use Rattle.srt_types.specs.Terms.{terms_of};
 ghost use Rattle.srt_lobby.specs.Tables.{index_in};
 ghost use Rattle.srt_config.specs.AddressParts.{address_of};
 ghost use Rattle.srt_config.specs.SameKeys.{same_if};
@@ -12,7 +12,7 @@ ghost use Rattle.srt_config.specs.Changes.{gone_from, same_address, fixed_keys, 
 use crate::config::{BindAddress, Config};
 use crate::same_keys::{same_entry, same_schedule};
 use indexmap::IndexMap;
-use srt_seq::{Entry, Schedule};
+use srt_types::{Entry, Schedule};
 use std::alloc::{AllocError, Global};
 
 /// The change of a route of a changed configuration. A place is that of a route in the configuration before, counted

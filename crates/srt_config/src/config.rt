@@ -2,8 +2,8 @@
 
 ghost use Rattle.std.specs.Prelude.{◌≡◌, None, length, map, true};
 ghost use Rattle.std.specs.List.{list_all};
-ghost use Rattle.srt_seq.specs.Terms.{terms_of};
-ghost use Rattle.srt_seq.specs.Entries.{is_between};
+ghost use Rattle.srt_types.specs.Terms.{terms_of};
+ghost use Rattle.srt_types.specs.Entries.{is_between};
 ghost use Rattle.srt_lobby.specs.Opening.{fault_of};
 ghost use Rattle.srt_config.specs.Routes.{closes_later};
 
@@ -25,7 +25,7 @@ pub use placed::PlacedFault;
 pub use reading::{read_config, read_table};
 pub use routes::RouteNumbers;
 use srt_cookie::Secret;
-use srt_seq::{Entry, Schedule};
+use srt_types::{Entry, Schedule};
 pub use table::{Choices, Key, Limits, ROUTE_KEYS, TOP_KEYS, ValueKind};
 
 /// A configuration of a gateway.

@@ -2,12 +2,12 @@
 
 ghost use Rattle.std.specs.Prelude.{◌≡◌, nat_eq, option_map, string_bytes};
 ghost use Rattle.std.specs.Str.{bytes_eq};
-ghost use Rattle.srt_seq.specs.Access.{role_access_of, access_of};
-ghost use Rattle.srt_seq.specs.Terms.{terms_of};
+ghost use Rattle.srt_types.specs.Access.{role_access_of, access_of};
+ghost use Rattle.srt_types.specs.Terms.{terms_of};
 ghost use Rattle.srt_config.specs.SameKeys.{same_if, same_mode, same_callers, same_network, same_networks, same_role, same_access};
 ghost use Rattle.srt_config.specs.SameKeys.{same_rules, same_numbers, same_terms, same_schedule};
 
-use srt_seq::{Access, Callers, Entry, Mode, Network, RoleAccess, Rules, Schedule};
+use srt_types::{Access, Callers, Entry, Mode, Network, RoleAccess, Rules, Schedule};
 
 fn same_mode(a: Mode, b: Mode) -> bool
     ensures { result ≡ same_mode a b }

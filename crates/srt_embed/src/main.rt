@@ -7,8 +7,8 @@
 use anyhow::bail;
 use srt_cookie::Secret;
 use srt_hub::{Arrived, SrtGateway};
-use srt_seq::limits::MAX_DATAGRAM;
-use srt_seq::{Access, Entry, Mode, Peer, Rules};
+use srt_types::limits::MAX_DATAGRAM;
+use srt_types::{Access, Entry, Mode, Peer, Rules};
 
 /// The secret of the cookies. A gateway in production must have a secret value that nobody else knows.
 const SECRET: &str = "000102030405060708090a0b0c0d0e0f101112131415161718191a1b1c1d1e1f";

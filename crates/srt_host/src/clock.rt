@@ -28,7 +28,7 @@ impl<'a, R: Clock> Since<'a, R> {
     /// Returns the present time, in microseconds since the start; below 2^62.
     pub fn moment(&mut self) -> u64
         ensures bound { result < 2 ^ 62 }
-        ensures told { result ≡ last_of self.new }
+        ensures reported { result ≡ last_of self.new }
     {
         if let Some(start) = self.start {
             match start.elapsed(self.rt) {

@@ -3,8 +3,9 @@
 use crate::clock::Since;
 use crate::times::time_now;
 use srt_config::BindAddress;
-use srt_offline::{MAX_CONFIG, read_file};
-use srt_operate::{kernel_drops, resident_memory, stop_asked};
+use srt_offline::read_file;
+use srt_procfs::{kernel_drops, resident_memory, stop_requested};
+use srt_types::product_limits::MAX_CONFIG;
 use srt_watch::{ConfigFile, FileStamp, MAX_REASON, Machine};
 use std::fmt::InlineText;
 use std::fs::{Metadata, metadata};
@@ -57,7 +58,7 @@ impl<R: Clock + Files + AllocGlobal> Machine for Host<'_, R> {
     }
 
     fn stop_requested(&self) -> bool {
-        stop_asked(self.rt)
+        stop_requested(self.rt)
     }
 
     fn memory(&self) -> Option<u64> {

@@ -2,7 +2,7 @@
 //! file, standard error, and the sockets of the program.
 //!
 //! It makes no decision: `srt_watch` chooses what is logged and shown, `srt_status` parses requests of the page, and
-//! `srt_operate` the kernel's texts.
+//! `srt_procfs` the kernel's texts.
 //!
 //! Types: `Since`, the routes' clock; `Host`, `HostFile` and `Errors`, the machine, the configuration's file and standard
 //! error; `StatusPage`, the page's sockets; `HostWatcher`, a watcher over all of these, and `WatcherFault`, why there is

@@ -3,13 +3,11 @@
 use crate::address::socket_address;
 use srt_config::BindAddress;
 use srt_status::{Connection, GatewayStatus, OVERVIEW, RouteStatus, request_in, respond};
+use srt_types::product_limits::MAX_CONNECTIONS;
 use srt_watch::StatusServer;
 use std::alloc::{AllocError, Global};
 use std::io::{self, ErrorKind, Read, Write};
 use std::net::{TcpListener, TcpStream};
-
-/// The most connections at once. Those beyond are closed as soon as they are accepted.
-const MAX_CONNECTIONS: usize = 16;
 
 /// The most connections that are accepted in one call.
 const MAX_ACCEPTS: u32 = 64;

@@ -5,7 +5,7 @@ use crate::status_page::StatusPage;
 use srt_command_line::{Manner, VERSION};
 use srt_config::Config;
 use srt_explain::Explained;
-use srt_operate::signals_are_blocked;
+use srt_procfs::signals_are_blocked;
 use srt_watch::{Start, Watcher};
 use std::io::ErrorKind;
 use std::net::Ipv4Addr;
@@ -59,7 +59,8 @@ fn beginning(machine: &HostRuntime, config: &Config, manner: Manner) -> Start {
     }
 }
 
-/// Lets the watcher follow the configuration's file, and log the warnings about it.
+/// Lets the watcher follow the configuration's file, and log the warnings about it, except those about missing keys,
+/// which `check --explain` prints.
 fn tell_watcher<'a>(
     machine: &'a HostRuntime,
     path: &'a str,
@@ -72,6 +73,9 @@ fn tell_watcher<'a>(
         }
     }
     for warning in explained.warnings.iter() {
+        if warning.names_missing_key() {
+            continue;
+        }
         if watcher.warn(explained.text_of(*warning)).is_err() {
             return Err(WatcherFault::OutOfMemory);
         }

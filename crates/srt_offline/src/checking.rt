@@ -7,9 +7,10 @@ ghost use Rattle.srt_config.specs.Config.{settings_of, config_in};
 ghost use Rattle.srt_offline.specs.Ends.{IsConfigFault, IsCheckFault};
 
 use crate::faults::OfflineFault;
-use crate::files::{MAX_CONFIG, read_file};
+use crate::files::read_file;
 use srt_config::{Config, ConfigFault, read_config};
 use srt_explain::{Explained, explain};
+use srt_types::product_limits::MAX_CONFIG;
 use std::alloc::Global;
 use std::rt::Files;
 use std::str;

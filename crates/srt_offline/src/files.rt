@@ -10,12 +10,6 @@ use std::io::{self, ErrorKind, Read};
 use std::rt::Files;
 use thiserror::Error;
 
-/// The greatest size of a configuration's file, in bytes.
-pub const MAX_CONFIG: u32 = 65_536;
-
-/// The greatest size of a tape's file, in bytes: 64 MiB.
-pub const MAX_TAPE: u32 = 67_108_864;
-
 /// Why a file wasn't read. Its text tells it to a person.
 #[derive(Debug, Drop, Error)]
 pub enum Unread {
@@ -44,7 +38,7 @@ impl Unread {
 
 /// What an error of opening or reading a file means.
 pub(crate) fn cause_of(error: io::Error) -> Unread
-    ensures told { (limit : ℕ) → IsLimit limit result }
+    ensures reported { (limit : ℕ) → IsLimit limit result }
     ensures larger { (limit : ℕ) (known : List ℕ) → IsLarger limit known result }
 {
     if error.kind() == ErrorKind::OutOfMemory {
@@ -59,7 +53,7 @@ pub(crate) fn cause_of(error: io::Error) -> Unread
 pub fn read_within<R: Read + Drop>(alloc: Global, reader: R, limit: u32) -> Result<Vec<u8>, Unread>
     ensures within { IfOk result (λ bytes. vec_len bytes ≤ limit) }
     ensures whole { IfOk result (λ bytes. IfSome (R.remaining reader) (λ known. bytes.items ≡ known)) }
-    ensures told { IfErr result (IsLimit limit) }
+    ensures reported { IfErr result (IsLimit limit) }
     ensures larger { IfErr result (λ why. IfSome (R.remaining reader) (λ known. IsLarger limit known why)) }
 {
     let mut bytes = Vec::new(alloc);
@@ -76,7 +70,7 @@ pub fn read_within<R: Read + Drop>(alloc: Global, reader: R, limit: u32) -> Resu
 /// Reads a whole file of at most `limit` bytes, and allocates room for them. At most `limit` + 1 bytes are read.
 pub fn read_file(rt: &(impl Files + AllocGlobal), path: &str, limit: u32) -> Result<Vec<u8>, Unread>
     ensures within { IfOk result (λ bytes. vec_len bytes ≤ limit) }
-    ensures told { IfErr result (IsLimit limit) }
+    ensures reported { IfErr result (IsLimit limit) }
 {
     match File::open(rt, path) {
         Ok(file) => read_within(rt.alloc(), file, limit),

@@ -26,5 +26,5 @@ mod tests;
 pub use checking::{check_file, config_at, explained_at};
 pub use explaining::explain_file;
 pub use faults::{OfflineFault, status_of};
-pub use files::{MAX_CONFIG, MAX_TAPE, Unread, read_file, read_within};
+pub use files::{Unread, read_file, read_within};
 pub use replaying::replay_file;

@@ -7,9 +7,10 @@ ghost use Rattle.srt_offline.specs.Ends.{IsReplayFault, command_end};
 
 use crate::checking::config_at;
 use crate::faults::OfflineFault;
-use crate::files::{MAX_TAPE, read_file};
+use crate::files::read_file;
 use srt_config::Config;
 use srt_replay::{CountedReader, CountedWriter, replay};
+use srt_types::product_limits::MAX_TAPE;
 use std::alloc::Global;
 use std::io::{self, BufRead, BufWriter, Write};
 use std::rt::Files;

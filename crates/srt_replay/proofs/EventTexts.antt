@@ -1,14 +1,14 @@
 -- The lines that are written are those of the model.
 use Rattle.std.proofs.Common.{◌≡◌, ℕ, Bool, true, false, List, ◌∷◌, length, Option, None, Some, Result, Ok, Err, OnErr, refl, sym, ap, subst, ◌∙◌}
-use Rattle.srt_seq.specs.declared.shared.OpenFault.{OpenFault}
-use Rattle.srt_seq.specs.declared.shared.Turned.{Turned}
+use Rattle.srt_types.specs.declared.shared.OpenFault.{OpenFault}
+use Rattle.srt_types.specs.declared.shared.Turned.{Turned}
 use Rattle.srt_hub.specs.declared.answers.Arrived.{Arrived}
 use Rattle.srt_hub.specs.declared.answers.Closing.{Closing}
 use Rattle.srt_hub.specs.declared.answers.Ticked.{Ticked}
 use Rattle.srt_lobby.specs.declared.classes.Class.{Class}
 use Rattle.srt_lobby.specs.declared.classes.Class.TheVariants.{Answer, Route, Dropped}
-use Rattle.srt_seq.specs.Items.{Datagram}
-use Rattle.srt_seq.specs.Terms.{Terms}
+use Rattle.srt_types.specs.Items.{Datagram}
+use Rattle.srt_types.specs.Terms.{Terms}
 use Rattle.srt_hub.specs.World.{Event, Arrives, Ticks, Turns, Sends, Opens, Closes, Sorting, Meaning, arrival_of, tick, turn, first}
 use Rattle.srt_hub.specs.World.{opening, opening_of, closing, world_after}
 use Rattle.srt_lobby.specs.Changing.{fault_of_adding}
@@ -78,9 +78,9 @@ pub fault_line : (class : Sorting) (reply : Meaning) (entries : List Terms) (pas
     (found : Option OpenFault) (text : List ℕ)
     → text ≡ opened_text (Err fault) → found ≡ fault_of_adding (names_at class reply entries past) e → found ≡ Some fault
     → text ≡ event_text class reply entries past (Opens e false)
-fault_line class reply entries past e fault found text t told is =
+fault_line class reply entries past e fault found text t reported is =
     opening_line class reply entries past e (Err fault) text t
-    (sym (ap (opening_of (length (world_after class reply entries past).places) false) (sym told ∙ is)))
+    (sym (ap (opening_of (length (world_after class reply entries past).places) false) (sym reported ∙ is)))
 
 -- a fact about an opening's error holds if it ran out of memory
 pub after_want : {P : Type 0} (opened : Result ℕ OpenFault) → wants_memory opened ≡ true → OnErr opened P → P

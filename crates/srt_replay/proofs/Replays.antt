@@ -4,7 +4,7 @@ use Rattle.std.proofs.Common.{Result, Ok, Err, refl, sym, ap, subst, ◌∙◌, 
 use Rattle.std.proofs.lemmas.List.{append-nil, take-append-drop}
 use Rattle.std.proofs.Math.Seq.{take-append_seam, drop-append_seam}
 use Rattle.std.specs.Io.KnownBytes.{Keeps}
-use Rattle.srt_seq.specs.Terms.{Terms}
+use Rattle.srt_types.specs.Terms.{Terms}
 use Rattle.srt_hub.specs.World.{Event, Sorting, Meaning}
 use Rattle.srt_hub.specs.Hubs.{names_at, routes_at}
 use Rattle.srt_replay.specs.declared.replaying.ReplayFault.{ReplayFault}
@@ -130,13 +130,13 @@ goes_on class reply entries Now Next r0 w0 r w r' w' n h step tape e =
     let t = event_text class reply entries past event in
     let done = text_of class reply entries a.lines in
     let first = events_from class reply entries [] 1 a.lines in
-    let came : events_from class reply entries [] 1 (a.lines ++ line ∷ []) ≡ first ++ event ∷ [] =
+    let arrived : events_from class reply entries [] 1 (a.lines ++ line ∷ []) ≡ first ++ event ∷ [] =
     events_behind class reply entries [] 1 n a.lines (line ∷ []) a.no_fault a.number_is
     ∙ ap (λ (es : List Event). first ++ es) (events_one class reply entries past n line [] event took.event_is) in
-    let text : text_of class reply entries (a.lines ++ line ∷ []) ≡ done ++ t = ap (text_after class reply entries []) came
+    let text : text_of class reply entries (a.lines ++ line ∷ []) ≡ done ++ t = ap (text_after class reply entries []) arrived
     ∙ text_behind class reply entries [] first (event ∷ []) ∙ ap (λ (xs : List ℕ). done ++ xs) (append-nil t) in
     let gone : with_past [] (events_from class reply entries [] 1 (a.lines ++ line ∷ [])) ≡ event ∷ past =
-    ap (with_past []) came ∙ past_behind [] first (event ∷ []) in
+    ap (with_past []) arrived ∙ past_behind [] first (event ∷ []) in
     record {
       lines = a.lines ++ line ∷ [];
       left = b.0;

@@ -7,13 +7,13 @@ use Rattle.std.specs.Fmt.{digits, digits_onto, digit_glyph}
 use Rattle.std.proofs.lemmas.Bool.Decides.{nat_tests}
 use Rattle.std.proofs.lemmas.List.{append-nil, map-append}
 use Rattle.hex.specs.Hex.{encode_with, encode_lower, lower_digits}
-use Rattle.srt_seq.specs.Items.{Datagram, Item, Received, Tick, Close}
-use Rattle.srt_seq.specs.declared.shared.OpenFault.TheVariants as faults
-use Rattle.srt_seq.specs.Terms.{Terms}
-use Rattle.srt_seq.specs.Entries.{is_name, in_limits}
+use Rattle.srt_types.specs.Items.{Datagram, Item, Received, Tick, Close}
+use Rattle.srt_types.specs.declared.shared.OpenFault.TheVariants as faults
+use Rattle.srt_types.specs.Terms.{Terms}
+use Rattle.srt_types.specs.Entries.{is_name, in_limits}
 use Rattle.srt_lobby.specs.Names.{index_of}
-use Rattle.srt_seq.specs.declared.shared.Turned.{Turned}
-use Rattle.srt_seq.specs.declared.shared.Turned.TheVariants.{Moved, Applied, Blocked, Idle}
+use Rattle.srt_types.specs.declared.shared.Turned.{Turned}
+use Rattle.srt_types.specs.declared.shared.Turned.TheVariants.{Moved, Applied, Blocked, Idle}
 use Rattle.srt_lobby.specs.declared.classes.Cause.{Cause}
 use Rattle.srt_lobby.specs.declared.classes.Cause.TheVariants as cause
 use Rattle.srt_lobby.specs.declared.classes.Class.{Class}
@@ -163,9 +163,9 @@ send_line (Some d) = record { line = sent_line d; text_is = refl; inside = sent_
 abbrev picked : (b : Bool) (line : List ℕ) → List (List ℕ)
 picked b line = if b then line ∷ [] else []
 
-sends_told : (o : Option Datagram) → map sent_line (listed o) ≡ picked (is_sent_line (send_line o).line) (send_line o).line
-sends_told None = refl
-sends_told (Some d) = refl
+sends_reported : (o : Option Datagram) → map sent_line (listed o) ≡ picked (is_sent_line (send_line o).line) (send_line o).line
+sends_reported None = refl
+sends_reported (Some d) = refl
 
 picks : (b : Bool) (line : List ℕ) (others : List (List ℕ)) → (if b then line ∷ others else others) ≡ picked b line ++ others
 picks true line others = refl
@@ -185,7 +185,7 @@ nothing_closed true false item m = refl
 nothing_closed false shown item m = refl
 
 -- an event's line, and its `sent` lines for a route
-record Told (class : Sorting) (reply : Meaning) (entries : List Terms) (r : ℕ) (past : List Event) (event : Event) : Type 0 where
+record Reported (class : Sorting) (reply : Meaning) (entries : List Terms) (r : ℕ) (past : List Event) (event : Event) : Type 0 where
   line : List ℕ
   text_is : event_text class reply entries past event ≡ line ++ 10 ∷ []
   inside : Inside line
@@ -201,29 +201,29 @@ none_sent false step m h = refl
 not_there : (n r : ℕ) → nat_lt r n ≡ false → n ≤ r
 not_there n r h = grind (arith, nat_tests)
 
-send_told : (class : Sorting) (reply : Meaning) (entries : List Terms) (r s : ℕ) (past : List Event) (there : Bool)
+send_reported : (class : Sorting) (reply : Meaning) (entries : List Terms) (r s : ℕ) (past : List Event) (there : Bool)
     → nat_lt r (length (world_after class reply entries past).places) ≡ there → (t : Bool) → (t ≡ true → s ≡ r) →
     map sent_line (sends_out (cond there (if t then Send else Nothing) Nothing) (lane_at class reply entries r past))
     ≡ picked (t && is_sent_line (send_line (first (lane_at class reply entries s past).outbox)).line)
     (send_line (first (lane_at class reply entries s past).outbox)).line
-send_told class reply entries r s past true is true same =
+send_reported class reply entries r s past true is true same =
     let o = first (lane_at class reply entries s past).outbox in
     subst
     (λ (q : ℕ). map sent_line (listed (first (lane_at class reply entries q past).outbox))
     ≡ picked (is_sent_line (send_line o).line) (send_line o).line)
-    (same refl) (sends_told o)
-send_told class reply entries r s past false is true same =
+    (same refl) (sends_reported o)
+send_reported class reply entries r s past false is true same =
     let none : lane_at class reply entries s past ≡ empty = ap (λ (q : ℕ). lane_at class reply entries q past) (same refl)
     ∙ empty_before class reply entries r past (not_there (length (world_after class reply entries past).places) r is) in
     subst (λ (m : Lane). map sent_line [] ≡ picked (is_sent_line (send_line (first m.outbox)).line) (send_line (first m.outbox)).line) (sym none) refl
-send_told class reply entries r s past true is false same = refl
-send_told class reply entries r s past false is false same = refl
+send_reported class reply entries r s past true is false same = refl
+send_reported class reply entries r s past false is false same = refl
 
-told : (class : Sorting) (reply : Meaning) (entries : List Terms) (r : ℕ) (past : List Event) (event : Event)
-    → Unrefused event → Told class reply entries r past event
+reported : (class : Sorting) (reply : Meaning) (entries : List Terms) (r : ℕ) (past : List Event) (event : Event)
+    → Unrefused event → Reported class reply entries r past event
 unfolding event_text
-told class reply entries r past (Arrives d moment true) u = absurd cc
-told class reply entries r past (Arrives d moment false) u =
+reported class reply entries r past (Arrives d moment true) u = absurd cc
+reported class reply entries r past (Arrives d moment false) u =
     let w = world_after class reply entries past in
     let k = arrival_line (class (names_in w) d moment) (room_at class reply entries past) in
     record {
@@ -234,7 +234,7 @@ told class reply entries r past (Arrives d moment false) u =
           (none_sent (nat_lt r (length w.places)) (own_step class w r (Arrives d moment false)) (w.lane r)
           (nothing_offered (is_route r (class (names_in w) d moment)) (Received d moment) (w.lane r)));
     }
-told class reply entries r past (Ticks s moment) u =
+reported class reply entries r past (Ticks s moment) u =
     let w = world_after class reply entries past in
     let k = tick_line s (tick (entry_at class reply entries s past) (w.lane s)) in
     record {
@@ -245,7 +245,7 @@ told class reply entries r past (Ticks s moment) u =
           (none_sent (nat_lt r (length w.places)) (own_step class w r (Ticks s moment)) (w.lane r)
           (nothing_offered (s == r) (Tick moment) (w.lane r)));
     }
-told class reply entries r past (Turns s) u =
+reported class reply entries r past (Turns s) u =
     let w = world_after class reply entries past in
     let k = turn_line (turn (entry_at class reply entries s past) (w.lane s)) in
     record {
@@ -255,17 +255,17 @@ told class reply entries r past (Turns s) u =
       sends = ap (map sent_line)
           (none_sent (nat_lt r (length w.places)) (own_step class w r (Turns s)) (w.lane r) (nothing_turned (s == r) (w.lane r)));
     }
-told class reply entries r past (Sends s) u =
+reported class reply entries r past (Sends s) u =
     let w = world_after class reply entries past in
     let k = send_line (first (w.lane s).outbox) in
     record {
       line = k.line;
       text_is = k.text_is;
       inside = k.inside;
-      sends = send_told class reply entries r s past (nat_lt r (length w.places)) refl (s == r) (eqb-true s r);
+      sends = send_reported class reply entries r s past (nat_lt r (length w.places)) refl (s == r) (eqb-true s r);
     }
-told class reply entries r past (Opens e true) u = absurd cc
-told class reply entries r past (Opens e false) u =
+reported class reply entries r past (Opens e true) u = absurd cc
+reported class reply entries r past (Opens e false) u =
     let w = world_after class reply entries past in
     let k = opening_line (length w.places) (is_name e.name && not (is_some (index_of (names_in w) e.name))) (nat_lt (length (names_in w)) 511 && in_limits e) in
     record {
@@ -274,7 +274,7 @@ told class reply entries r past (Opens e false) u =
       inside = k.inside;
       sends = ap (map sent_line) (none_sent (nat_lt r (length w.places)) Nothing (w.lane r) refl);
     }
-told class reply entries r past (Closes s moment) u =
+reported class reply entries r past (Closes s moment) u =
     let w = world_after class reply entries past in
     let k = closing_line s (closing w s) in
     record {
@@ -286,13 +286,13 @@ told class reply entries r past (Closes s moment) u =
           (nothing_closed (s == r) (is_shown_in w r) (Close moment) (w.lane r)));
     }
 
-all_told : (class : Sorting) (reply : Meaning) (entries : List Terms) (r : ℕ) (past coming : List Event) → AllUnrefused coming →
+all_reported : (class : Sorting) (reply : Meaning) (entries : List Terms) (r : ℕ) (past coming : List Event) → AllUnrefused coming →
     map sent_line (sent class reply entries r (with_past past coming))
     ≡ map sent_line (sent class reply entries r past) ++ sent_at r coming (lines_of (text_after class reply entries past coming))
-all_told class reply entries r past [] u = sym (append-nil (map sent_line (sent class reply entries r past)))
-all_told class reply entries r past (event ∷ coming) u =
+all_reported class reply entries r past [] u = sym (append-nil (map sent_line (sent class reply entries r past)))
+all_reported class reply entries r past (event ∷ coming) u =
     let w = world_after class reply entries past in
-    let p = told class reply entries r past event u.0 in
+    let p = reported class reply entries r past event u.0 in
     let rest = text_after class reply entries (event ∷ past) coming in
     let before = map sent_line (sent class reply entries r past) in
     let now = picked (is_send r event && is_sent_line p.line) p.line in
@@ -301,7 +301,7 @@ all_told class reply entries r past (event ∷ coming) u =
     ap lines_of (ap (λ (xs : List ℕ). xs ++ rest) p.text_is ∙ append_assoc p.line (10 ∷ []) rest) ∙ ended p.line rest p.inside in
     let here : sent_at r (event ∷ coming) (lines_of (text_after class reply entries past (event ∷ coming))) ≡ now ++ later =
     ap (sent_at r (event ∷ coming)) lines ∙ picks (is_send r event && is_sent_line p.line) p.line later in
-    all_told class reply entries r (event ∷ past) coming u.1
+    all_reported class reply entries r (event ∷ past) coming u.1
     ∙ ap (λ (ls : List (List ℕ)). ls ++ later)
     (map-append sent_line (sent class reply entries r past) (sends_out (step_for class w r event) (w.lane r))
     ∙ ap (λ (ls : List (List ℕ)). before ++ ls) p.sends)
@@ -310,7 +310,7 @@ all_told class reply entries r past (event ∷ coming) u =
 
 pub lines_tell : SentLinesTell
 lines_tell class reply entries r tape =
-    sym (all_told class reply entries r [] (events_of class reply entries tape) (lines_unrefused class reply entries [] 1 (lines_of tape)))
+    sym (all_reported class reply entries r [] (events_of class reply entries tape) (lines_unrefused class reply entries [] 1 (lines_of tape)))
 
 pub tapes_isolated : TapesAreIsolated
 tapes_isolated class reply secret entries entries' r tape tape' same took quiet quiet' =

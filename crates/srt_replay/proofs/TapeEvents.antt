@@ -1,8 +1,8 @@
 -- No event of a tape runs out of memory.
 use Rattle.std.proofs.Common.{◌≡◌, ℕ, ◌+◌, ◌^◌, nat_le, Bool, true, false, List, [], ◌∷◌, length, Option, None, Some, option_and_then, refl}
 use Rattle.std.proofs.Common.{subst, if◌then◌else◌}
-use Rattle.srt_seq.specs.declared.shared.Mode.{Mode}
-use Rattle.srt_seq.specs.Terms.{Terms}
+use Rattle.srt_types.specs.declared.shared.Mode.{Mode}
+use Rattle.srt_types.specs.Terms.{Terms}
 use Rattle.srt_hub.specs.World.{Event, Arrives, Ticks, Turns, Sends, Opens, Closes, Sorting, Meaning}
 use Rattle.srt_hub.specs.Hubs.{routes_at}
 use Rattle.srt_config.specs.Routes.{Numbers, terms_with}

@@ -2,10 +2,10 @@
 use Rattle.std.specs.Prelude.{ℕ, ◌^◌, ◌<◌, ◌≤◌, List, take, false}
 use Rattle.srt_replay.specs.declared.events.TapeEvent.{TapeEvent}
 use Rattle.srt_replay.specs.declared.events.TapeEvent.TheVariants as event
-use Rattle.srt_seq.specs.declared.shared.Peer.{Peer}
+use Rattle.srt_types.specs.declared.shared.Peer.{Peer}
 use Rattle.srt_hub.specs.World.{Event, Arrives, Ticks, Turns, Sends, Opens, Closes}
 use Rattle.srt_hub.specs.Calls.{datagram}
-use Rattle.srt_seq.specs.Terms.{Terms}
+use Rattle.srt_types.specs.Terms.{Terms}
 use Rattle.srt_replay.specs.declared.events.NewRoute.{NewRoute}
 use Rattle.srt_config.specs.Routes.{terms_with}
 use Rattle.srt_config.specs.RouteNumbers.{numbers_of}

@@ -1,8 +1,8 @@
 -- The events of a tape's lines, for a gateway with this number of routes (our choice).
 use Rattle.std.specs.Prelude.{ℕ, ◌^◌, List, [], ◌∷◌, length, nat_le, Option, None, Some, option_and_then, codes, if◌then◌else◌, ◌==◌, Bool, false}
 use Rattle.std.specs.Str.{bytes_eq, is_utf8}
-use Rattle.srt_seq.specs.declared.shared.Mode.{Mode}
-use Rattle.srt_seq.specs.declared.shared.Mode.TheVariants.{Live, Buffer}
+use Rattle.srt_types.specs.declared.shared.Mode.{Mode}
+use Rattle.srt_types.specs.declared.shared.Mode.TheVariants.{Live, Buffer}
 use Rattle.srt_hub.specs.World.{Event, Arrives, Ticks, Turns, Sends, Opens, Closes}
 use Rattle.srt_config.specs.Routes.{Numbers, terms_with}
 use Rattle.srt_config.specs.Numbers.{number_in}

@@ -1,6 +1,6 @@
 -- The output of a replay (our choice).
 use Rattle.std.specs.Prelude.{◌≡◌, ℕ, ◌+◌, nat_le, List, [], ◌∷◌, ◌++◌, take, drop, Option, None, Some, Result, Ok, Err, if◌then◌else◌}
-use Rattle.srt_seq.specs.Terms.{Terms}
+use Rattle.srt_types.specs.Terms.{Terms}
 use Rattle.srt_lobby.specs.declared.classes.Class.TheVariants.{Route}
 use Rattle.srt_lobby.specs.Names.{RouteName}
 use Rattle.srt_lobby.specs.Changing.{fault_of_adding}
@@ -44,9 +44,9 @@ fault_from class reply entries past number (line ∷ lines) =
     fault_on number (event_at (routes_at class reply entries past) number line) (λ event. fault_from class reply entries (event ∷ past) (number + 1) lines)
 
 -- past events, the newest first, with later ones added; those are listed with the oldest first
-abbrev pub with_past : (past came : List Event) → List Event
+abbrev pub with_past : (past arrived : List Event) → List Event
 with_past past [] = past
-with_past past (event ∷ came) = with_past (event ∷ past) came
+with_past past (event ∷ arrived) = with_past (event ∷ past) arrived
 
 -- the events of lines, the newest first
 abbrev pub past_of : Sorting → Meaning → List Terms → List (List ℕ) → List Event

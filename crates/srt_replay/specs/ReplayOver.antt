@@ -1,7 +1,7 @@
 -- A replay over a gateway without events so far, and over the gateway of a configuration.
 use Rattle.std.specs.Prelude.{ℕ, List, [], Option, Result, map}
 use Rattle.srt_cookie.specs.Cookie.{secret_bytes}
-use Rattle.srt_seq.specs.Terms.{Terms, terms_of}
+use Rattle.srt_types.specs.Terms.{Terms, terms_of}
 use Rattle.srt_lobby.specs.Lobby.{class_of}
 use Rattle.srt_route.specs.Route.{reply}
 use Rattle.srt_hub.specs.World.{Meaning}

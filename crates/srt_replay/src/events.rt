@@ -10,9 +10,9 @@ ghost use Rattle.srt_config.specs.RouteNumbers.{numbers_of};
 
 use crate::fields::split_field;
 use crate::hexadecimal::{read_address, read_bytes};
-use crate::lines::MAX_LINE;
 use srt_config::{RouteNumbers, read_number};
-use srt_seq::{MOMENT_END, Mode, Peer};
+use srt_types::product_limits::MAX_TAPE_LINE;
+use srt_types::{MOMENT_END, Mode, Peer};
 
 /// A route that is to be opened: the entry of its line, with any name and any numbers.
 #[derive(Clone, Copy)]
@@ -301,7 +301,7 @@ pub fn read_event<'a>(
     ensures value { option_map (event_read buffer.new) result ≡ event_of routes line.now }
     ensures sound { IfSome result (IsSound routes) }
 {
-    if line.len() > MAX_LINE {
+    if line.len() > MAX_TAPE_LINE {
         return None;
     }
     read_fields(line, routes, buffer)

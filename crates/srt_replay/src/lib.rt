@@ -28,9 +28,9 @@ mod writer;
 
 pub use events::{NewRoute, TapeEvent, read_event};
 pub use hexadecimal::{read_address, read_bytes};
-pub use lines::{MAX_LINE, Taken, next_line};
+pub use lines::{Taken, next_line};
 pub use reader::{Brought, CountedReader, ReadFailed};
-pub use replaying::{MAX_LINES, ReplayFault, replay, replay_over};
+pub use replaying::{ReplayFault, replay, replay_over};
 pub use writer::{CountedWriter, Tried, WriteFailed};
 
 #[cfg(test)]

@@ -5,10 +5,8 @@ ghost use Rattle.srt_replay.specs.Known.{TookOne};
 ghost use Rattle.srt_replay.specs.Counted.{source, reads_left, last_brought, LineRead};
 
 use crate::reader::{CountedReader, Piece, ReadFailed};
+use srt_types::product_limits::MAX_TAPE_LINE;
 use std::io::BufRead;
-
-/// The greatest length of a line, in bytes, without its LF.
-pub const MAX_LINE: usize = 4096;
 
 /// The result of taking a line.
 #[derive(Clone, Copy)]
@@ -37,7 +35,7 @@ fn at_end(len: usize) -> Taken
 /// read left; such a reader isn't called again.
 pub fn next_line<R: BufRead>(
     reader: &mut CountedReader<R>,
-    line: &mut [u8; MAX_LINE],
+    line: &mut [u8; MAX_TAPE_LINE],
 ) -> Result<Taken, ReadFailed>
     ensures fewer { reads_left reader.new ≤ reads_left reader.old }
     ensures reads { LineRead (reads_left reader.new) (last_brought reader.new) result }

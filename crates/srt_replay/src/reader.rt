@@ -7,9 +7,9 @@ ghost use Rattle.srt_replay.specs.Known.{TookPiece};
 ghost use Rattle.srt_replay.specs.Counted.{BroughtBy, MayLook, WasUnread, PieceRead, source, reads_left, last_brought, left_in, brought_in};
 ghost use types.Logic.{sem};
 
-use crate::lines::MAX_LINE;
 use memchr::memchr;
-use srt_seq::write_at;
+use srt_types::product_limits::MAX_TAPE_LINE;
+use srt_types::write_at;
 use std::io::{self, BufRead, ErrorKind};
 
 /// The greatest number of reads of one replay.
@@ -100,7 +100,7 @@ fn look<'a, R: BufRead>(reader: &'a mut R, budget: &mut ReadBudget) -> io::Resul
 fn take_piece<R: BufRead>(
     reader: &mut R,
     budget: &mut ReadBudget,
-    line: &mut [u8; MAX_LINE],
+    line: &mut [u8; MAX_TAPE_LINE],
     len: usize,
 ) -> Result<Piece, ReadFailed>
     requires len { len ≤ 4096 }
@@ -120,7 +120,7 @@ fn take_piece<R: BufRead>(
     };
     match memchr(b'\n', available) {
         Some(end) => {
-            if end > MAX_LINE - len {
+            if end > MAX_TAPE_LINE - len {
                 return Ok(Piece::Long);
             }
             let new_len = write_at(line, len, &available[..end]);
@@ -132,7 +132,7 @@ fn take_piece<R: BufRead>(
             if end == 0 {
                 return Ok(Piece::End);
             }
-            if end > MAX_LINE - len {
+            if end > MAX_TAPE_LINE - len {
                 return Ok(Piece::Long);
             }
             let new_len = write_at(line, len, available);
@@ -197,7 +197,7 @@ impl<R: BufRead> CountedReader<R> {
     /// Reads once; appends this line's bytes to `line[..len]`.
     pub(crate) fn take_piece(
         &mut self,
-        line: &mut [u8; MAX_LINE],
+        line: &mut [u8; MAX_TAPE_LINE],
         len: usize,
     ) -> Result<Piece, ReadFailed>
         requires len { len ≤ 4096 }

@@ -3,8 +3,8 @@
 ghost use Rattle.std.specs.Prelude.{◌≡◌, ◌≤◌, ◌<◌, ◌^◌, ◌⊎◌, false, IfOk, IfSome, take, string_bytes};
 ghost use Rattle.srt_hub.specs.World.{Ticks, Turns, Sends, Opens, Closes};
 ghost use Rattle.srt_hub.specs.Calls.{wants_memory, Happened, FaultAnswers};
-ghost use Rattle.srt_seq.specs.Terms.{terms_of};
-ghost use Rattle.srt_seq.specs.Entries.{in_limits};
+ghost use Rattle.srt_types.specs.Terms.{terms_of};
+ghost use Rattle.srt_types.specs.Entries.{in_limits};
 ghost use Rattle.srt_config.specs.Routes.{terms_with};
 ghost use Rattle.srt_config.specs.RouteNumbers.{numbers_of};
 ghost use Rattle.srt_replay.specs.EventRead.{arrival, terms_read, event_read, IsSound};
@@ -15,7 +15,7 @@ ghost use Rattle.srt_replay.specs.inside.Step.{Answers, Tries, TriesLine, TriesN
 ghost use Rattle.srt_replay.specs.ReplayOver.{ReplaysOver, ReplaysOf};
 
 use crate::events::{NewRoute, TapeEvent, read_event};
-use crate::lines::{MAX_LINE, Taken, next_line};
+use crate::lines::{Taken, next_line};
 use crate::reader::CountedReader;
 use crate::texts::{
     MAX_TEXT, write_arrived, write_closed, write_none, write_opened, write_sent, write_ticked,
@@ -24,14 +24,12 @@ use crate::texts::{
 use crate::writer::CountedWriter;
 use srt_config::Config;
 use srt_hub::{Doors, Gateway, Hub, Lobby, OutOfMemory, RouteStep, SrtGateway};
-use srt_seq::limits::MAX_DATAGRAM;
-use srt_seq::{Access, Entry, OpenFault, Peer, Rules};
+use srt_types::limits::MAX_DATAGRAM;
+use srt_types::product_limits::{MAX_TAPE_LINE, MAX_TAPE_LINES};
+use srt_types::{Access, Entry, OpenFault, Peer, Rules};
 use std::alloc::Global;
 use std::io::{BufRead, Write};
 use thiserror::Error;
-
-/// The greatest number of lines of a tape.
-pub const MAX_LINES: u32 = 1_000_000;
 
 /// Why a replay ended early. What was written before stays written. Its text is the line that the program prints,
 /// which prints none for `Write`.
@@ -230,7 +228,7 @@ struct Desk {
 /// What a replay works with, made once: a buffer for a line, and what its answer is made with.
 #[derive(Drop)]
 struct Workspace {
-    line: [u8; MAX_LINE],
+    line: [u8; MAX_TAPE_LINE],
     desk: Desk,
 }
 
@@ -308,7 +306,7 @@ fn answer_next<R: RouteStep, L: Doors, B: BufRead, W: Write>(
         Ok(Taken::End) => return Ok(false),
         Err(_) => return Err(ReplayFault::Read),
     };
-    if number > MAX_LINES {
+    if number > MAX_TAPE_LINES {
         return Err(ReplayFault::Tape(number));
     }
     let end = match answer_line(hub, &work.line[..len], &mut work.desk) {
@@ -334,7 +332,7 @@ fn answer_lines<R: RouteStep, L: Doors, B: BufRead, W: Write>(
     ensures writes { HasWriteCause writer.new result }
     ensures replays { ReplaysOver ⟦<Hub<R, L> as Gateway>⟧.stands hub.old L.class R.reply B.remaining reader.old W.contents writer.old writer.new result }
 {
-    for before in 0..MAX_LINES + 1 {
+    for before in 0..MAX_TAPE_LINES + 1 {
         match answer_next(hub, reader, writer, work, before + 1) {
             Ok(true) => {}
             Ok(false) => return Ok(()),
@@ -363,7 +361,7 @@ pub fn replay_over<R: RouteStep, L: Doors, B: BufRead, W: Write>(
     ensures replays { ReplaysOver ⟦<Hub<R, L> as Gateway>⟧.stands hub.old L.class R.reply B.remaining reader.old W.contents writer.old writer.new result }
 {
     let mut work = Workspace {
-        line: [0; MAX_LINE],
+        line: [0; MAX_TAPE_LINE],
         desk: Desk {
             alloc,
             datagram: [0; 2048],

@@ -6,7 +6,7 @@ ghost use Rattle.srt_replay.specs.Texts.{digit_of as the_digit, route_text, arri
 
 use itoa::Buffer;
 use srt_hub::{Arrived, Cause, Closing, Ticked};
-use srt_seq::{OpenFault, Peer, Turned, write_at};
+use srt_types::{OpenFault, Peer, Turned, write_at};
 
 /// The greatest length of an answer's line, in bytes, with its LF.
 pub(crate) const MAX_TEXT: usize = 4096;

@@ -113,7 +113,7 @@ where
 {
     match read_words(rt, words)? {
         CommandLine::Task(task) => Ok(status_of(rt, run(rt, machine, task))),
-        CommandLine::Told(status) => Ok(ExitCode::from(status)),
+        CommandLine::Reported(status) => Ok(ExitCode::from(status)),
     }
 }
 

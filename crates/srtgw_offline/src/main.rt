@@ -46,7 +46,7 @@ where
 {
     match read_words(rt, words)? {
         CommandLine::Task(task) => Ok(obey_task(rt, task)),
-        CommandLine::Told(status) => Ok(ExitCode::from(status)),
+        CommandLine::Reported(status) => Ok(ExitCode::from(status)),
     }
 }
 

@@ -1,6 +1,6 @@
 -- The tasks of a command line (our choice).
 use Rattle.std.specs.Prelude.{ℕ, codes, List, Option, None, Some, option_map}
-use Rattle.srt_operate.specs.Durations.{duration_in}
+use Rattle.srt_command_line.specs.Durations.{duration_in}
 use Rattle.srt_command_line.specs.declared.tasks.Task.{Task}
 use Rattle.srt_command_line.specs.declared.tasks.Task.TheVariants as tasks
 use Rattle.srt_command_line.specs.declared.tasks.Given.{Given}

@@ -1,10 +1,10 @@
 -- The parts of a route, as plain values, and a route and routes read in two steps.
 use Rattle.std.specs.Prelude.{ℕ, List, map, Result, Ok}
 use Rattle.toml.specs.Data.{Members}
-use Rattle.srt_seq.specs.declared.shared.Callers.{Callers as TheCallers}
-use Rattle.srt_seq.specs.declared.shared.Mode.{Mode as TheMode}
-use Rattle.srt_seq.specs.declared.shared.Schedule.{Schedule}
-use Rattle.srt_seq.specs.Terms.{terms_of}
+use Rattle.srt_types.specs.declared.shared.Callers.{Callers as TheCallers}
+use Rattle.srt_types.specs.declared.shared.Mode.{Mode as TheMode}
+use Rattle.srt_types.specs.declared.shared.Schedule.{Schedule}
+use Rattle.srt_types.specs.Terms.{terms_of}
 use Rattle.srt_config.specs.declared.config.routes.ReadRoute.{ReadRoute}
 use Rattle.srt_config.specs.declared.config.routes.ReadRoutes.{ReadRoutes}
 use Rattle.srt_config.specs.Access.{access_at}

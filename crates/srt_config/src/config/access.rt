@@ -3,8 +3,8 @@
 ghost use Rattle.std.specs.Prelude.{◌≡◌, ◌≤◌, [], length, option_map, string_bytes, IfSome};
 ghost use Rattle.std.specs.List.{list_all};
 ghost use Rattle.toml.specs.View.{view, table_view, items_view};
-ghost use Rattle.srt_seq.specs.Access.{access_of};
-ghost use Rattle.srt_seq.specs.Entries.{is_between};
+ghost use Rattle.srt_types.specs.Access.{access_of};
+ghost use Rattle.srt_types.specs.Entries.{is_between};
 ghost use Rattle.srt_config.specs.FirstFault.{seen, Gives};
 ghost use Rattle.srt_config.specs.inside.AccessParts.{ending_seen};
 ghost use Rattle.srt_config.specs.Access.{ending_in, network_in, are_texts, member_count, networked, networks_from, list_in, list_value, list_at};
@@ -16,7 +16,7 @@ use super::keys::{found_at, text_value};
 use super::table::Key;
 use crate::numbers::read_number;
 use crate::splitting::parted;
-use srt_seq::{Access, Network, RoleAccess, is_between};
+use srt_types::{Access, Network, RoleAccess, is_between};
 use std::alloc::Global;
 use toml::{Table, Value};
 

@@ -3,7 +3,7 @@
 ghost use Rattle.std.specs.Prelude.{◌≡◌, ◌<◌, ◌^◌, option_map, true, Some, IfOk, IfSome};
 ghost use Rattle.toml.specs.Data.{get_member};
 ghost use Rattle.toml.specs.View.{view, table_view};
-ghost use Rattle.srt_seq.specs.Entries.{is_between};
+ghost use Rattle.srt_types.specs.Entries.{is_between};
 ghost use Rattle.srt_config.specs.KeyTable.{key_name, limits_of};
 ghost use Rattle.srt_config.specs.FirstFault.{seen, Gives};
 ghost use Rattle.srt_config.specs.Keys.{is_key, least_unknown, known, value_at, value_seen, text_value, text_at, within, number_value};
@@ -11,7 +11,7 @@ ghost use Rattle.srt_config.specs.Keys.{key_number_at, optional_number_at, optio
 
 use super::faults::ConfigFault;
 use super::table::{Key, Limits};
-use srt_seq::is_between;
+use srt_types::is_between;
 use std::alloc::Global;
 use toml::{Table, Value};
 

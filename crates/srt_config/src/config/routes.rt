@@ -3,9 +3,9 @@
 ghost use Rattle.std.specs.Prelude.{◌≡◌, length, map, string_bytes, true, None, Ok, IfOk};
 ghost use Rattle.std.specs.List.{list_all};
 ghost use Rattle.toml.specs.View.{view, table_view, items_view};
-ghost use Rattle.srt_seq.specs.Access.{access_of};
-ghost use Rattle.srt_seq.specs.Terms.{terms_of};
-ghost use Rattle.srt_seq.specs.Entries.{is_between};
+ghost use Rattle.srt_types.specs.Access.{access_of};
+ghost use Rattle.srt_types.specs.Terms.{terms_of};
+ghost use Rattle.srt_types.specs.Entries.{is_between};
 ghost use Rattle.srt_lobby.specs.Opening.{fault_of};
 ghost use Rattle.srt_config.specs.FirstFault.{seen, Gives};
 ghost use Rattle.srt_config.specs.FaultPlace.{faulty_from, place_in, routes_place, GivesAt};
@@ -23,7 +23,7 @@ use super::placed::PlacedFault;
 use super::rules::{callers_at, rules_at};
 use super::table::{BUFFER, Key, LIVE, Limits, ROUTE_KEYS};
 use srt_lobby::is_taken;
-use srt_seq::{Access, Callers, Entry, Mode, Rules, Schedule, is_between, is_name};
+use srt_types::{Access, Callers, Entry, Mode, Rules, Schedule, is_between, is_name};
 use std::alloc::Global;
 use toml::{Table, Value};
 

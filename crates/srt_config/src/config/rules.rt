@@ -8,7 +8,7 @@ ghost use Rattle.srt_config.specs.Rules.{callers_in, callers_value, callers_at, 
 use super::faults::ConfigFault;
 use super::keys::{found_at, optional_number_at, optional_number_within, text_value};
 use super::table::{DRAFT, Key, LIBSRT, Limits};
-use srt_seq::{Callers, Rules};
+use srt_types::{Callers, Rules};
 use toml::{Table, Value};
 
 #[tactic(auto, unfolding(crate::specs::Rules::callers_in))]

@@ -3,26 +3,12 @@
 ghost use Rattle.std.specs.Prelude.{◌≡◌, ◌^◌, ◌<◌, option_map};
 ghost use Rattle.srt_config.specs.KeyTable.{key_name, kind_of, limits_of, both_texts, choices_of, is_private};
 
-use srt_seq::limits::{
-    MAX_LATENCY_MS, MAX_NAME, MAX_QUEUE, MAX_RESEND_PERCENT, MAX_RESERVED, MAX_ROUTES,
-    MAX_SESSIONS, MAX_TAKEOVER_MS, MAX_WINDOW, MIN_LATENCY_MS, MIN_QUEUE, MIN_RESEND_PERCENT,
-    MIN_TAKEOVER_MS, MIN_WINDOW,
+use srt_types::limits::{MAX_WINDOW, MIN_WINDOW};
+use srt_types::product_limits::{
+    MAX_KEY, MAX_LATENCY_MS, MAX_NAME, MAX_NETWORKS, MAX_QUEUE, MAX_RESEND_PERCENT, MAX_RESERVED,
+    MAX_ROUND, MAX_ROUTES, MAX_SESSIONS, MAX_TAKEOVER_MS, MAX_WORKERS, MIN_LATENCY_MS, MIN_QUEUE,
+    MIN_RESEND_PERCENT, MIN_TAKEOVER_MS, SECRET_DIGITS,
 };
-
-/// The most threads that serve routes.
-const MAX_WORKERS: usize = 16;
-
-/// The last round in which a route may open or close.
-const MAX_ROUND: usize = 1_000_000_000;
-
-/// The most networks of a list.
-const MAX_NETWORKS: usize = 16;
-
-/// The most bytes of a role's key.
-const MAX_KEY: usize = 64;
-
-/// The hexadecimal digits of a secret.
-const SECRET_DIGITS: usize = 64;
 
 /// The mode of a route for live streams.
 pub(crate) const LIVE: &str = "live";

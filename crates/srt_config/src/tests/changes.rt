@@ -118,7 +118,7 @@ fn routes_are_found_by_their_names(rt: HostRuntime) -> Result<(), Fail> {
 }
 
 #[test]
-fn keys_that_cannot_change_are_told(rt: HostRuntime) -> Result<(), Fail> {
+fn keys_that_cannot_change_are_reported(rt: HostRuntime) -> Result<(), Fail> {
     let stay = [RouteChange::Stays(0), RouteChange::Stays(1)];
     assert_changes(
         &rt,

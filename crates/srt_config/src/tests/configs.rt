@@ -3,7 +3,7 @@
 use super::{RIGHT, changed, config_of, with_routes};
 use crate::{BindAddress, Config, ConfigFault, Key, PlacedFault, read_table};
 use srt_cookie::{Secret, cookie};
-use srt_seq::{Callers, Entry, Mode, Peer, Rules, Schedule};
+use srt_types::{Callers, Entry, Mode, Peer, Rules, Schedule};
 use std::process::Abort;
 use std::test::Fail;
 

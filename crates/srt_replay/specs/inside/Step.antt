@@ -1,7 +1,7 @@
 -- One line of a replay.
 use Rattle.std.specs.Prelude.{◌≡◌, ℕ, ◌+◌, List, [], ◌∷◌, ◌++◌, length, take, Bool, true, false, Option, None, Some, Result, Ok, Err}
 use Rattle.srt_hub.specs.declared.answers.OutOfMemory.{OutOfMemory as NoMemory}
-use Rattle.srt_seq.specs.Terms.{Terms}
+use Rattle.srt_types.specs.Terms.{Terms}
 use Rattle.srt_hub.specs.World.{Event, Sorting, Meaning}
 use Rattle.srt_hub.specs.Hubs.{names_at, routes_at}
 use Rattle.srt_hub.specs.Calls.{Past, SortingFor}

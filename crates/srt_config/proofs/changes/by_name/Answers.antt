@@ -1,6 +1,6 @@
 use Rattle.std.proofs.Common.{◌≡◌, ◌∙◌, ◌-◌, ◌<◌, suc, cond, ℕ, List, Option, Some, length, map, drop, get_or, ap, sym, arith}
 use Rattle.std.specs.Str.{bytes_eq}
-use Rattle.srt_seq.specs.Terms.{terms_of}
+use Rattle.srt_types.specs.Terms.{terms_of}
 use Rattle.srt_lobby.specs.Tables.{index_in}
 use Rattle.srt_lobby.proofs.Tables.{inserted}
 use Rattle.srt_config.specs.Changes.{place_from}

@@ -1,5 +1,5 @@
 use Rattle.std.proofs.Common.{◌≡◌, ℕ, List, map, drop, ◌≤◌, length}
-use Rattle.srt_seq.specs.Terms.{terms_of}
+use Rattle.srt_types.specs.Terms.{terms_of}
 use Rattle.srt_lobby.specs.Tables.{index_in}
 use Rattle.srt_config.specs.Changes.{place_from}
 use Rattle.srt_config.proofs.changes.by_name.Given as goal

@@ -1,5 +1,5 @@
 use Rattle.std.proofs.Common.{◌≡◌, map, ◌++◌, length}
-use Rattle.srt_seq.specs.Terms.{terms_of}
+use Rattle.srt_types.specs.Terms.{terms_of}
 use Rattle.srt_config.specs.Config.{settings_of}
 use Rattle.srt_config.specs.Changes.{changes_of}
 use Rattle.srt_config.proofs.changes.changes_by.Given as goal

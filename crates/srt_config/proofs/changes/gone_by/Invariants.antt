@@ -1,5 +1,5 @@
 use Rattle.std.proofs.Common.{◌≡◌, map, ◌++◌, ◌+◌, length}
-use Rattle.srt_seq.specs.Terms.{terms_of}
+use Rattle.srt_types.specs.Terms.{terms_of}
 use Rattle.srt_config.specs.Changes.{gone_from}
 use Rattle.srt_config.proofs.changes.gone_by.Given as goal
 

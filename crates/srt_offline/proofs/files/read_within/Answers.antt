@@ -2,8 +2,8 @@ use Rattle.std.proofs.Common.{subst, arith, IfSome, ◌≡◌}
 use Rattle.srt_offline.proofs.Known.{of_known, all_read}
 use Rattle.srt_offline.proofs.files.read_within.Goals as goal
 
-pub returns-in-Err-clause-told : goal.returns-in-Err-clause-told
-returns-in-Err-clause-told g c = c.cause_of.ensures.told c.args.limit
+pub returns-in-Err-clause-reported : goal.returns-in-Err-clause-reported
+returns-in-Err-clause-reported g c = c.cause_of.ensures.reported c.args.limit
 
 pub returns-in-Err-clause-larger : goal.returns-in-Err-clause-larger
 returns-in-Err-clause-larger g c = of_known (g.R.Read.remaining c.args.reader) _ (λ known. c.cause_of.ensures.larger c.args.limit known)

@@ -1,5 +1,5 @@
 use Rattle.std.proofs.Common.{true}
-use Rattle.srt_seq.specs.Items.{Datagram}
+use Rattle.srt_types.specs.Items.{Datagram}
 use Rattle.srt_hub.specs.Hubs.{names_at, room_at}
 use Rattle.srt_replay.proofs.EventTexts.{arrival_line, routed}
 use Rattle.srt_replay.proofs.replaying.answer_arrival.Goals as goal

@@ -1,5 +1,5 @@
 use Rattle.std.proofs.Common.{ℕ, ◌≤◌, ◌+◌, List, [], map}
-use Rattle.srt_seq.specs.Terms.{Terms}
+use Rattle.srt_types.specs.Terms.{Terms}
 use Rattle.srt_hub.specs.World.{Event, names_in, world_after}
 use Rattle.srt_hub.specs.inside.Queued.{item_in, reply_in}
 use Rattle.srt_hub.specs.inside.Stands.{IsLane}

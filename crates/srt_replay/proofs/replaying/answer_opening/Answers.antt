@@ -1,5 +1,5 @@
 use Rattle.std.proofs.Common.{List, map, sym, ◌∙◌}
-use Rattle.srt_seq.specs.Terms.{terms_of}
+use Rattle.srt_types.specs.Terms.{terms_of}
 use Rattle.srt_hub.specs.World.{Event, names_in, world_after}
 use Rattle.srt_hub.specs.inside.Queued.{item_in, reply_in}
 use Rattle.srt_hub.specs.inside.Stands.{IsLane}

@@ -1,5 +1,5 @@
 use Rattle.std.proofs.Common.{map, inr}
-use Rattle.srt_seq.specs.Terms.{terms_of}
+use Rattle.srt_types.specs.Terms.{terms_of}
 use Rattle.srt_cookie.specs.Cookie.{secret_bytes}
 use Rattle.srt_replay.proofs.replaying.replay.Goals as goal
 

@@ -1,5 +1,5 @@
 use Rattle.std.proofs.Common.{ap, ◌∙◌}
-use Rattle.srt_seq.specs.Entries.{is_between}
+use Rattle.srt_types.specs.Entries.{is_between}
 use Rattle.srt_config.proofs.RouteItems.{members_counted}
 use Rattle.srt_config.proofs.config.access.is_count.Goals as goal
 
