@@ -14,12 +14,21 @@ from gateway import Gateway, files, live, report
 from proxy import Proxy
 
 CASES = []
+LONG_CASES = []
 
 
 def case(name, *routes, needs=()):
     """Adds a case to the list. It is skipped if one of the tools `needs` isn't installed."""
     def adding(play):
         CASES.append((name, routes, needs, play))
+        return play
+    return adding
+
+
+def long_case(name, *routes, needs=()):
+    """Adds a case that is played with `--long` alone."""
+    def adding(play):
+        LONG_CASES.append((name, routes, needs, play))
         return play
     return adding
 
@@ -40,6 +49,17 @@ def relay(address, name, count=300, interval=5_000, subscribers=1, towards=None,
         expect_delays(one.got, least_ms)
     publisher.close()
     return publisher, others
+
+
+def expect_all(publisher, subscriber, count, least_ms=None, seconds=5):
+    """Ends both sessions once the subscriber has so many payloads, and expects that these are all of the stream, none of them sooner than this
+    delay if one is given."""
+    subscriber.wait(seconds, count)
+    subscriber.close()
+    publisher.close()
+    expect_run(subscriber.got, 0, count)
+    if least_ms is not None:
+        expect_delays(subscriber.got, least_ms)
 
 
 # Streams.
@@ -88,11 +108,7 @@ def subscriber_first(address):
     publisher = Publisher(address, publish("first"), stream(200), 5_000)
     publisher.call()
     publisher.start()
-    subscriber.wait(5, 200)
-    subscriber.close()
-    publisher.close()
-    expect_run(subscriber.got, 0, 200)
-    expect_delays(subscriber.got, 120)
+    expect_all(publisher, subscriber, 200, least_ms=120)
 
 
 @case("a publisher comes back", live("back"))
@@ -189,11 +205,7 @@ def longer_delay(address):
     subscriber = Subscriber(address, "slow", receiver_ms=300)
     start_all(publisher, subscriber)
     expect(publisher.delays() == (400, 120) and subscriber.delays() == (120, 300), "the delays are answered otherwise")
-    subscriber.wait(5, 150)
-    subscriber.close()
-    publisher.close()
-    expect_run(subscriber.got, 0, 150)
-    expect_delays(subscriber.got, 400)
+    expect_all(publisher, subscriber, 150, least_ms=400)
 
 
 @case("answers as the draft has them", live("answers"))
@@ -333,10 +345,7 @@ def garbage(address):
             first, destination = chance.choice((0, 0x80000000, 0x80020000, 0x80030000, 0x80070000)), chance.choice((0, theirs, theirs + 1, publisher.peer_id, subscriber.peer_id))
             thrower.sendto(body if chance.random() < 0.3 else struct.pack("!4I", first, 0, 0, destination) + body, address)
         time.sleep(0.004)
-    subscriber.wait(5, 300)
-    subscriber.close()
-    publisher.close()
-    expect_run(subscriber.got, 0, 300)
+    expect_all(publisher, subscriber, 300)
 
 
 # Buffer mode.
@@ -382,10 +391,7 @@ def a_file_waits(address):
     subscriber = Subscriber(address, request("waiting"), mode="buffer", congestion=b"file")
     subscriber.call()
     subscriber.start()
-    subscriber.wait(10, 200)
-    subscriber.close()
-    publisher.close()
-    expect_run(subscriber.got, 0, 200)
+    expect_all(publisher, subscriber, 200, seconds=10)
 
 
 # The program.

@@ -186,8 +186,8 @@ def transmit_takes_over(_):
 class Paused(Publisher):
     """A publisher that can be told to send no data for some time. It sends KEEPALIVEs meanwhile."""
 
-    def __init__(self, address, first):
-        super().__init__(address, publish("studio"), iter(()), 5_000)
+    def __init__(self, address, first, route="studio", **others):
+        super().__init__(address, publish(route), iter(()), 5_000, **others)
         self.sending, self.number = threading.Event(), first
         self.payloads = iter(self.following, None)
         self.sending.set()

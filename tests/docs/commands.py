@@ -54,7 +54,7 @@ class Command:
 def program_of(index: Index) -> Dict[str, Command]:
     """The subcommands that crates/srt_command_line/src says, by the calls that build its command line."""
     text = "\n".join(index.text(it) for it in sorted(index.files) if it.startswith("crates/srt_command_line/src/") and it.endswith(".rt"))
-    constants = {name: int(value.replace("_", "")) for name, value in re.findall(r"const (\w+): u\d+ = ([\d_]+);", text)}
+    constants = {name: int(value.replace("_", "")) for name, value in re.findall(r"const (\w+): u\d+ = ([\d_]+);", text + index.text(PRODUCT_LIMITS))}
     bodies = dict(re.findall(r"\nfn (\w+)<'a>\([^)]*\) -> Arg<'a> \{(.*?)\n\}", text, re.DOTALL))
     found: Dict[str, Command] = {}
     for name, rest in re.findall(r'-> Result<Command<[^{]* \{\s*Command::new\(alloc, "(\w+)"\)(.*?)\n\}', text, re.DOTALL):
@@ -255,6 +255,7 @@ class Checker:
 # ---- configurations ----
 
 KEY_TABLE = "crates/srt_config/src/config/table.rt"
+PRODUCT_LIMITS = "crates/srt_types/src/product_limits.rt"
 
 
 def keys_of(index: Index) -> Tuple[Set[str], Set[str]]:
@@ -289,7 +290,8 @@ class KeyRow:
 
 def key_rows(index: Index) -> Dict[str, KeyRow]:
     """The code's table of keys: `kind`, `limits` and `choices` of each."""
-    table, limits = index.text(KEY_TABLE), index.text("crates/srt_seq/src/limits.rt")
+    table = index.text(KEY_TABLE)
+    limits = index.text("crates/srt_types/src/limits.rt") + index.text(PRODUCT_LIMITS)
     texts = dict(re.findall(r'Key::(\w+) => "(\w+)"', table))
     numbers = {name: int(value.replace("_", "")) for name, value in re.findall(r"const (\w+): usize = ([\d_]+);", limits + table)}
     words = dict(re.findall(r'const (\w+): &str = "(\w+)";', table))

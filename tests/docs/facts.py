@@ -106,7 +106,8 @@ def value_in(index: Index, path: str, pattern: str) -> float:
 
 
 def limit(index: Index, name: str) -> float:
-    return value_in(index, "crates/srt_seq/src/limits.rt", rf"const {name}: \w+ = ([\d_]+|1 << \d+);")
+    path = f"crates/srt_types/src/limits.rt" if f"const {name}:" in index.text("crates/srt_types/src/limits.rt") else "crates/srt_types/src/product_limits.rt"
+    return value_in(index, path, rf"const {name}: \w+ = ([\d_]+|1 << \d+);")
 
 
 def publishers(index: Index) -> float:
@@ -166,7 +167,7 @@ def limit_facts(index: Index) -> List[Fact]:
     window = (limit(index, "MIN_WINDOW"), limit(index, "MAX_WINDOW"))
     latency = (limit(index, "MIN_LATENCY_MS"), limit(index, "MAX_LATENCY_MS"))
     queue = (limit(index, "MIN_QUEUE"), limit(index, "MAX_QUEUE"))
-    workers = value_in(index, "crates/srt_config/src/config/table.rt", r"const MAX_WORKERS: \w+ = (\d+);")
+    workers = value_in(index, "crates/srt_types/src/product_limits.rt", r"const MAX_WORKERS: \w+ = (\d+);")
     idle = limit(index, "PEER_IDLE_TIMEOUT_US") / 1_000_000
     to = rf"{NUMBER} to {NUMBER}"
     return [

@@ -24,10 +24,11 @@ def body_numbers(text: str) -> Set[int]:
 
 def literal_bodies(index: Index) -> List[str]:
     """Files with a limit above 500 as a literal in a body, beside the limits' own file."""
-    limits = re.findall(r"const \w+: \w+ = ([\d_]+);", index.text("crates/srt_seq/src/limits.rt"))
+    both = "".join(index.text(f"crates/srt_types/src/{it}limits.rt") for it in ("", "product_"))
+    limits = re.findall(r"const \w+: \w+ = ([\d_]+);", both)
     large = {it for it in (int(it.replace("_", "")) for it in limits) if it > 500}
     code = (it for it in sorted(index.files) if re.match(r"crates/\w+/src/.*\.rt$", it) and not is_test(it))
-    return [it for it in code if not it.endswith("/limits.rt") and body_numbers(index.text(it)) & large]
+    return [it for it in code if not it.endswith("limits.rt") and body_numbers(index.text(it)) & large]
 
 
 def wrong_literals(index: Index) -> List[str]:

@@ -36,10 +36,10 @@ class Silent(Exception):
 
 
 class Caller(threading.Thread):
-    """What both roles share: the handshake, timestamps, KEEPALIVE and the end of a session."""
+    """What both roles share: the handshake, timestamps, KEEPALIVE and the end of a session. Its clock is slow by `skew` millionths."""
 
     def __init__(self, address, stream_id=None, mode="live", receiver_ms=120, sender_ms=0, mtu=1500, window=8192,
-                 initial=None, version=5, flags=None, asks=True, more=b"", congestion=None, source=None):
+                 initial=None, version=5, flags=None, asks=True, more=b"", congestion=None, source=None, skew=0):
         super().__init__(daemon=True)
         self.socket = socket.socket(socket.AF_INET, socket.SOCK_DGRAM)
         self.socket.setsockopt(socket.SOL_SOCKET, socket.SO_RCVBUF, 1 << 22)
@@ -48,7 +48,7 @@ class Caller(threading.Thread):
         self.socket.connect(address)
         self.socket.setblocking(False)
         self.here = self.socket.getsockname()
-        self.began = now()
+        self.began, self.skew = now(), skew
         self.mode, self.mtu, self.window, self.version = mode, mtu, window, version
         self.socket_id = random.getrandbits(30) + 1
         self.initial = random.getrandbits(30) if initial is None else initial
@@ -65,7 +65,8 @@ class Caller(threading.Thread):
     # The handshake (section 4.3.1).
 
     def stamp(self):
-        return (now() - self.began) % packets.WORDS
+        time = now() - self.began
+        return (time - time * self.skew // SECOND) % packets.WORDS
 
     def send(self, datagram):
         try:
@@ -199,11 +200,11 @@ class Caller(threading.Thread):
 
 
 class Publisher(Caller):
-    """Sends the payloads of an iterator, one every `interval` microseconds, or with 0 as fast as the flow window allows."""
+    """Sends the payloads of an iterator, `burst` of them every `interval` microseconds, or with 0 as fast as the flow window allows."""
 
-    def __init__(self, address, stream_id, payloads, interval=10_000, **others):
+    def __init__(self, address, stream_id, payloads, interval=10_000, burst=1, **others):
         super().__init__(address, stream_id, **others)
-        self.payloads, self.interval = iter(payloads), interval
+        self.payloads, self.interval, self.burst = iter(payloads), interval, burst
         self.base = self.next = self.initial
         self.flight, self.lost = {}, set()
         self.room = self.delivered = 0
@@ -246,7 +247,8 @@ class Publisher(Caller):
             self.flight[self.next] = (self.stamp(), payload)
             self.send_data(self.next)
             self.next += 1
-            self.due = self.due + self.interval if self.interval else now()
+            if (self.next - self.initial) % self.burst == 0:
+                self.due = self.due + self.interval if self.interval else now()
 
     def expire(self):
         """Gives up live packets that are too old, and sends a drop request for them (section 3.2.9)."""

@@ -17,26 +17,31 @@ import releases
 import snapshot
 import steps
 import verdicts
-from machine import Meter
+from machine import Meter, free_gigabytes
 from parts import LEFT_OUT, OF_FILES, Count, all_of, note_failed
 from steps import Ended, Step
 from tree import TOP, Crate, crates
 from verdicts import Checksums, Verdict
 
 # What plays against the program, in two lanes: most of the time in the last of each, the callers' and the operator's cases, is waiting.
-PLAYS = (("explain", "cases", "examples", "callers"), ("model", "hostile", "operate"))
+PLAYS = (("explain", "cases", "examples", "package", "callers"), ("model", "hostile", "operate"))
 # These play against the clock. A case of theirs that fails can be played alone, since they take names of cases.
 BY_CASE = ("callers", "operate")
 OF_CASES = r"\w+: (\d+) passed, (\d+) failed, \d+ skipped"
-# Time in minutes. The gate has three hours, also on two slow processors: no edit begins after the second of these, counted from the
-# gate's beginning, nor after the first, counted from that of the edits. What is left out is said to be.
+# Time in minutes. No edit begins later than the first of these (the second with few processors), counted from the beginning of the
+# edits. With many processors the gate is to be a matter of 75 minutes, also where all is new: so the edits get what is left of the
+# third, counted from the gate's beginning, but never less than the fourth. With few it has three hours, and no edit begins after the
+# fifth. What is left out is said to be, and stays unknown, so that the next gate tries it.
 EDITS_WITHIN, EDITS_WITHIN_FEW = 40, 75
+BEGIN_WITHIN_MANY, EDITS_AT_LEAST = 64, 10
 BEGIN_WITHIN = 150
 # Each step has to end within so many minutes of the gate's beginning, or, where everything is done anew, of the second. One that
 # doesn't is ended, and has failed: so the gate says what hung.
 ALL_WITHIN, ALL_WITHIN_ANEW = 170, 600
 # With fewer processors than this the chain of the proofs leaves none idle.
 MANY = 4
+# The most memory that a prover takes (the tests of srt_serve, srt_poller and srt_route), and what plays beside it, in gigabytes.
+PROVER_GB, PLAYS_GB = 6, 3
 BUILT = re.compile(r"rt: (\w+) (?:proved$|is kept: )")
 # What `rt ci` says at its end of tests that are proved and failed when it ran them.
 TESTS_FAILED = re.compile(r"rt: FAILED:((?: \w+ \(tests\))+)$")
@@ -46,9 +51,18 @@ def processors() -> int:
     return len(os.sched_getaffinity(0))
 
 
+def lanes() -> list[str]:
+    """Words before those of `rt ci` that make it prove as many crates at once as there are processors, and as memory holds provers. By
+    itself it reckons with more memory than they take: with 24 GB it left two of four processors idle."""
+    number = min(processors(), int((free_gigabytes() - PLAYS_GB) / PROVER_GB))
+    return ["env", f"RT_JOBS={number}"] if number > 1 else []
+
+
 def edits_within(gone: float) -> float:
     """The minutes for edits if so many of the gate are gone."""
-    return max(0.0, min(EDITS_WITHIN if processors() >= MANY else EDITS_WITHIN_FEW, BEGIN_WITHIN - gone))
+    if processors() < MANY:
+        return max(0.0, min(EDITS_WITHIN_FEW, BEGIN_WITHIN - gone))
+    return max(0.0, min(EDITS_WITHIN, max(EDITS_AT_LEAST, BEGIN_WITHIN_MANY - gone), BEGIN_WITHIN - gone))
 
 
 class TreeChanged(Exception):
@@ -120,7 +134,7 @@ class Gate:
     def prove(self) -> None:
         """Runs `rt ci`: it proves all crates from nothing, and the tests that are left there, runs these and the programs, and tries the
         edits of must-fail/."""
-        words = ["rt", "ci", *(["--anew"] if self.anew else [])]
+        words = [*lanes(), "rt", "ci", *(["--anew"] if self.anew else [])]
         ended = self.do(Step("proofs", words, folder=self.room.bare, gives_way=steps.PROOFS_AT), is_live=True)
         self.failed_tests = tests_that_failed(ended)
         self.is_proved = ended.count.failed == len(self.failed_tests)

@@ -174,6 +174,15 @@ class Meter(threading.Thread):
         return self.minutes()
 
 
+def free_gigabytes() -> float:
+    """The memory that new processes can have, as the system reckons."""
+    with open("/proc/meminfo") as file:
+        for line in file:
+            if line.startswith("MemAvailable:"):
+                return int(line.split()[1]) / 2**20
+    return 0.0
+
+
 def description() -> str:
     """The machine in a few words: processors, their kind, and memory."""
     with open("/proc/cpuinfo") as file:

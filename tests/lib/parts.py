@@ -96,6 +96,11 @@ def operate() -> Count:
     return counted([f"{TOP}/tests/operate/run"], r"operate: (\d+) passed, (\d+) failed, \d+ skipped")
 
 
+def package() -> Count:
+    """Installs the program into folders and makes packages of it, by tests/package, whose last line counts its cases."""
+    return counted([f"{TOP}/tests/package/run"], r"package: (\d+) passed, (\d+) failed, \d+ skipped")
+
+
 def cases(word: str = "") -> Count:
     """The command-line cases whose name has the word."""
     return all_of([told("case", it, command_lines.play(it)) for it in command_lines.names_of_cases(word)])
@@ -122,6 +127,7 @@ PARTS: dict[str, Callable[[], Count]] = {
     "hostile": lambda: subjects("hostile"),
     "callers": callers,
     "operate": operate,
+    "package": package,
     "refusals": lambda: subjects("refusals"),
 }
 # Those that read files alone, and those that play for a short while against the built program.

@@ -1,8 +1,10 @@
-"""A line between callers and the gateway that loses, doubles and reorders datagrams by a seeded generator."""
+"""A line between callers and the gateway that loses, doubles and reorders datagrams by a seeded generator. It can make a caller's clock
+slow."""
 import heapq
 import random
 import select
 import socket
+import struct
 import threading
 import time
 
@@ -11,6 +13,7 @@ from machine import drops_of
 
 FAR_LOSS = 0.05
 FAR_DELAY = 0.01  # One way, in seconds.
+MILLION = 1_000_000
 
 
 class Proxy(threading.Thread):
@@ -97,6 +100,36 @@ class Proxy(threading.Thread):
         self.join(5)
         for one in [self.front, *self.peers]:
             one.close()
+
+
+class SlowClock(Proxy):
+    """A line that makes the clock of its only caller slow by `skew` millionths. It rewrites the timestamps of all packets that the caller
+    sends, counted from that of its first conclusion. What is sent before the conclusion keeps its timestamp."""
+
+    def __init__(self, target, seed, skew, **others):
+        self.skew, self.conclusion = skew, None
+        super().__init__(target, seed, **others)
+
+    def take(self, out, peer, datagram):
+        super().take(out, peer, datagram if peer else self.slowed(datagram))
+
+    def slowed(self, datagram):
+        packet = packets.read(datagram)
+        if packet is None:
+            return datagram
+        if self.conclusion is None and is_conclusion(packet):
+            self.conclusion = packet.stamp
+        if self.conclusion is None:
+            return datagram
+        time_since = packets.near(packet.stamp, self.conclusion, packets.WORDS) - self.conclusion
+        stamp = (packet.stamp - time_since * self.skew // MILLION) % packets.WORDS
+        return datagram[:8] + struct.pack("!I", stamp) + datagram[12:]
+
+
+def is_conclusion(packet):
+    """Whether a packet is a handshake's conclusion."""
+    handshake = packets.read_handshake(packet.body) if isinstance(packet, packets.Control) and packet.kind == packets.HANDSHAKE else None
+    return handshake is not None and handshake.kind == packets.CONCLUSION
 
 
 def opens_or_ends(datagram):

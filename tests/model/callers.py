@@ -6,6 +6,7 @@ from random import Random
 from typing import TYPE_CHECKING, NamedTuple
 
 import packets
+from rules.numbers import SECOND
 
 if TYPE_CHECKING:
     from world import World
@@ -46,7 +47,8 @@ def stream_id(random: Random, target: Target, role: str) -> bytes:
 
 
 class Caller:
-    """A caller, from its first handshake to its end. Its numbers count without bound; `began` is the moment of its timestamp 0."""
+    """A caller, from its first handshake to its end. Its numbers count without bound; `began` is the moment of its timestamp 0, and its
+    clock is slow by `skew` millionths."""
 
     role = ""
 
@@ -55,6 +57,7 @@ class Caller:
         self.initial = self.beginning(packets.NUMBERS, 60)
         self.first_stamp = self.beginning(packets.WORDS, 4_000_000)
         self.began = world.now
+        self.skew = self.random.choice(world.plot.skews)
         self.stream_id = stream_id(self.random, target, self.role)
         self.mtu = self.random.choice((1500, 1500, 1500, 9000, 1400, 76))
         self.window = self.random.choice((USUAL_WINDOW, USUAL_WINDOW, 25600, 40, 3))
@@ -77,10 +80,15 @@ class Caller:
 
     def stamp(self, moment: int | None = None) -> int:
         """The timestamp of a packet that is sent at a moment, now if none is given."""
-        return (self.first_stamp + (self.world.now if moment is None else moment) - self.began) % packets.WORDS
+        time = (self.world.now if moment is None else moment) - self.began
+        return (self.first_stamp + time - time * self.skew // SECOND) % packets.WORDS
+
+    def flags(self) -> int:
+        """The flags of its conclusion."""
+        return packets.FLAGS[self.target.mode] | self.random.choice((0, 4, 0x80))
 
     def blocks(self) -> bytes:
-        flags = packets.FLAGS[self.target.mode] | self.random.choice((0, 4, 0x80))
+        flags = self.flags()
         text = packets.hsreq(flags, *self.delays) + packets.block(packets.STREAM_ID, packets.text_words(self.stream_id))
         if self.congestion:
             text += packets.block(packets.CONGESTION, packets.text_words(self.congestion))
@@ -274,10 +282,17 @@ class Publisher(Caller):
             if len(fields) >= 4:
                 self.room = fields[3]
             if packet.info and self.random.random() < 0.8:
-                self.send_control(packets.ACKACK, packet.info)
+                self.confirm(packet.info)
         if packet.kind == packets.NAK:
             for first, last in packets.runs_of(packet.body):
                 self.answer_loss(packets.near(first, self.base), packets.near(last, self.base))
+
+    def confirm(self, number: int) -> None:
+        """An ACKACK, by some plots now and then with a timestamp that is far from its time."""
+        stamp = self.stamp()
+        if self.random.random() < self.world.plot.lies:
+            stamp += self.random.choice((-50_000, 50_000, 700_000, packets.WORDS // 2, self.random.randrange(packets.WORDS)))
+        self.send(packets.control(packets.ACKACK, number, stamp % packets.WORDS, self.session))
 
     def answer_loss(self, first: int, last: int) -> None:
         if self.random.random() < 0.2:
@@ -300,12 +315,16 @@ class Subscriber(Caller):
         self.acks = 0
         self.pace = self.random.choice((1.0, 1.0, 1.0, 1.0, 0.2, 0.0))
         self.is_slow = self.random.random() < world.plot.slow
+        self.reports = self.random.random() >= world.plot.unreported
         self.holds_until = 0
         if self.is_slow:
             self.pace, self.window, self.hurry = 0.5, self.random.choice((2, 3, 10)), 0.2
 
     def number(self) -> int:
         return self.front
+
+    def flags(self) -> int:
+        return super().flags() & ~packets.PERIODIC_NAK | (packets.PERIODIC_NAK if self.reports else 0)
 
     def on_data(self, packet: packets.Data) -> None:
         number = packets.near(packet.number, self.front)

@@ -10,7 +10,7 @@ from rules.hub import Hub
 from rules.publisher import Publisher
 from rules.route import Limit, Route
 from rules.session import End, Session
-from rules.subscriber import CREDIT_OF_PACKET, Subscriber
+from rules.subscriber import CREDIT_OF_PACKET, Step, Subscriber
 
 NO_EVENT = "a line that is no event"
 EVENTS = (
@@ -181,5 +181,5 @@ class Tally:
         self.add("timestamps past 2^32", it.opening.stamp + it.time(it.heard) >= packets.WORDS)
 
     def note_subscriber(self, it: Subscriber) -> None:
-        self.add("all in flight resent", it.resends_of_all)
+        self.add("all in flight resent", it.history.count(Step.RESEND_OF_ALL))
         self.add("payload expired", it.expired - it.initial)

@@ -4,11 +4,12 @@ from __future__ import annotations
 
 from typing import Iterator
 
+from rules.clock import LONGEST_WINDOW, SHORTEST_WINDOW
 from rules.hub import Hub
 from rules.numbers import MILLISECOND
 from rules.publisher import FULL_ACK_AFTER, Publisher
 from rules.session import IDLE_AFTER, KEEPALIVE_AFTER, Session
-from rules.subscriber import CREDIT_AFTER, LEAST_THRESHOLD, RESEND_AFTER, Subscriber
+from rules.subscriber import CREDIT_AFTER, LEAST_THRESHOLD, RESENDS_UNTIL, Subscriber
 
 
 def of_hub(hub: Hub) -> Iterator[int]:
@@ -29,19 +30,24 @@ def of_session(it: Session) -> Iterator[int]:
 
 
 def of_publisher(it: Publisher) -> Iterator[int]:
-    """Its ACK, its NAK, the payload that is delivered next, a take-over, and the end of a session that drains."""
+    """Its ACK, its NAK, the payload that is delivered next, a take-over, the ends of a drift window, and that of a session that drains."""
     yield FULL_ACK_AFTER + (it.full_acks[-1].moment if it.full_acks else it.opening.moment)
     yield it.nak_of_all + it.nak_interval()
     yield from (it.received[number].deadline for number in it.waiting()[:1])
     if it.entry.takeover_ms is not None:
         yield it.brought + MILLISECOND * it.entry.takeover_ms
+    for sample in it.clock.current[:1]:
+        yield from (sample.moment + SHORTEST_WINDOW, sample.moment + LONGEST_WINDOW)
     if it.shutdown_at is not None:
         yield IDLE_AFTER + (it.shutdown_at + it.delay if it.entry.is_live else max(it.shutdown_at, it.delivery))
 
 
 def of_subscriber(it: Subscriber) -> Iterator[int]:
-    """When all in flight goes again, when a resend gets its credit, and when the oldest payload is too old."""
-    yield max(it.data_sent, it.growth) + it.rtt + 4 * it.variance + RESEND_AFTER
+    """When all in flight is sent again, until when it may be, when a resend gets its credit, and when the oldest payload is too old."""
+    wait = it.resend_wait()
+    if wait is not None and it.front < it.next:
+        yield max(it.data_sent, it.growth) + wait
+        yield it.heard + RESENDS_UNTIL
     yield it.data_sent + CREDIT_AFTER
     oldest = it.queued[it.expired - it.initial:][:1]
     yield from (payload.origin + max(it.delay * 5 // 4, LEAST_THRESHOLD) for payload in oldest)

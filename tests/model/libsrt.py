@@ -3,6 +3,8 @@ from __future__ import annotations
 
 from typing import Iterator, NamedTuple
 
+import clock_cases
+import resend_cases
 from rules import handshakes, packets
 from rules.configuration import Mode
 from rules.handshakes import Refusal
@@ -59,12 +61,13 @@ FILES = (
     "file not ended: the subscriber came later", "file not ended: its publisher fell silent", "file not ended: it drained too long",
     "file not ended: another publisher is open", "file not ended: not all is acknowledged",
 )
-KINDS = (*REPORTS, *DRAINING, *IGNORED, *TOLD, *FILES)
+KINDS = (*REPORTS, *DRAINING, *IGNORED, *TOLD, *FILES, *clock_cases.KINDS, *resend_cases.KINDS)
 # Those that need another key too.
 KINDS_BY_KEY = {
     "takeover_ms": ("while it drains: no take-over from it",),
     "reserved": ("while it drains: it counts as a publisher there",),
     "sessions_per_address": ("while it drains: it counts for its address",),
+    **resend_cases.KINDS_BY_KEY,
 }
 
 
@@ -81,13 +84,15 @@ class Was(NamedTuple):
 
 
 class Before(NamedTuple):
-    """What a route was like before a turn that applies an item: the open sessions, in the order of their openings, and how often a limit
-    was met."""
+    """What a route was like before a turn that applies an item: the open sessions, in the order of their openings, how often a limit was
+    met, the publishers' clocks, and what was sent again to subscribers."""
 
     route: Route
     item: Item
     sessions: dict[Session, Was]
     limits_met: int
+    clocks: dict[Publisher, clock_cases.Was]
+    resends: dict[Subscriber, resend_cases.Was]
 
     @property
     def now(self) -> int:
@@ -109,7 +114,8 @@ def before_turn(lane: Lane) -> Before | None:
     route = lane.route
     if not route.entry.is_libsrt or lane.waiting or not lane.inbox:
         return None
-    return Before(route, lane.inbox[0], {it: was(it) for it in route.open}, len(route.limits_met))
+    clocks, resends = clock_cases.before_turn(route), resend_cases.before_turn(route)
+    return Before(route, lane.inbox[0], {it: was(it) for it in route.open}, len(route.limits_met), clocks, resends)
 
 
 def reached(before: Before) -> Iterator[str]:
@@ -128,6 +134,8 @@ def reached(before: Before) -> Iterator[str]:
             yield from of_conclusion(before, before.item, packet)
     yield from of_told(before)
     yield from of_files(before)
+    yield from clock_cases.reached(before.route, before.clocks)
+    yield from resend_cases.reached(before.route, before.resends)
 
 
 # ---- reports ----

@@ -9,8 +9,10 @@ class Plot(NamedTuple):
     """What a tape is about. `loss`, `repeats` and long `delays` are chances of one datagram; `ends` that of a caller each time that it
     acts; `lingers` that of a publisher which goes on after its SHUTDOWN; `slow` that of a subscriber which takes little at a time;
     `jumps` that of a pause which lasts until something falls due; `comes` that of a publisher who is wanted; `closes` that of a route
-    each step while a session of it drains or was silent for five seconds; the others are those of one step of the world. `slowness`
-    divides the time of a step. `lines` stand in each route's table. A tape is so many `times` as long as others."""
+    each step while a session of it drains or was silent for five seconds; `lies` that of an ACKACK with a wrong timestamp; `unreported`
+    that of a subscriber without the flag PERIODICNAK; the others are those of one step of the world. `skews` are by how many millionths
+    a publisher's clock may be slow. `slowness` divides the time of a step. `lines` stand in each route's table. A tape is so many `times`
+    as long as others."""
 
     modes: tuple[str, ...]
     publishers: int = 2
@@ -32,12 +34,16 @@ class Plot(NamedTuple):
     slow: float = 0.0
     closes: float = 0.0
     comes: float = 0.05
+    lies: float = 0.0
+    unreported: float = 0.0
+    skews: tuple[int, ...] = (0,)
     lines: tuple[str, ...] = ()
     buffers: tuple[int, ...] = (32, 32, 64, 100, 256, 1024)
     times: int = 1
 
 
 BOTH = ("live", "buffer")
+SKEWS = (0, 20, -20, 100, -100, 500, -500, 900, -900, 5000, -5000)
 PLOTS: dict[str, Plot] = {
     "live": Plot(("live",), delays=0.02),
     "buffer": Plot(("buffer",), delays=0.02),
@@ -68,6 +74,13 @@ LIBSRT_PLOTS: dict[str, Plot] = {
         "silences": Plot(BOTH, ends=0.05, pauses=0.15, hostile=0.0, odd_callers=0.0, slow=0.2),
         "closes_in_between": Plot((*BOTH, *BOTH, *BOTH), ends=0.06, pauses=0.06, jumps=0.2, lingers=0.2, slow=0.3, closes=0.3),
         "hostile_at_an_end": Plot(BOTH, ends=0.04, hostile=0.6, odd_callers=0.1, lingers=0.3),
+        "skewed_clocks": Plot(("live", "live"), subscribers=1, delays=0.1, ends=0.0005, hostile=0.01, odd_callers=0.0, skews=SKEWS, unreported=0.5),
+        "skewed_clocks_near_wraps": Plot(
+            ("live", *BOTH), subscribers=1, delays=0.02, ends=0.0005, hostile=0.05, odd_callers=0.0, near_wraps=True, skews=SKEWS, lies=0.02,
+        ),
+        "quiet_players": Plot(
+            (*BOTH, "live"), publishers=1, pauses=0.1, hostile=0.0, odd_callers=0.0, ends=0.002, slow=0.6, unreported=0.6, buffers=(32, 100, 256),
+        ),
     }.items()
 }
 

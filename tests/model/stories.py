@@ -12,17 +12,18 @@ from plots import Plot
 from rules.numbers import SECOND
 from world import Made, World, target_of
 
-PLOT = Plot((), loss=0.0, repeats=0.0, delays=0.0, hostile=0.0, ends=0.0, buffers=(32,))
+PLOT = Plot((), loss=0.0, repeats=0.0, delays=0.0, neglect=0.0, hostile=0.0, ends=0.0, buffers=(32,))
 LATER = SECOND // 10
 
 
 class Story:
     """A tape of one route whose callers do what they are told. Numbers of packets are counted from a caller's initial one."""
 
-    def __init__(self, seed: int, mode: str, tally: Tally, buffer: int = 32, more: tuple[str, ...] = ()) -> None:
+    def __init__(self, seed: int, mode: str, tally: Tally, buffer: int = 32, more: tuple[str, ...] = (), now: int | None = None) -> None:
         self.mode = mode
         plot = PLOT._replace(modes=(mode,), buffers=(buffer,), lines=('callers = "libsrt"', *more))
         self.world = World(Random(seed), plot, frozenset(), tally)
+        self.world.now = self.world.now if now is None else now
         (self.entry,) = self.world.entries().values()
 
     def made(self) -> Made:
@@ -55,20 +56,23 @@ class Story:
         if mine:
             caller.state, caller.session = State.OPEN, mine[-1].opening.identity
 
-    def comes(self, kind: type[Caller], address: int = 0) -> Caller:
-        """A caller of this role comes and is let in."""
+    def comes(self, kind: type[Caller], address: int = 0, reports: bool = True, delays: tuple[int, int] | None = None) -> Caller:
+        """A caller of this role comes and is let in. A subscriber reports losses at intervals, if nothing else is said."""
         self.world.next_port += 1
         random = self.world.random
         caller = kind(self.world, target_of(self.entry), (ADDRESSES[address], self.world.next_port), random.randrange(1 << 32))
         caller.mtu, caller.window = 1500, 8192
+        caller.delays = caller.delays if delays is None else delays
+        if isinstance(caller, Subscriber):
+            caller.reports = reports
         self.calls(caller)
         return caller
 
     def publisher(self, address: int = 0) -> Caller:
         return self.comes(Publisher, address)
 
-    def subscriber(self, address: int = 0) -> Caller:
-        return self.comes(Subscriber, address)
+    def subscriber(self, address: int = 0, reports: bool = True, delays: tuple[int, int] | None = None) -> Caller:
+        return self.comes(Subscriber, address, reports, delays)
 
     def data(self, caller: Caller, first: int, count: int = 1, early: int = 0) -> None:
         """Data packets with these numbers, whose stamps are so much ahead of their time."""

@@ -222,6 +222,8 @@ class World:
     def expected_stamp(self, caller: Caller) -> int:
         """The timestamp near which the gateway reads one of the caller's."""
         session = self.session_of(caller)
+        if isinstance(session, SessionOfPublisher):
+            return session.clock.expected(self.now, session.base) % WORDS
         return caller.stamp() if session is None else (session.opening.stamp + session.time(self.now)) % WORDS
 
     def session_of(self, caller: Caller) -> Session | None:

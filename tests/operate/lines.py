@@ -23,9 +23,11 @@ def opened_line(route, role, caller, latency_ms, standby=False):
 
 
 def ended_line(route, role, caller, reason):
-    """The form of a session's end, with the form of its reason. Groups: after (ms), packets, bytes, lost, resent."""
+    """The form of a session's end, with the form of its reason. Groups: after (ms), packets, bytes, lost, resent. Behind it stands what was
+    followed of a publisher's clock, if it was."""
     front = re.escape(f"{route}: {role} {peer_of(caller)} ended, socket 0x{caller.peer_id:08x}, ")
-    return front + rf"{reason}, after " + r"(?P<after>\d+) ms, (?P<packets>\d+) packets, (?P<bytes>\d+) bytes, (?P<lost>\d+) lost, (?P<resent>\d+) resent"
+    counts = r"(?P<after>\d+) ms, (?P<packets>\d+) packets, (?P<bytes>\d+) bytes, (?P<lost>\d+) lost, (?P<resent>\d+) resent"
+    return front + rf"{reason}, after " + counts + r"(?:, clock drift -?\d+ ppm, correction -?\d+ us)?"
 
 
 def took_over_line(route, caller):

@@ -271,25 +271,29 @@ def warning_of(values: dict[str, str]) -> list[str]:
     return [it.partition("warning: ")[2] for it in said.stderr.splitlines()]
 
 
-RISKS = {
-    "secret": dict(secret='"000102030405060708090a0b0c0d0e0f101112131415161718191a1b1c1d1e1f"'), "status": dict(status='"0.0.0.0:1"'),
-    "outbox": dict(outbox="333"), "buffer": dict(buffer="189"), "sessions": dict(sessions="1", outbox="70"), "publish_key": dict(publish_key='"a"'),
-    "request_key": dict(request_key='"a"'), "takeover_ms": dict(mode='"buffer"', takeover_ms="500"),
-    "sessions_per_address": dict(sessions_per_address="5"), "reserved": dict(sessions="3", reserved="2"),
-}
+# Without one of these keys a route is warned of, too.
+ADVISED = dict(callers='"libsrt"', reserved="2", takeover_ms="500", resend_percent="50")
+# What is risky, in the order of the page's table; None for a key that is left out.
+RISKS: list[tuple[str, dict[str, str | None]]] = [
+    ("secret", dict(secret='"000102030405060708090a0b0c0d0e0f101112131415161718191a1b1c1d1e1f"')), ("status", dict(status='"0.0.0.0:1"')),
+    ("outbox", dict(outbox="333")), ("buffer", dict(buffer="189")), ("sessions", dict(sessions="1", outbox="70", reserved="0")),
+    ("publish_key", dict(publish_key='"a"')), ("request_key", dict(request_key='"a"')), ("takeover_ms", dict(mode='"buffer"')),
+    ("sessions_per_address", dict(sessions_per_address="5")), ("reserved", dict(sessions="3")),
+    *((key, {key: None}) for key in ADVISED),
+]
 
 
 @case("CONFIGURATION has the warnings of `check --explain`")
 def warnings_are_right():
     rows = [it.cells for it in parsed("", read(KEYS)).pieces if it.is_row() and it.head[:2] == ["key", "warning"]]
-    said = {key: re.findall('"([^"]+)"', cells[1]) for cells in rows for key in ticked(cells[0])}
-    expect(sorted(said) == sorted(RISKS), f"the table has {sorted(said)}")
-    calm = {it: FULL[it] for it in REQUIRED}
+    said = [(key, re.findall('"([^"]+)"', cells[1])) for cells in rows for key in ticked(cells[0])]
+    expect([key for key, _ in said] == [key for key, _ in RISKS], f"the table has {said}")
+    calm = {**{it: FULL[it] for it in REQUIRED}, **ADVISED}
     expect(warning_of(calm) == [], f"without a risk it warns: {warning_of(calm)}")
-    for key, values in RISKS.items():
-        lines = warning_of({**calm, **values})
-        fits = len(lines) == 1 and re.match(rf"(?:route 1 \(studio\): )?{key}\b", lines[0]) and said[key] and all(it in lines[0] for it in said[key])
-        expect(fits, f"{key}: it warns {lines}, and the table has {said[key]}")
+    for (key, values), (_, words) in zip(RISKS, said):
+        lines = warning_of({it: value for it, value in {**calm, **values}.items() if value is not None})
+        fits = len(lines) == 1 and re.match(rf"(?:route 1 \(studio\): )?{key}\b", lines[0]) and words and all(it in lines[0] for it in words)
+        expect(fits, f"{key}: it warns {lines}, and the table has {words}")
 
 
 # ---- sizes and durations ----

@@ -9,8 +9,9 @@ import packets
 import reload_files as files
 from caller import Caller, Refused, Subscriber
 from lines import refused_line
-from reload_model import ADMITTED, UNKNOWN, Call, Route, Verdict
-from reload_seen import ROLES, SECONDS, Compared, Plan
+from reload_log import ROLES
+from reload_model import ADMITTED, DEFAULTS, UNKNOWN, Call, Route, Verdict
+from reload_seen import SECONDS, Compared, Plan
 
 LINES = 35  # Lines of a second to which a refusal can be added.
 FILL = 7  # Calls to a route whose sessions stay open, so that its limits are met.
@@ -64,13 +65,22 @@ class Called(Compared):
     def caller(self, call: Call, kind: Callable[..., Caller] = Caller) -> Caller:
         return kind(self.run.address, call.stream_id, mode=call.mode, receiver_ms=0, sender_ms=0, source=call.source)
 
-    def code_of(self, caller: Caller) -> int:
+    def code_of(self, caller: Caller, call: Call) -> int:
+        """Calls. Returns the code of its refusal, or 0 if it has a session, perhaps at a route that closes."""
         try:
             caller.call(SECONDS)
-            return 0
         except Refused as refused:
             caller.socket.close()
             return refused.code
+        index, route = index_of(caller), self.model.route(call.name)
+        keys = next((it.keys for it in (*self.model.routes, *self.model.closed) if it.index == index), DEFAULTS)
+        self.journal.open(caller, call, keys, not route or route.index != index)
+        return 0
+
+    def close(self, caller: Caller) -> None:
+        """Ends a caller's session."""
+        self.journal.end(caller)
+        caller.close()
 
     def cause_of(self, caller: Caller, code: int, call: Call, first: int) -> str:
         """The cause that the log has of a refusal."""
@@ -79,6 +89,8 @@ class Called(Compared):
 
     def note(self, call: Call, verdict: Verdict, route: Route | None, caller: Caller) -> None:
         self.model.note(verdict, route, caller.handshakes[packets.CONCLUSION])
+        if verdict.code:
+            self.journal.refuse(caller, call, verdict)
         self.tally.calls[f"{verdict.code} {verdict.cause}".strip()] += 1
 
     def try_call(self, call: Call, kind: Callable[..., Caller] = Caller) -> Caller | None:
@@ -86,7 +98,7 @@ class Called(Compared):
         self.pace(LINES)
         verdict, route, first = self.model.verdict(call), self.model.route(call.name), len(self.run.lines)
         caller = self.caller(call, kind)
-        code = self.code_of(caller)
+        code = self.code_of(caller, call)
         self.expect(code == verdict.code, f"{call} gets {code or 'a session'}, and not {verdict}; {route}")
         self.note(call, verdict, route, caller)
         if code:
@@ -101,7 +113,7 @@ class Called(Compared):
         return caller
 
     def end(self, caller: Caller, call: Call, route: Route) -> None:
-        caller.close()
+        self.close(caller)
         route.held.remove((call.role, call.source))
 
     # Routes that open and close.
@@ -111,10 +123,10 @@ class Called(Compared):
         until = time.monotonic() + SECONDS
         while True:
             first, caller = len(self.run.lines), self.caller(call)
-            code = self.code_of(caller)
+            code = self.code_of(caller, call)
             if not code and index_of(caller) == route.index:
                 self.model.note(ADMITTED, route, 1)
-                caller.close()
+                self.close(caller)
                 return
             self.transit(caller, code, call, first)
             self.expect(time.monotonic() < until, f"{call} gets {code or index_of(caller)}, and doesn't arrive at {route}")
@@ -124,7 +136,7 @@ class Called(Compared):
         until = time.monotonic() + SECONDS
         while True:
             first, caller = len(self.run.lines), self.caller(call)
-            code = self.code_of(caller)
+            code = self.code_of(caller, call)
             if self.transit(caller, code, call, first) == UNKNOWN.cause:
                 return
             self.expect(time.monotonic() < until, f"{call} gets {code or index_of(caller)}, and the route is closed")
@@ -133,7 +145,7 @@ class Called(Compared):
         """Counts a call that met a route that closes, or none. Returns the cause of its refusal."""
         time.sleep(0.02)
         if not code:
-            caller.close()
+            self.close(caller)
             return ""
         cause = self.cause_of(caller, code, call, first)
         before = next((it for it in self.model.closed if it.name == call.name), None)
@@ -156,6 +168,7 @@ class Called(Compared):
             for at in range(count):
                 caller.send(packets.data((caller.initial + at) % packets.NUMBERS, 1 + at, caller.stamp(), caller.peer_id, bytes(64)))
             route.received += count
+            self.journal.send(caller, count)
 
     def sample(self, route: Route, is_new: bool) -> None:
         """Calls a route in ways of which each has another outcome, those that it admits first."""
@@ -219,4 +232,6 @@ class Called(Compared):
             self.run.line(form, SECONDS)
         self.stays = [it for it in self.stays if it not in closed]
         for it in self.stays:
+            if it.caller.shut.is_set():
+                self.raise_if_slow(2)
             self.expect(not it.caller.shut.is_set(), f"{it.call} got a SHUTDOWN, and {it.route.name} is the same")

@@ -12,7 +12,7 @@ from caller import Caller
 from lines import ended_line
 from reload_calls import Called, calls_to
 from reload_model import DEFAULTS, Call, Route
-from reload_seen import SECONDS, STEADY
+from reload_seen import SECONDS, STEADY, Stalled
 
 SILENT_MS = 700  # How long a publisher is silent, so that another one takes over if takeover_ms is less.
 AT_ONCE = (100,)  # Values of takeover_ms that are too short for what is expected on a busy machine.
@@ -21,11 +21,6 @@ RESENDING = (20, 21, 80, 120, 400)  # and of those where a packet is requested a
 NAKS = 200
 QUICK = 0.4  # The seconds in which a publisher isn't silent for any other value.
 MOST_PACKETS = 30  # They find room in any window.
-
-
-class Stalled(Exception):
-    """The machine was too slow for what is compared: a file was written in place and may have been read before its end, or a session may
-    have ended by silence."""
 
 
 class Probed(Called):
@@ -39,6 +34,7 @@ class Probed(Called):
     def send_one(self, publisher: Caller, route: Route) -> None:
         publisher.send(packets.data(publisher.initial, 1, publisher.stamp(), publisher.peer_id, bytes(64)))
         route.received += 1
+        self.journal.send(publisher, 1)
 
     def is_for_two(self, route: Route, call: Call) -> bool:
         """Whether two publishers may call a live route so, whose sessions end at their SHUTDOWN."""
@@ -79,13 +75,14 @@ class Probed(Called):
             if is_whole and (is_enough or count == MOST_PACKETS):
                 break
             if spent > 4:
-                raise Stalled()  # A session that is silent for five seconds ends.
+                raise Stalled("the page was slow")  # A session that is silent for five seconds ends.
             if count < MOST_PACKETS and not (count and is_enough):
                 number = (publisher.initial + count) % packets.NUMBERS
                 publisher.send(packets.data(number, 1 + count, publisher.stamp(), publisher.peer_id, bytes(64)))
                 count, longest, last = count + 1, max(longest, time.monotonic() - last), time.monotonic()
             time.sleep(0.04)
         route.received += count
+        self.journal.send(publisher, count)
         is_quick = longest < QUICK
         self.expect(found == wanted or not is_quick and not least_ms, f"{route.name}: active are {found}, and not {wanted}; {route}")
         return is_quick

@@ -12,23 +12,30 @@ from typing import Any, NamedTuple
 import reload_files as files
 from expecting import Wrong
 from page import Page
+from reload_log import ROLES, Journal
 from reload_model import Model
 from running import SECRET, Run
+from status_numbers import differing
 
 SECONDS = 20.0  # Until a line or a number has to be there. One that is there sooner is found sooner.
 STEADY = "studio"
 LIBC = ctypes.CDLL(None)
 PR_SET_PDEATHSIG = 1  # Of Linux.
-ROLES = {"publish": "publisher", "request": "subscriber"}
 CONFIG_LINE = r"configuration .*|\S+: closed, (?:it is no longer|to open again) .*|\S+: opened with index .*|\d+ of 511 indexes .*"
 REFUSAL_COUNTS = tuple(f"refusals_{it}" for it in ("PEER", "RESOURCE", "ROGUE", "VERSION", "UNSECURE", "MESSAGEAPI", "FILTER", "GROUP"))
 LOBBY_COUNTS = tuple(f"lobby_refused_{it}_total" for it in ("no_name", "unknown_name", "publish_from", "request_from", "publish_key", "request_key"))
+FOR_ALL = ("srtgw_poller_", "srtgw_kernel_")  # Numbers that the steady stream changes, too.
 ROUTE_COUNTS = ("opened_sessions_total", "take_overs_total", "refused_sessions_total", "refused_reserved_total", "refused_sessions_per_address_total")
 
 
 def end_with_parent() -> None:
     """For a process to call before it runs a program: it is killed when the thread that started it ends, in whatever way."""
     LIBC.prctl(PR_SET_PDEATHSIG, signal.SIGKILL)
+
+
+class Stalled(Exception):
+    """The machine was too slow for what is compared: a file was written in place and may have been read before its end, a session may
+    have ended by silence, or lines were left out."""
 
 
 class Plan(NamedTuple):
@@ -62,11 +69,12 @@ class Compared:
     run: Run
     page: Page
     model: Model
+    journal: Journal
     chance: random.Random
 
     def __init__(self, plan: Plan, number: int) -> None:
         self.plan, self.number, self.done, self.what = plan, number, 0, "start"
-        self.tally, self.next_line = new_tally(), 0
+        self.tally, self.next_line, self.taken_lines = new_tally(), 0, 0
 
     def expect(self, test: bool, text: str) -> None:
         if not test:
@@ -90,6 +98,24 @@ class Compared:
         self.expect(right, f"the log has {texts}, and not {forms}")
         if forms:
             self.next_line = found[len(forms) - 1][0] + 1
+
+    def expect_events(self) -> None:
+        """Expects that each further line of the log is one that what happened must have."""
+        count = len(self.run.lines)
+        texts = self.run.texts(self.taken_lines)[:count - self.taken_lines]
+        wrong, self.taken_lines = list(self.journal.take(texts)), count
+        self.expect(bool(self.journal.slow) or not wrong, f"the log has {'; '.join(wrong)}")
+
+    def raise_if_slow(self, seconds: float = 0.0) -> None:
+        """Raises Stalled if the log shows within so many seconds that the machine was too slow."""
+        until = time.monotonic() + seconds
+        while True:
+            self.expect_events()
+            if self.journal.slow:
+                raise Stalled(self.journal.slow)
+            if time.monotonic() >= until:
+                return
+            time.sleep(0.1)
 
     def pace(self, most: int) -> None:
         """Waits until the last second has no more lines than so many: the log leaves lines out that are more than 50 in a second."""
@@ -135,13 +161,15 @@ class Compared:
         wrong = self.model.counts.wrong_of(state, (*REFUSAL_COUNTS, *LOBBY_COUNTS))
         for route, shown in zip(self.model.routes, state["routes"]):
             found = route.counts.wrong_of(shown, (*ROUTE_COUNTS, *REFUSAL_COUNTS))
-            sessions = Counter(it["role"] for it in shown["sessions"])
-            if sessions != Counter(ROLES[role] for role, _ in route.held):
-                found.append(f"{dict(sessions)} are open, and not {route.held}")
+            sessions = {(it["role"], it["peer"], it["session"]) for it in shown["sessions"]}
+            open_now = self.journal.open_at(route.index)
+            if sessions != open_now or Counter(role for role, _, _ in sessions) != Counter(ROLES[role] for role, _ in route.held):
+                found.append(f"{sorted(sessions)} are open, and not {sorted(open_now)}, {route.held}")
             if route.name != STEADY and shown["publishers"]["received_packets_total"] != route.received:
                 found.append(f"{shown['publishers']['received_packets_total']} packets were received, and not {route.received}")
             wrong += [f"{route.name}: {it}" for it in found]
-        return wrong
+        others = [it for it in differing(state, self.page.metrics(), STEADY) if not it[0].startswith(FOR_ALL)]
+        return wrong or [f"{it} differ in JSON and metrics" for it in others[:3]]
 
     def expect_numbers(self) -> None:
         """Expects each route's numbers under its own name; the page's content is half a second old at most."""

@@ -18,9 +18,10 @@ from changing import SETTLING, OnAir
 from expecting import Wrong, expect
 from machine import free_port
 from page import Page
-from reload_model import Model
-from reload_probes import Probed, Stalled
-from reload_seen import ROLES, SECONDS, STEADY, Plan, Tally, end_with_parent, new_tally
+from reload_log import ROLES, Journal
+from reload_model import Call, Model
+from reload_probes import Probed
+from reload_seen import SECONDS, STEADY, Plan, Stalled, Tally, end_with_parent, new_tally
 from rules.configuration import Fault
 from running import SECRET, Run, expect_polite
 from tree import PROGRAM
@@ -28,6 +29,28 @@ from tree import PROGRAM
 LINES = 25  # Lines of a second to which those of a change can be added.
 FAULTS_AT = (2, 6)  # The changes of each gateway that are faults in any case.
 PORTS = 5  # Pairs of ports that a gateway tries.
+
+
+def make_folder(path: str) -> None:
+    os.unlink(path)
+    os.mkdir(path)
+
+
+def make_pipe(path: str) -> None:
+    os.mkfifo(f"{path}.new")
+    os.replace(f"{path}.new", path)
+
+
+def make_loop(path: str) -> None:
+    os.symlink(path, f"{path}.new")
+    os.replace(f"{path}.new", path)
+
+
+# What may stand in the file's place, how it is made, and the form of the reason why it can't be read.
+UNREADABLE: dict[str, tuple[Callable[[str], None], str]] = {
+    "missing": (os.unlink, r"No such file or directory \(os error 2\)"), "a folder": (make_folder, r"Is a directory \(os error 21\)"),
+    "a pipe": (make_pipe, "it is a pipe or a device"), "a link to itself": (make_loop, r"Too many levels of symbolic links \(os error 40\)"),
+}
 
 
 class Trial(Probed):
@@ -46,6 +69,7 @@ class Trial(Probed):
         self.top = {"secret": SECRET, "bind": f"127.0.0.1:{self.port}", "workers": 2, "status": "{}:{}".format(*self.page.address)}
         self.content = files.text_of(self.chance, self.top, self.first_routes()).encode()
         self.model = Model(self.content)
+        self.journal = Journal(self.model.names)
 
     def started(self) -> Run:
         """A gateway that is up. Others may take its ports before it does."""
@@ -77,15 +101,29 @@ class Trial(Probed):
     def write(self, content: bytes, in_place: bool) -> None:
         """Writes the file: in its place, or by renaming another one."""
         self.pace(LINES)
-        began = time.monotonic()
-        path = self.run.file if in_place else f"{self.run.file}.new"
-        with open(path, "wb", buffering=0) as it:
-            it.write(content)
-        if not in_place:
-            os.replace(path, self.run.file)
-        elif time.monotonic() - began > SETTLING:
-            raise Stalled()
+        if os.path.isdir(self.run.file):
+            os.rmdir(self.run.file)
+        elif os.path.lexists(self.run.file) and not os.path.isfile(self.run.file):
+            os.unlink(self.run.file)
+        if in_place and os.path.lexists(self.run.file):
+            self.overwrite(content)
+        else:
+            with open(f"{self.run.file}.new", "wb") as it:
+                it.write(content)
+            os.replace(f"{self.run.file}.new", self.run.file)
         self.keep(content)
+
+    def overwrite(self, content: bytes) -> None:
+        """Writes the file in its place, in so short a time that it isn't read meanwhile."""
+        file = os.open(self.run.file, os.O_WRONLY)
+        try:
+            began = time.monotonic()
+            os.pwrite(file, content, 0)
+            os.ftruncate(file, len(content))
+            if time.monotonic() - began > SETTLING:
+                raise Stalled("the file was written slowly")
+        finally:
+            os.close(file)
 
     def keep(self, content: bytes) -> None:
         if self.plan.folder:
@@ -101,6 +139,7 @@ class Trial(Probed):
         self.call_all()
         self.expect_stays()
         self.expect_numbers()
+        self.raise_if_slow()
 
     def put(self, content: bytes) -> None:
         """Writes this content, and compares."""
@@ -163,14 +202,16 @@ class Trial(Probed):
         self.compare(self.model.read(whole))
 
     def unread(self) -> None:
-        """A file that is missing, or too large, and then another one."""
+        """A file that is missing, something else or too large, and then another one."""
         if self.model.is_unread:
             return self.change()
-        if self.chance.random() < 0.5:
-            os.unlink(self.run.file)
-            self.compare(self.model.unread(r"No such file or directory \(os error 2\)"))
-        else:
-            self.put(files.text_of(self.chance, self.top, self.changed()).encode() + b"#" * 65_536)
+        kind = self.chance.choice((*UNREADABLE, "too large"))
+        self.tally.outcomes[f"unread, {kind}"] += 1
+        if kind == "too large":
+            return self.put(files.text_of(self.chance, self.top, self.changed()).encode() + b"#" * 65_536)
+        makes, why = UNREADABLE[kind]
+        makes(self.run.file)
+        self.compare(self.model.unread(why))
 
     def again(self) -> None:
         """An invalid file, the one in force in other words, and the invalid one again, which is reported again."""
@@ -197,10 +238,13 @@ class Trial(Probed):
             assert steady
             steady.held += [("request", "127.0.0.1"), ("publish", "127.0.0.1")]
             steady.counts.add("opened_sessions_total", 2, 2)
+            for one, role in zip(air.callers(), ("request", "publish")):
+                self.journal.open(one, Call(STEADY, role, "127.0.0.1", None, "live"), steady.keys).sent = None
             try:
                 self.play_all(air)
-            except Stalled:
+            except Stalled as why:
                 self.tally.changes["stalled"] += 1
+                self.tally.outcomes[f"stalled, {why}"] += 1
             finally:
                 air.over.set()
                 for it in (*air.callers(), *(it.caller for it in self.stays)):
@@ -219,13 +263,18 @@ class Trial(Probed):
     def finish(self, air: OnAir) -> None:
         """Ends all callers and the gateway, and expects that the steady stream was whole."""
         for it in self.stays:
-            it.caller.close()
+            self.close(it.caller)
+        for it in air.callers():
+            self.journal.end(it)
         try:
             air.end()
         except Wrong as why:
             self.expect(False, f"the stream of {STEADY}: {why}")
         expect_polite(self.run.stop(), self.model.names)
         self.expect(not self.config_lines(), f"the log has more: {self.config_lines()}")
+        self.expect_events()
+        missing = list(self.journal.missing())
+        self.expect(bool(self.journal.slow) or not missing, "; ".join(missing))
         self.expect_no_secrets()
 
 

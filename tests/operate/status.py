@@ -17,21 +17,13 @@ from lines import NAMES, REFUSED_BLOCKS, TROUBLES, peer_of, took_over_line, trou
 from page import Metrics, Page
 from proxy import Proxy
 from running import Run, Shown, Skipped, expect_polite, files, flooded, live
+from status_numbers import CODES, NAMES_OF, differing
 from tracing import Held
 from witness import Witness
 
 LOOK = 1.5  # A scrape shows what happened up to so many seconds before it, or later.
 BAD = dict(loss=0.05, double=0.1, late=0.1)
 PROMTOOL = "promtool"
-CODES = (1002, 1003, 1004, 1008, 1011, 1012, 1014, 1015)
-
-# What sessions count, by their role: `NAME_total` in the JSON, `srtgw_route_NAME_total` and `srtgw_session_NAME_total` in the metrics.
-NAMES_OF = {
-    "publisher": ("received_packets", "received_bytes", "delivered_packets", "repeated_packets", "late_packets", "ahead_packets",
-                  "reported_lost_packets", "naks_sent", "full_window_acks", "given_up_packets"),
-    "subscriber": ("queued_packets", "queued_bytes", "sent_packets", "resent_packets", "naks_taken", "given_up_packets",
-                   "misdirected_packets"),
-}
 Counts = dict[str, int]
 
 
@@ -461,41 +453,6 @@ def counts_drops():
 # Formats.
 
 
-# What isn't the same in two scrapes, though nobody sends.
-MOVING = ("uptime_seconds", "resident_memory_bytes", "open_seconds", "silent_seconds", "poller_read_datagrams_total",
-          "poller_accepted_datagrams_total", "poller_sent_datagrams_total")
-Sample = tuple[str, frozenset[tuple[str, str]], float]
-
-
-def sample(family: str, value: float, **labels: str) -> Sample:
-    return family, frozenset(labels.items()), value
-
-
-def numbers_in(its: dict[str, Any], prefix: str, **labels: str) -> Iterator[Sample]:
-    """What the metrics have to say of the numbers of an object: the family, the labels and the value of each."""
-    for name, value in its.items():
-        if name.startswith("refusals_"):
-            code = next(it for it in CODES if name.endswith(f"_{NAMES[it]}"))
-            family = f"{prefix}lobby_refusals_total" if prefix == "srtgw_" else f"{prefix}refusals_total"
-            yield sample(family, value, code=str(code), reason=NAMES[code], **labels)
-        elif isinstance(value, (int, float)) and name not in MOVING:
-            yield sample(f"{prefix}{name}", value, **labels)
-
-
-def all_numbers(state: dict[str, Any]) -> Iterator[Sample]:
-    """The same of all that the JSON has."""
-    yield sample("srtgw_build_info", 1, version=state["version"])
-    yield from numbers_in(state, "srtgw_")
-    for route in state["routes"]:
-        name = route["name"]
-        yield from numbers_in(route, "srtgw_route_", route=name)
-        for role in NAMES_OF:
-            yield sample("srtgw_route_sessions", sum(it["role"] == role for it in route["sessions"]), route=name, role=role)
-            yield from numbers_in(route[f"{role}s"], "srtgw_route_", route=name, role=role)
-        for it in route["sessions"]:
-            yield from numbers_in(it, "srtgw_session_", route=name, role=it["role"], session=it["session"], peer=it["peer"])
-
-
 @case("the status page says the same in its JSON and in its metrics")
 def says_the_same():
     with Shown([live("studio"), files("files"), live("idle")], "--no-time") as run:
@@ -509,11 +466,8 @@ def says_the_same():
             expect_refusal(1002, Caller(run.address, "nowhere"), "a stranger")
             time.sleep(LOOK)
             seen = snapshot(run.page)
-        said = {(family, labels): value for family, labels, value in all_numbers(seen.state)}
-        scraped = {(family, labels): value for family, its in seen.metrics.samples.items() for labels, value in its.items()
-                   if not family.endswith(MOVING)}
-        wrong = {it for it in said.keys() | scraped.keys() if said.get(it) != scraped.get(it)}
-        expect(not wrong, f"{len(wrong)} of {len(said)} numbers differ: {[(it, said.get(it), scraped.get(it)) for it in list(wrong)[:3]]}")
+        wrong = differing(seen.state, seen.metrics)
+        expect(not wrong, f"{len(wrong)} numbers differ: {wrong[:3]}")
         run.stop()
 
 

@@ -375,7 +375,7 @@ def pipelined():
 def warns_of_others():
     with Shown([live("studio")], "--no-time") as run:
         run.is_up()
-        expect(not any("warning" in it for it in run.texts()), f"it warns of an address of loopback: {run.texts()}")
+        expect(not any("warning: status" in it for it in run.texts()), f"it warns of an address of loopback: {run.texts()}")
         run.stop()
     port = run.page.address[1]
     with Run([live("studio")], "--no-time", status=f"0.0.0.0:{port}") as run:

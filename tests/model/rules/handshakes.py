@@ -16,6 +16,7 @@ INDUCTION_EXTENSION = 0x4A17
 LONGEST_MTU = 1500
 USUAL_WINDOW = 8192
 LISTENER = 1
+PERIODIC_NAK_FLAG = 0x10
 STREAM_FLAG = 0x40
 SRT_VERSION = 0x00010500
 ANSWERED_FLAGS = {Mode.LIVE: 0x3F, Mode.BUFFER: 0x74}
@@ -72,10 +73,16 @@ class Handshake(NamedTuple):
         """The contents of the first block of this type."""
         return next((contents for it, contents in self.blocks if it == kind), None)
 
-    def asks_for_buffer_mode(self) -> bool:
-        """Whether HSREQ has the flag STREAM (section 3.2.1.1.1)."""
+    def has_flag(self, flag: int) -> bool:
+        """Whether HSREQ has a flag (section 3.2.1.1.1)."""
         request = self.block(Block.HSREQ)
-        return request is not None and bool(struct.unpack("!I", request[4:8])[0] & STREAM_FLAG)
+        return request is not None and bool(struct.unpack("!I", request[4:8])[0] & flag)
+
+    def asks_for_buffer_mode(self) -> bool:
+        return self.has_flag(STREAM_FLAG)
+
+    def sends_periodic_naks(self) -> bool:
+        return self.has_flag(PERIODIC_NAK_FLAG)
 
     def delays(self) -> Delays:
         """The delays that HSREQ asks for."""

@@ -6,6 +6,7 @@ from itertools import count
 from typing import NamedTuple
 
 from . import losses
+from .clock import Clock, Sample
 from .losses import LONGEST_SPAN, distance
 from .numbers import MILLISECOND, SECOND, WORDS, Run, in_window, lift, runs_of
 from .packets import Control, Data, Kind, Packet, sequence_word, words, words_of
@@ -64,6 +65,8 @@ class Publisher(Session):
         self.full_acks: list[FullAck] = []
         self.data_since_ack = 0
         self.samples: list[int] = []
+        self.clock = Clock(opening.moment, opening.stamp)
+        self.base = opening.moment
         self.nak_of_all = opening.moment
         self.brought = opening.moment
         self.shutdown_at: int | None = None
@@ -77,7 +80,7 @@ class Publisher(Session):
         if packet.kind is Kind.DROPREQ and self.entry.is_live:
             self.take_drop_request(packet)
         if packet.kind is Kind.ACKACK:
-            self.confirm(packet.information, now)
+            self.confirm(packet, now)
         return None
 
     def take_data(self, packet: Data, now: int) -> End | None:
@@ -102,11 +105,11 @@ class Publisher(Session):
 
     def deadline(self, stamp: int, now: int) -> int:
         """When a packet is due (section 4.5.1): the time by its own stamp, counted from the conclusion, and the delay. The stamp is read
-        near the one that a packet would have that is sent now. Drift is taken as 0."""
+        near the one that a packet would have that is sent now. The base is the opening, corrected for the caller's clock."""
         if not self.entry.is_live:
             return 0
-        lifted = lift(stamp, self.opening.stamp + self.time(now))
-        return self.opening.moment - self.opening.stamp + lifted + self.delay
+        lifted = lift(stamp, self.clock.expected(now, self.base))
+        return self.base - self.opening.stamp + lifted + self.delay
 
     def take_drop_request(self, packet: Control) -> None:
         """The numbers of the window that the request names count as dropped, but for those received (section 3.2.9)."""
@@ -116,12 +119,20 @@ class Publisher(Session):
         window = range(self.position, self.position + self.width)
         self.dropped.update(it for it in window if losses.names([Run(first, last)], it) and it not in self.received)
 
-    def confirm(self, number: int, now: int) -> None:
-        """An ACKACK confirms one of the last 64 Full ACKs, each once, and brings a sample of the round trip (section 4.10)."""
+    def confirm(self, packet: Control, now: int) -> None:
+        """An ACKACK confirms one of the last 64 Full ACKs, each once, and brings a sample of the round trip (section 4.10) and of the clock
+        (section 4.7)."""
         for it in self.full_acks[-ACKS_REMEMBERED:]:
-            if it.number == number and not it.is_confirmed:
+            if it.number == packet.information and not it.is_confirmed:
                 it.is_confirmed = True
-                self.fold(min(now - it.moment, LONGEST_SAMPLE))
+                sample = min(now - it.moment, LONGEST_SAMPLE)
+                self.follow(Sample(now, packet.stamp, sample))
+                self.fold(sample)
+
+    def follow(self, sample: Sample) -> None:
+        """For callers with libsrt the base follows their clock, live. It stands as it is when a packet is received."""
+        if self.entry.is_libsrt and self.entry.is_live and self.clock.take(sample):
+            self.base = self.clock.base()
 
     def fold(self, sample: int) -> None:
         """The variance is folded with the round trip's old value. For callers with libsrt the first sample stands alone."""

@@ -1,6 +1,8 @@
 """A subscriber's session: what is queued for it, what goes out and what goes again (sections 4.6 and 4.8)."""
 from __future__ import annotations
 
+from enum import Enum
+from itertools import takewhile
 from typing import NamedTuple
 
 from . import losses
@@ -13,6 +15,8 @@ LONGEST_MTU = 1500
 REACH = 8192
 MOST_SENT = 64
 RESEND_AFTER = 20_000
+RESENDS_UNTIL = SECOND
+MOST_DOUBLINGS = 6
 LEAST_THRESHOLD = SECOND
 CREDIT_OF_PACKET = 100
 FIRST_CREDIT = 64 * CREDIT_OF_PACKET
@@ -25,6 +29,13 @@ class Queued(NamedTuple):
 
     payload: bytes
     origin: int
+
+
+class Step(Enum):
+    """What of a session's history counts for resends of all."""
+
+    GROWTH = "more was acknowledged"
+    RESEND_OF_ALL = "all in flight was lost without a NAK"
 
 
 class Subscriber(Session):
@@ -40,7 +51,7 @@ class Subscriber(Session):
         self.longest = min(LONGEST_MTU, opening.asked.mtu) - HEADERS
         self.drop_request: Run | None = None
         self.data_sent = self.growth = opening.moment
-        self.resends_of_all = 0
+        self.history: list[Step] = []
         self.credit = FIRST_CREDIT
 
     # ---- where it stands ----
@@ -111,6 +122,7 @@ class Subscriber(Session):
         if number > self.acked:
             self.acked = number
             self.growth = now
+            self.history.append(Step.GROWTH)
         if len(body) >= 3:
             self.rtt, self.variance = body[1:3]
         if len(body) >= 4:
@@ -134,7 +146,7 @@ class Subscriber(Session):
         self.renew_credit(now)
         if self.resend_is_due(now):
             self.marked.update(range(self.front, self.next))
-            self.resends_of_all += 1
+            self.history.append(Step.RESEND_OF_ALL)
         again = self.emit_lost(now)
         return packets + again + self.emit_new(now, MOST_SENT - len(again))
 
@@ -145,11 +157,37 @@ class Subscriber(Session):
         message = message_number(gone.first - self.initial)
         return [self.write(Kind.DROPREQ, message, now, words(sequence_word(gone.first), sequence_word(gone.last)))]
 
+    # ---- what is sent again without a NAK ----
+
+    @property
+    def reports(self) -> bool:
+        """Whether the caller says that it sends NAKs at intervals; nobody does in buffer mode."""
+        return self.entry.is_live and self.opening.asked.sends_periodic_naks()
+
+    @property
+    def tries(self) -> int:
+        """How often all was sent again since more was acknowledged."""
+        return len(list(takewhile(lambda it: it is Step.RESEND_OF_ALL, reversed(self.history))))
+
+    def resend_wait(self) -> int | None:
+        """For how long nothing is sent and nothing more acknowledged until all in flight is sent again: the round trip, four times its
+        variance and 20,000. For a caller with libsrt twice as long each time; for one that reports at least half of the delay, and
+        once only. None if it isn't sent again."""
+        wait = self.rtt + 4 * self.variance + RESEND_AFTER
+        if not self.entry.is_libsrt:
+            return wait
+        if not self.reports:
+            return wait << min(self.tries, MOST_DOUBLINGS)
+        return max(wait, self.delay // 2) if self.tries == 0 else None
+
+    def is_heard(self, now: int) -> bool:
+        """Whether the caller counts as present: of one with libsrt a packet must have arrived in the last second."""
+        return not self.entry.is_libsrt or now - self.heard < RESENDS_UNTIL
+
     def resend_is_due(self, now: int) -> bool:
-        """Whether all in flight has to go again: none of it is lost, and for the round trip, four times its variance and 20,000 nothing was
-        sent and nothing acknowledged."""
-        silent = now - max(self.data_sent, self.growth)
-        return self.front < self.next and not self.lost() and silent >= self.rtt + 4 * self.variance + RESEND_AFTER
+        """Whether all in flight is to be sent again: none of it is lost, and it has waited for long enough."""
+        wait, quiet = self.resend_wait(), now - max(self.data_sent, self.growth)
+        return self.front < self.next and not self.lost() and wait is not None and quiet >= wait and self.is_heard(now)
 
     def renew_credit(self, now: int) -> None:
         """Where resends are limited, one is always allowed 20,000 after the last data packet."""
