@@ -1,11 +1,13 @@
 -- Access control of a route: for each role a list of networks and a key (our choice).
-use Rattle.std.specs.Prelude.{ℕ, ◌-◌, ◌%◌, ◌^◌, ◌==◌, nat_lt, Bool, true, false, List, [], ◌∷◌, Option, None, Some, string_bytes}
+use Rattle.std.specs.Prelude.{ℕ, ◌-◌, ◌/◌, ◌%◌, ◌^◌, ◌==◌, nat_lt, Bool, true, false, not, List, [], ◌∷◌, take, Option, None, Some, string_bytes}
 use Rattle.std.specs.Prelude.{nat_eq, nat_le, ◌&&◌, ◌||◌, if◌then◌else◌}
+use Rattle.std.specs.Int.{w128, from_be_bytes}
 use Rattle.std.specs.List.{list_any, starts_with}
 use Rattle.std.specs.Option.{option_map}
 use Rattle.std.specs.Str.{bytes_eq}
 use Rattle.srt_types.specs.declared.shared.Access.{Access}
 use Rattle.srt_types.specs.declared.shared.Network.{Network}
+use Rattle.srt_types.specs.declared.shared.Network.TheVariants.{V4, V6}
 use Rattle.srt_types.specs.declared.shared.Peer.{Peer}
 use Rattle.srt_types.specs.declared.shared.Role.{Role}
 use Rattle.srt_types.specs.declared.shared.Role.TheVariants.{Publish, Request}
@@ -47,30 +49,57 @@ in_role access Request = access.request
 abbrev pub ipv4_front : List ℕ
 ipv4_front = 0 ∷ 0 ∷ 0 ∷ 0 ∷ 0 ∷ 0 ∷ 0 ∷ 0 ∷ 0 ∷ 0 ∷ 255 ∷ 255 ∷ []
 
+-- whether the 16 bytes of an address are those of an IPv4 address: ::ffff:0:0/96
+abbrev pub is_mapped : List ℕ → Bool
+is_mapped ip = starts_with nat_eq ip ipv4_front
+
 -- the IPv4 address in the 16 bytes of an address; none if they have another form
 abbrev pub ipv4_in : List ℕ → Option ℕ
-ipv4_in ip = if starts_with nat_eq ip ipv4_front then Some (word_at ip 12) else None
+ipv4_in ip = if is_mapped ip then Some (word_at ip 12) else None
 
--- the network of all addresses whose first prefix bits, of 32, are those of this address; none if the address has a bit
--- set after the prefix
+-- the 16 bytes of an address as a number, the most significant byte first
+abbrev pub ip_number : List ℕ → ℕ
+ip_number ip = from_be_bytes w128 ip
+
+-- the IPv4 network of all addresses whose first prefix bits, of 32, are those of this address; none if the address has a
+-- bit set after the prefix
 abbrev pub network_of : (address : ℕ) → (prefix : ℕ) → Option Network
 network_of address prefix =
     let size = 2 ^ (32 - prefix) in
-    if address % size == 0 then Some (record { first = address; size = size }) else None
+    if address % size == 0 then Some (V4 address size) else None
 
--- whether the network contains the address
-abbrev pub contains : (address : ℕ) → Network → Bool
-contains address network = nat_le network.first address && nat_lt (address - network.first) network.size
+-- the same for IPv6, of 128 bits
+abbrev pub ipv6_network_of : (address : ℕ) → (prefix : ℕ) → Option Network
+ipv6_network_of address prefix = if address % 2 ^ (128 - prefix) == 0 then Some (V6 address prefix) else None
 
--- whether one of the networks contains the address; false if it is no IPv4 address
-abbrev pub any_contains : List Network → (address : Option ℕ) → Bool
-any_contains networks None = false
-any_contains networks (Some address) = list_any (contains address) networks
+-- whether these addresses, from the first on, contain the address; false if there is none
+abbrev pub is_within : (first size : ℕ) → (address : Option ℕ) → Bool
+is_within first size None = false
+is_within first size (Some address) = nat_le first address && nat_lt (address - first) size
+
+-- the first bits of the number of an address, as many as the prefix has
+abbrev pub front_bits : (prefix address : ℕ) → ℕ
+front_bits prefix address = address / 2 ^ (128 - prefix)
+
+-- whether the network contains the address of these 16 bytes: an IPv4 address is in no IPv6 network, and no other
+-- address is in an IPv4 network
+abbrev pub contains : (ip : List ℕ) → Network → Bool
+contains ip (V4 first size) = is_within first size (ipv4_in ip)
+contains ip (V6 first prefix) = not (is_mapped ip) && (front_bits prefix (ip_number ip) == front_bits prefix first)
+
+-- what an address is counted by: all of an IPv4 address, else the first 64 bits, since one subscriber's line has at least
+-- as many addresses as have these in common (our choice)
+abbrev pub site : (ip : List ℕ) → List ℕ
+site ip = if is_mapped ip then ip else take 8 ip
+
+-- whether two addresses are of the same site
+abbrev pub is_same_site : (a b : List ℕ) → Bool
+is_same_site a b = bytes_eq (site a) (site b)
 
 -- whether the list contains the peer's address; without a list, true
 abbrev pub lists : Option (List Network) → Peer → Bool
 lists None peer = true
-lists (Some networks) peer = any_contains networks (ipv4_in peer.ip)
+lists (Some networks) peer = list_any (contains peer.ip) networks
 
 -- whether the key in a Stream ID is the right one; if no key is required, true
 abbrev pub is_right_key : (given brought : Option (List ℕ)) → Bool

@@ -3,7 +3,8 @@
 ghost use Rattle.std.specs.Prelude.{◌≡◌, ◌≤◌, option_map, string_bytes, IfOk, length};
 ghost use Rattle.std.specs.List.{list_any};
 ghost use Rattle.std.specs.Option.{option_copied};
-ghost use Rattle.srt_types.specs.Access.{every_caller, anyone, role_access_of, access_of, in_role, ipv4_in, network_of, contains, any_contains, lists};
+ghost use Rattle.srt_types.specs.Access.{every_caller, anyone, role_access_of, access_of, in_role, is_mapped as is_of_ipv4, ipv4_in, network_of};
+ghost use Rattle.srt_types.specs.Access.{ipv6_network_of, is_within, front_bits, contains, site, is_same_site as are_of_a_site, lists};
 ghost use Rattle.srt_types.specs.Access.{is_right_key, admits, knows};
 
 use crate::shared::{Access, Network, Peer, Role, RoleAccess};
@@ -13,20 +14,64 @@ use std::alloc::{AllocError, Global};
 /// The first 12 bytes of an IPv4 address in the form `::ffff:a.b.c.d`.
 const IPV4_FRONT: [u8; 12] = [0, 0, 0, 0, 0, 0, 0, 0, 0, 0, 255, 255];
 
+/// Whether the 16 bytes of an address are those of an IPv4 address, `::ffff:a.b.c.d`.
+pub fn is_mapped(ip: &[u8; 16]) -> bool
+    ensures { result ≡ is_of_ipv4 ip.now }
+{
+    ip.starts_with(&IPV4_FRONT)
+}
+
 /// Returns the IPv4 address in the 16 bytes of an address, as a number. None if they have another form.
-fn ipv4_in(ip: &[u8]) -> Option<u32>
-    requires { 16 ≤ length ip.now }
+fn ipv4_in(ip: &[u8; 16]) -> Option<u32>
     ensures { result ≡ ipv4_in ip.now }
 {
-    if ip.starts_with(&IPV4_FRONT) {
+    if is_mapped(ip) {
         Some(read_word(ip, 12))
     } else {
         None
     }
 }
 
+/// Returns what an address is counted by: all 16 bytes of an IPv4 address, else the first 8.
+fn site(ip: &[u8; 16]) -> &[u8]
+    ensures { result.now ≡ site ip.now }
+{
+    if is_mapped(ip) { ip } else { &ip[..8] }
+}
+
+/// Whether two addresses are of the same site: they are the same IPv4 address, or IPv6 addresses that have their first
+/// 64 bits in common.
+pub fn is_same_site(a: &[u8; 16], b: &[u8; 16]) -> bool
+    ensures { result ≡ are_of_a_site a.now b.now }
+{
+    site(a) == site(b)
+}
+
+/// Whether the addresses from the first on, this many, contain the address.
+fn is_within(first: u32, size: u64, address: Option<u32>) -> bool
+    ensures { result ≡ is_within first size address }
+{
+    match address {
+        Some(address) => first <= address && u64::from(address - first) < size,
+        None => false,
+    }
+}
+
+/// Returns the first bits of an address, as many as the prefix has; all of them if it has more than 128.
+fn front_bits(prefix: u32, address: u128) -> u128
+    ensures { result ≡ front_bits prefix address }
+{
+    if prefix == 0 {
+        0
+    } else if prefix < 128 {
+        address >> (128 - prefix)
+    } else {
+        address
+    }
+}
+
 impl Network {
-    /// Returns the network of all addresses whose first `prefix` bits, 0 to 32, are those of `address`. None if
+    /// Returns the IPv4 network of all addresses whose first `prefix` bits, 0 to 32, are those of `address`. None if
     /// `address` has a bit set after the prefix.
     pub fn of_prefix(address: u32, prefix: u32) -> Option<Network>
         requires { prefix ≤ 32 }
@@ -34,7 +79,7 @@ impl Network {
     {
         let size = 1_u64 << (32 - prefix);
         if u64::from(address) % size == 0 {
-            Some(Network {
+            Some(Network::V4 {
                 first: address,
                 size,
             })
@@ -43,27 +88,46 @@ impl Network {
         }
     }
 
-    /// Whether the network contains this address.
-    pub fn contains(&self, address: u32) -> bool
-        ensures { result ≡ contains address self.now }
+    /// Returns the IPv6 network of all addresses whose first `prefix` bits, 0 to 128, are those of `address`. None if
+    /// `address` has a bit set after the prefix.
+    pub fn of_ipv6_prefix(address: u128, prefix: u32) -> Option<Network>
+        requires { prefix ≤ 128 }
+        ensures { result ≡ ipv6_network_of address prefix }
     {
-        self.first <= address && u64::from(address - self.first) < self.size
+        let is_first = if prefix == 0 {
+            address == 0
+        } else {
+            address % (1_u128 << (128 - prefix)) == 0
+        };
+        if is_first {
+            Some(Network::V6 {
+                first: address,
+                prefix,
+            })
+        } else {
+            None
+        }
     }
-}
 
-fn any_contains(networks: &[Network], address: u32) -> bool
-    ensures { result ≡ list_any (contains address) networks.now }
-{
-    networks.iter().any(|network| network.contains(address))
+    /// Whether the network contains the address of these 16 bytes. An IPv4 address, `::ffff:a.b.c.d`, is in no IPv6
+    /// network, and no other address is in an IPv4 network.
+    pub fn contains(&self, ip: &[u8; 16]) -> bool
+        ensures { result ≡ contains ip.now self.now }
+    {
+        match *self {
+            Network::V4 { first, size } => is_within(first, size, ipv4_in(ip)),
+            Network::V6 { first, prefix } => {
+                !is_mapped(ip)
+                    && front_bits(prefix, u128::from_be_bytes(*ip)) == front_bits(prefix, first)
+            }
+        }
+    }
 }
 
 fn lists(networks: &[Network], peer: Peer) -> bool
-    ensures { result ≡ any_contains networks.now (ipv4_in peer.ip) }
+    ensures { result ≡ list_any (contains peer.ip) networks.now }
 {
-    match ipv4_in(&peer.ip) {
-        Some(address) => any_contains(networks, address),
-        None => false,
-    }
+    networks.iter().any(|network| network.contains(&peer.ip))
 }
 
 /// Returns a copy of a list. Allocates; an error if the allocation fails.

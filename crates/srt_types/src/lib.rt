@@ -26,6 +26,7 @@ mod shared;
 mod stamps;
 mod words;
 
+pub use access::{is_mapped, is_same_site};
 pub use entries::{is_between, is_name};
 pub use limits::MOMENT_END;
 pub use numbers::{Msg26, Seq31};

@@ -57,21 +57,32 @@ pub enum Turned {
     Idle,
 }
 
-/// An IPv4 network: a range of consecutive addresses. An address is a number with the first octet in its most
-/// significant byte.
+/// A network: consecutive addresses of IPv4 or of IPv6. An address is a number with its first byte as the most
+/// significant one.
 #[derive(Clone, Copy, Debug, PartialEq, Eq)]
-pub struct Network {
-    /// The first address.
-    pub first: u32,
-    /// The number of addresses: 1 to 2^32.
-    pub size: u64,
+pub enum Network {
+    /// Addresses of IPv4.
+    V4 {
+        /// The first address.
+        first: u32,
+        /// The number of addresses: 1 to 2^32.
+        size: u64,
+    },
+    /// The addresses of IPv6 that have their first bits in common. It contains no address of the form
+    /// `::ffff:a.b.c.d`, which is an IPv4 address.
+    V6 {
+        /// The first address.
+        first: u128,
+        /// The number of bits: 0 to 128.
+        prefix: u32,
+    },
 }
 
 /// The access rules for one role. A field that is `None` admits every caller.
 #[derive(Debug, Drop)]
 pub struct RoleAccess {
-    /// The networks that admitted callers connect from: 1 to 16. If present, no other address is admitted, whether IPv4
-    /// or not.
+    /// The networks that admitted callers connect from: 1 to 16, of IPv4, of IPv6 or of both. If present, no other
+    /// address is admitted.
     pub from: Option<Vec<Network>>,
     /// The key that a Stream ID must have: 1 to 64 bytes.
     pub key: Option<String>,
@@ -94,7 +105,8 @@ pub struct Rules {
     pub callers: Callers,
     /// The number of slots reserved for publishers: 0 to 2, and fewer than the route's sessions.
     pub reserved: u32,
-    /// The maximum number of open sessions of one IP address, on all its ports: 1 to 17; no separate limit if `None`.
+    /// The maximum number of open sessions of one site, on all ports: 1 to 17; no separate limit if `None`. An IPv4
+    /// address is a site, and so are the IPv6 addresses that have their first 64 bits in common.
     pub sessions_per_address: Option<u32>,
     /// The time without a data packet of the active publisher after which the standby takes over, in milliseconds: 100
     /// to 5000. Unused in buffer mode. If `None`, the standby takes over only when the active publisher's session has

@@ -1,6 +1,7 @@
 //! Numbers and times next to the values at which they wrap.
 
-use crate::{Msg26, Seq31, Stamp32, read_word, write_at};
+use crate::{Msg26, Network, Seq31, Stamp32, is_same_site, read_word, write_at};
+use std::net::Ipv6Addr;
 use std::test::Fail;
 
 fn number(word: u32) -> Result<Seq31, Fail> {
@@ -64,5 +65,74 @@ fn words_stand_greatest_byte_first(rt: HostRuntime) -> Result<(), Fail> {
     assert_eq!(rt; end, 8);
     assert_eq!(rt; read_word(&bytes, 4), 0x8002_0005);
     assert_eq!(rt; read_word(&bytes, 0), 0);
+    Ok(())
+}
+
+fn bytes_of(address: &str) -> Result<[u8; 16], Fail> {
+    let address: Ipv6Addr = address.parse()?;
+    Ok(address.octets())
+}
+
+/// Whether the network with this first address and prefix contains the address.
+fn is_in(first: &str, prefix: u32, address: &str) -> Result<bool, Fail> {
+    if prefix > 128 {
+        return Err(Fail::from("a prefix of at most 128 bits"));
+    }
+    match Network::of_ipv6_prefix(u128::from_be_bytes(bytes_of(first)?), prefix) {
+        Some(network) => Ok(network.contains(&bytes_of(address)?)),
+        None => Err(Fail::from("a network")),
+    }
+}
+
+/// A network's first address and its prefix, an address, and whether it is in the network.
+type NetworkRow = (&'static str, u32, &'static str, bool);
+
+const NETWORKS: [NetworkRow; 10] = [
+    ("::", 0, "2001:db8::7", true),
+    ("::", 0, "::ffff:192.0.2.7", false),
+    ("::", 80, "::ffff:192.0.2.7", false),
+    (
+        "2001:db8::",
+        32,
+        "2001:db8:ffff:ffff:ffff:ffff:ffff:ffff",
+        true,
+    ),
+    ("2001:db8::", 32, "2001:db9::", false),
+    ("2001:db8:0:0:8000::", 65, "2001:db8::ffff:0:0:7", true),
+    ("2001:db8:0:0:8000::", 65, "2001:db8::7fff:0:0:7", false),
+    ("2001:db8::7", 128, "2001:db8::7", true),
+    ("2001:db8::7", 128, "2001:db8::6", false),
+    ("::1", 128, "::ffff:0.0.0.1", false),
+];
+
+#[test]
+fn networks_of_ipv6_have_their_first_bits_in_common(rt: HostRuntime) -> Result<(), Fail> {
+    for (first, prefix, address, is_contained) in NETWORKS {
+        assert_eq!(rt; is_in(first, prefix, address)?, is_contained);
+    }
+    assert!(rt; Network::of_ipv6_prefix(1, 127).is_none());
+    assert!(rt; Network::of_ipv6_prefix(1, 0).is_none());
+    Ok(())
+}
+
+/// Two addresses, and whether they are of the same site.
+type SiteRow = (&'static str, &'static str, bool);
+
+const SITES: [SiteRow; 5] = [
+    ("2001:db8::1", "2001:db8::ffff:0:0:1", true),
+    ("2001:db8::1", "2001:db8:0:1::1", false),
+    ("::1", "::ffff:0.0.0.1", false),
+    ("::ffff:192.0.2.7", "::ffff:192.0.2.7", true),
+    ("::ffff:192.0.2.7", "::ffff:192.0.2.8", false),
+];
+
+#[test]
+fn a_site_is_an_ipv4_address_or_64_bits(rt: HostRuntime) -> Result<(), Fail> {
+    for (address, other, is_same) in SITES {
+        assert_eq!(rt;
+            is_same_site(&bytes_of(address)?, &bytes_of(other)?),
+            is_same
+        );
+    }
     Ok(())
 }
