@@ -38,9 +38,13 @@ unwrap_after key state n all zero = state
 unwrap_after key state n all (suc steps) =
     unwrap_step key (unwrap_after key state n all steps) ((all - steps - 1) % n + 1) (all - steps)
 
+-- what unwrapping makes of a wrapped text: A, and the text behind it
+abbrev pub unwrapped : (key wrapped : List ℕ) → List ℕ
+unwrapped key wrapped =
+    let n = length wrapped / 8 - 1 in unwrap_after key wrapped n (6 * n) (6 * n)
+
 -- the text that was wrapped, or nothing if the initial value that comes out is another (section 2.2.2)
 abbrev pub unwrap : (key wrapped : List ℕ) → Option (List ℕ)
 unwrap key wrapped =
-    let n = length wrapped / 8 - 1 in
-    let state = unwrap_after key wrapped n (6 * n) (6 * n) in
+    let state = unwrapped key wrapped in
     if bytes_eq (take 8 state) initial_value then Some (drop 8 state) else None

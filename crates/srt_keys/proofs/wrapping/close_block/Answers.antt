@@ -1,0 +1,26 @@
+use Rattle.std.proofs.Common.{◌≡◌, ◌∙◌, ℕ, List, ◌++◌, ◌+◌, ◌-◌, ◌*◌, ap, arith, take, drop, bit_xor}
+use Rattle.std.specs.Int.{w64, to_be_bytes}
+use lib.Lanes.{zip2}
+use Rattle.srt_aes.specs.Aes.{aes}
+use Rattle.srt_aes.specs.Keys.{key_of}
+use Rattle.srt_keys.proofs.Stepping.{replaced}
+use Rattle.srt_keys.proofs.wrapping.close_block.Goals as goal
+
+pub returns-clause-step : goal.returns-clause-step
+returns-clause-step c =
+    let key = key_of c.args.key.now in
+    let state = c.args.state.now in
+    let index = c.args.index in
+    let count = to_be_bytes w64 c.args.count in
+    let closed = c.encrypt-closed.result in
+    let b = aes key (take 8 state ++ take 8 (drop (8 * index) state)) in
+    let eight : 8 * index + 8 - 8 * index ≡ 8 = omega arith in
+    let made : closed ≡ b =
+    c.encrypt-closed.ensures ∙ ap (aes key) (c.paired-pair.ensures ∙
+    ap (λ (m : ℕ). take 8 state ++ take m (drop (8 * index) state)) eight) in
+    c.put-2.ensures ∙ ap (λ (v : List ℕ). v ++ drop 8 c.put.new.state) c.counted.ensures ∙
+    ap (λ (v : List ℕ). zip2 bit_xor (take 8 closed) count ++ drop 8 v) (c.put.ensures ∙
+    ap (λ (v : List ℕ). take (8 * index) state ++ v ++ drop (8 * index + 8) state) c.second_half.ensures.half) ∙
+    replaced state (drop 8 closed) (zip2 bit_xor (take 8 closed) count) index c.requires.some c.requires.within ∙
+    ap (λ (v : List ℕ). zip2 bit_xor (take 8 v) count ++ take (8 * index - 8) (drop 8 state) ++ drop 8 v ++
+    drop (8 * index + 8) state) made
