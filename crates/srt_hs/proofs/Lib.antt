@@ -3,3 +3,5 @@ pub mod Steps
 pub mod Blocks
 pub mod Spelled
 pub mod Back
+pub mod Keys
+pub mod Requests

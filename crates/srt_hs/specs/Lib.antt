@@ -4,3 +4,7 @@ pub mod View
 pub mod Text
 pub mod Tie
 pub mod RoundTrip
+pub mod KeyMessage
+pub mod KeyView
+pub mod KeyRequest
+pub mod KeyAsked

@@ -2,6 +2,7 @@
 
 ghost use Rattle.srt_hs.specs.Tie.{ReadingIsSpelling, FaultIsTheFirst};
 ghost use Rattle.srt_hs.specs.RoundTrip.{WhatIsWrittenReadsBack, HsrspReadsBack};
+ghost use Rattle.srt_hs.specs.KeyMessage.{KeyReadingIsSpelling, KeysReadBack};
 
 /// Reading returns the handshake that the bytes encode, or the first fault from the left.
 pub fn reading()
@@ -14,4 +15,10 @@ pub fn reading()
 pub fn round_trip()
     ensures answer { WhatIsWrittenReadsBack }
     ensures hsrsp { HsrspReadsBack }
+{}
+
+/// Reading a key material message returns the one that the bytes encode, and a written message reads back.
+pub fn key_messages()
+    ensures spelled { KeyReadingIsSpelling }
+    ensures back { KeysReadBack }
 {}

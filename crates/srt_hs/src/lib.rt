@@ -12,12 +12,19 @@
 //! Encoding: fill an [`HsAnswer`] with an [`AnswerKind`] and [`write`] it, all in `writing.rt`. [`RefusalCode`], in
 //! `refusals.rt`, lists each reason for a refusal with its causes.
 //!
+//! Keys: [`key_request`] (`key_requests.rt`) finds the KMREQ block in the same bytes. [`read_key_message`] and
+//! [`write_key_message`] (`key_reading.rt`) read its contents as a [`KeyMessageRef`] (`key_message.rt`), or return the first
+//! [`KeyFault`], and write them. `specs/KeyMessage.antt` and `specs/KeyRequest.antt` define both.
+//!
 //! `specs/Grammar.antt` defines which bytes encode which handshake, and the faults; `specs/Text.antt` defines what is
 //! written.
 #![tactic(auto)]
 
 mod contents;
 mod handshake;
+mod key_message;
+mod key_reading;
+mod key_requests;
 pub mod laws;
 mod reading;
 mod refusals;
@@ -27,6 +34,9 @@ pub use contents::{congestion, stream_id};
 pub use handshake::{
     BlocksRef, CongestionRef, CongestionText, HsFault, HsKind, HsRef, HsReq, StreamIdRef,
 };
+pub use key_message::{KeyFault, KeyMessageRef, SentKeys};
+pub use key_reading::{read_key_message, write_key_message};
+pub use key_requests::{KeyRequest, key_request};
 pub use reading::read;
 pub use refusals::RefusalCode;
 pub use writing::{AnswerKind, HsAnswer, write};

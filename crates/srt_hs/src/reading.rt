@@ -10,7 +10,7 @@ use crate::{BlocksRef, CongestionRef, HsFault, HsKind, HsRef, HsReq, StreamIdRef
 use srt_types::read_word;
 
 /// Returns the 16-bit number that the two bytes at the offset `at` encode, in network byte order.
-fn read_half(bytes: &[u8], at: usize) -> u16
+pub(crate) fn read_half(bytes: &[u8], at: usize) -> u16
     requires { at + 2 ≤ length bytes.now }
     ensures { result ≡ half_at bytes.now at }
 {

@@ -1,3 +1,4 @@
 pub mod Agreement
 pub mod Parts
 pub mod Sent
+pub mod KeyPackets

@@ -5,3 +5,4 @@ pub mod Text
 pub mod Sent
 pub mod Held
 pub mod Encoded
+pub mod KeyPacket

@@ -10,17 +10,25 @@
 //! Encoding, in `writing.rt`: fill a [`Packet`] with a [`Body`], and [`encode`] it. Each packet has exactly one
 //! encoding here. An [`EncodedPacket`], in `encoded.rt`, holds the bytes of a packet until they are sent.
 //!
+//! Packets that bring key material messages, KMREQ and KMRSP, are [`Kind::UserDefined`] for these functions. `key_codec.rt`
+//! reads and writes them: [`decode_key_packet`] and [`encode_key_packet`], with a [`KeyPacketRef`] (`key_packet.rt`);
+//! `specs/KeyPacket.antt` defines them.
+//!
 //! `specs/Grammar.antt` defines which bytes encode which packet, `specs/Reading.antt` the faults and their order, and
 //! `specs/Text.antt` the bytes that are written. `laws.rt` connects the three: what is written reads back as the same
 //! packet.
 #![tactic(auto)]
 
 mod encoded;
+mod key_codec;
+mod key_packet;
 pub mod laws;
 mod reading;
 mod writing;
 
 pub use encoded::EncodedPacket;
+pub use key_codec::{decode_key_packet, encode_key_packet};
+pub use key_packet::{KeyPacketKind, KeyPacketRef};
 pub use reading::{Kind, PacketFault, PacketRef, decode, decode_parts};
 pub use writing::{Body, Packet, Rates, encode};
 

@@ -3,6 +3,8 @@
 ghost use Rattle.std.specs.Prelude.{◌≡◌};
 ghost use Rattle.srt_packet.specs.Text.{IsWritable};
 
+mod keys;
+
 use crate::{Body, EncodedPacket, Kind, Packet, PacketFault, Rates, decode, decode_parts, encode};
 use arrayvec::ArrayVec;
 use srt_types::{Msg26, PayloadRef, Seq31};

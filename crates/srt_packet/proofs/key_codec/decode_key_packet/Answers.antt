@@ -1,0 +1,8 @@
+use Rattle.srt_packet.proofs.KeyPackets.{found_by, only_by}
+use Rattle.srt_packet.proofs.key_codec.decode_key_packet.Goals as goal
+
+pub returns-clause-found : goal.returns-clause-found
+returns-clause-found c = found_by c.args.bytes.now c.parse.result c.parse.ensures
+
+pub returns-clause-only : goal.returns-clause-only
+returns-clause-only c = only_by c.args.bytes.now c.parse.result c.parse.ensures

@@ -1,0 +1,93 @@
+//! Packets that bring key material messages, decoded and encoded (draft-sharabayko-srt-01, section 3.2.2).
+
+ghost use Rattle.std.specs.Prelude.{◌≡◌, ℕ, ◌+◌, ◌≤◌, ◌++◌, length, take, drop, IfSome, IsSomeAnd, Some};
+ghost use Rattle.srt_types.specs.Words.{word};
+ghost use Rattle.srt_packet.specs.KeyPacket.{KeyPacket as ThePacket, SpellsKeyPacket, key_word0, key_kind_of, key_packet_in, key_packet_text};
+ghost use Rattle.srt_packet.specs.KeyPacket.{key_packet_of, key_packet_read};
+
+use crate::key_packet::{KeyPacketKind, KeyPacketRef};
+use srt_types::limits::MAX_DATAGRAM;
+use srt_types::{read_word, write_at};
+
+fn kind_of(word0: u32) -> Option<KeyPacketKind>
+    ensures { result ≡ key_kind_of word0 }
+{
+    match word0 {
+        0xffff_0003 => Some(KeyPacketKind::Request),
+        0xffff_0004 => Some(KeyPacketKind::Response),
+        _ => None,
+    }
+}
+
+/// The result of [`decode_key_packet`].
+fn parse(bytes: &[u8]) -> Option<KeyPacketRef<'_>>
+    ensures { key_packet_read result ≡ key_packet_in bytes.now }
+{
+    if bytes.len() < 16 {
+        return None;
+    }
+    if bytes.len() > MAX_DATAGRAM {
+        return None;
+    }
+    match kind_of(read_word(bytes, 0)) {
+        None => None,
+        Some(kind) => Some(KeyPacketRef {
+            stamp: read_word(bytes, 8),
+            dest: read_word(bytes, 12),
+            kind,
+            info: &bytes[16..],
+        }),
+    }
+}
+
+/// Reads the bytes of a datagram as a packet that brings a key material message: a KMREQ or a KMRSP. None if they are no
+/// packet, or another one. The message isn't checked. [`decode`](crate::decode) reads the same bytes as
+/// [`UserDefined`](crate::Kind::UserDefined). Copies nothing. O(1).
+pub fn decode_key_packet(bytes: &[u8]) -> Option<KeyPacketRef<'_>>
+    // The result as a function of the bytes.
+    ensures value { key_packet_read result ≡ key_packet_in bytes.now }
+    // The bytes encode the returned packet.
+    ensures found { IfSome result (λ p. SpellsKeyPacket bytes.now (key_packet_of p)) }
+    // A packet that the bytes encode is returned.
+    ensures only { (packet : ThePacket) → SpellsKeyPacket bytes.now packet → IsSomeAnd result (λ p. key_packet_of p ≡ packet) }
+{
+    parse(bytes)
+}
+
+fn word0(kind: KeyPacketKind) -> u32
+    ensures { result ≡ key_word0 kind }
+{
+    match kind {
+        KeyPacketKind::Request => 0xffff_0003,
+        KeyPacketKind::Response => 0xffff_0004,
+    }
+}
+
+/// Writes the four words of the header, and returns 16.
+fn write_header(kind: KeyPacketKind, stamp: u32, dest: u32, out: &mut [u8; 1472]) -> usize
+    ensures end { result ≡ 16 }
+    ensures written { take result out.new ≡ word (key_word0 kind) ++ word 0 ++ word stamp ++ word dest }
+    ensures kept { (k : ℕ) → result ≤ k → drop k out.new ≡ drop k out.old }
+{
+    let mut end = write_at(out, 0, &word0(kind).to_be_bytes());
+    end = write_at(out, end, &[0; 4]);
+    end = write_at(out, end, &stamp.to_be_bytes());
+    write_at(out, end, &dest.to_be_bytes())
+}
+
+/// Writes a packet to the front of the buffer, and returns its length in bytes: 16, and those of the message, which has at
+/// most 1456. The rest of the buffer is unchanged. Word 1 is written as 0. Linear in the length; doesn't allocate.
+pub fn encode_key_packet(packet: &KeyPacketRef<'_>, out: &mut [u8; 1472]) -> usize
+    requires { length packet.now.info.now ≤ 1456 }
+    ensures within { result ≤ 1472 }
+    ensures len { result ≡ 16 + length packet.now.info.now }
+    ensures written { take result out.new ≡ key_packet_text (key_packet_of packet.now) }
+    ensures kept { drop result out.new ≡ drop result out.old }
+    // Reading what is written returns the same packet.
+    ensures read { key_packet_in (take result out.new) ≡ Some (key_packet_of packet.now) }
+{
+    let stamp = packet.stamp;
+    let dest = packet.dest;
+    let end = write_header(packet.kind, stamp, dest, out);
+    write_at(out, end, packet.info)
+}
