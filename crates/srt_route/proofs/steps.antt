@@ -5,6 +5,7 @@ pub mod Slots
 pub mod Telling
 pub mod Noted
 pub mod Starting
+pub mod Resting
 pub mod Steps
 pub mod Taking
 pub mod Feeding

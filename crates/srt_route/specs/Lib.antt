@@ -3,6 +3,7 @@ pub mod Conclusions
 pub mod Past
 pub mod Sessions
 pub mod Route
+pub mod Rests
 pub mod Shifted
 pub mod ShiftLaws
 pub mod Relabel

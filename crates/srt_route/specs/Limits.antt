@@ -28,7 +28,7 @@ NoneIsKeptFromPublishers =
     (e : Terms) (index clock : ℕ) (items : List Item) (peer : Peer) (c : Conclusion) → publishes c.role ≡ true
     → decision e peer c (advanced e clock (after e index items).sessions) ≡ Err causes.Reserved → ⊥
 
--- an IP address has at most as many open sessions as the route allows for one address
+-- the site of an IP address has at most as many open sessions as the route allows for one
 abbrev pub FewOfAnAddress : Type 0
 FewOfAnAddress =
     (e : Terms) (index limit : ℕ) (items : List Item) (ip : List ℕ)

@@ -11,6 +11,7 @@ use Rattle.srt_types.specs.declared.shared.Callers.{Callers}
 use Rattle.srt_types.specs.declared.shared.Callers.TheVariants.{Draft, Libsrt}
 use Rattle.srt_types.specs.declared.shared.Role.{Role}
 use Rattle.srt_types.specs.declared.shared.Role.TheVariants.{Publish, Request}
+use Rattle.srt_types.specs.Access.{is_same_site}
 use Rattle.srt_types.specs.Lift.{stamped_from}
 use Rattle.srt_types.specs.Runs.{numbers_from}
 use Rattle.srt_types.specs.Terms.{Terms}
@@ -167,9 +168,9 @@ is_free sessions slot = not (list_any (is_open_in slot) sessions)
 abbrev pub free_slots : Terms → List Session → ℕ
 free_slots e sessions = length (filter (is_free sessions) (numbers_from 0 e.sessions))
 
--- the number of open sessions of an IP address, whatever their ports
+-- the number of open sessions of the site of an IP address, whatever their ports
 abbrev pub is_from : (ip : List ℕ) → Session → Bool
-is_from ip s = s.is_open && bytes_eq s.peer.ip ip
+is_from ip s = s.is_open && is_same_site s.peer.ip ip
 
 abbrev pub sessions_from : (ip : List ℕ) → List Session → ℕ
 sessions_from ip sessions = length (filter (is_from ip) sessions)

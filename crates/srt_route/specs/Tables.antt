@@ -2,9 +2,9 @@
 use Rattle.std.specs.Prelude.{◌≡◌, ℕ, ◌%◌, ◌^◌, ◌<◌, Bool, true, false, Option, None, Some, List, [], ◌∷◌, map, length, find}
 use Rattle.std.specs.Prelude.{slice_index_or, option_map, not, ◌==◌, ◌&&◌, if◌then◌else◌, ⊤}
 use Rattle.std.specs.Option.{is_some, option_to_list}
-use Rattle.std.specs.Str.{bytes_eq}
 use Rattle.srt_types.specs.declared.shared.Peer.{Peer}
 use Rattle.srt_types.specs.declared.shared.Mode.{Mode}
+use Rattle.srt_types.specs.Access.{is_same_site}
 use Rattle.srt_types.specs.Terms.{Terms}
 use Rattle.srt_types.specs.Items.{Datagram}
 use Rattle.srt_route.specs.declared.replies.Reply.{Reply as TheReply}
@@ -158,9 +158,9 @@ has_draining seat = session_passes (λ t. is_some t.drains) seat.session
 abbrev pub publishes_from : (which : PublisherBuffers) → Seat → Bool
 publishes_from which seat = session_passes (λ t. publishes t.role && is_same t.buffers which) seat.session
 
--- whether a session of this address is open in a seat
+-- whether a session of this address's site is open in a seat
 abbrev pub has_address : (ip : List ℕ) → Seat → Bool
-has_address ip seat = session_passes (λ t. bytes_eq t.peer.ip ip) seat.session
+has_address ip seat = session_passes (λ t. is_same_site t.peer.ip ip) seat.session
 
 abbrev pub has_subscriber : Seat → Bool
 has_subscriber seat = session_passes (λ t. not (publishes t.role)) seat.session

@@ -19,9 +19,7 @@ use crate::view::SessionView;
 use srt_hs::RefusalCode;
 use srt_packet::Kind;
 use srt_pub::PubEnd;
-
-/// The most sessions that a route has at once.
-const SLOTS: usize = 17;
+use srt_types::product_limits::MAX_SESSIONS;
 
 /// Why a session ended.
 #[derive(Clone, Copy, Debug, PartialEq, Eq)]
@@ -74,7 +72,7 @@ pub(crate) struct Refusals {
 #[derive(Drop)]
 pub(crate) struct Ledger {
     /// The session that ended last in each slot.
-    pub ended: [Option<EndedSession>; SLOTS],
+    pub ended: [Option<EndedSession>; MAX_SESSIONS],
     /// The sums of the counts of ended sessions.
     pub totals: Totals,
     /// Sessions that opened: saturates at 2^64 - 1.
@@ -145,7 +143,7 @@ impl Ledger {
         ensures totals { result.totals ≡ no_totals }
     {
         Ledger {
-            ended: [None; SLOTS],
+            ended: [None; MAX_SESSIONS],
             totals: Totals::none(),
             opened: 0,
             refusals: Refusals {

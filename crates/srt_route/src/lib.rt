@@ -11,7 +11,7 @@
 //! open session with its counts, an `EndedSession` one of a session that ended. A `Ledger` keeps the last ended session
 //! of each slot, and the route's counts.
 //!
-//! Calls: `Route::open`; then `step` for each item, and `next_reply` until it returns false, before the next `step`.
+//! Calls: `Route::open`, or `Route::open_resting`; then `step` for each item, and `next_reply` until it returns false, before the next `step`.
 //! `session` returns a snapshot of a slot at any time and changes nothing (`view.rt`), as do `ended`, `opened`,
 //! `refused`, `refused_for` and `totals`.
 //!
@@ -25,10 +25,11 @@
 //! - 4: `delivery.rt` delivers payloads, and `draining.rt` ends sessions that have drained.
 //! - 5 and 6: `transmit.rt` sends the publishers' packets and then the subscribers'.
 //!
-//! Other modules: `files.rt` has the end of a file, and which subscribers have all of it; `standby.rt`, which of two
-//! publishers is active; `socket_ids.rt`, the socket IDs; `reply_queue.rt`, the waiting replies; `ledger.rt` and
-//! `totals.rt`, what is kept of ended sessions. The definition of a route is in `specs/Route.antt`, those of ends and
-//! counts in `specs/Ends.antt` and `specs/Tallies.antt`.
+//! Other modules: `resting.rt` opens a route that continues where another one rests; `files.rt` has the end of a file,
+//! and which subscribers have all of it; `standby.rt`, which of two publishers is active; `socket_ids.rt`, the socket
+//! IDs; `reply_queue.rt`, the waiting replies; `ledger.rt` and `totals.rt`, what is kept of ended sessions. The
+//! definition of a route is in `specs/Route.antt`, those of ends and counts in `specs/Ends.antt` and
+//! `specs/Tallies.antt`.
 #![tactic(auto)]
 
 mod admission;
@@ -49,6 +50,7 @@ mod publisher_buffers;
 mod refusals;
 mod replies;
 mod reply_queue;
+mod resting;
 mod route;
 mod seat;
 mod socket_ids;

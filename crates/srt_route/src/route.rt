@@ -80,6 +80,7 @@ impl Route {
     ghost use Rattle.srt_route.specs.Totals.{SumsGrow, no_totals, totals_of_ended};
     ghost use Rattle.srt_route.specs.Tallies.{no_tally, tally_after, tally_in};
     ghost use Rattle.srt_route.specs.Stands.{stands, waiting, places};
+    ghost use Rattle.srt_route.specs.Rests.{RestsAs};
 
     /// Opens a route without sessions, at clock 0. `index` is the route's position in the configuration, below 511.
     /// Allocates all memory that the route will ever need: the buffers of its sessions, 66 replies for each session and
@@ -97,7 +98,30 @@ impl Route {
         ensures memory { fault_of (terms_of entry.now) index ≡ None → IfErr result (λ fault. fault ≡ OpenFault.OutOfMemory) }
     {
         check_entry(entry, index)?;
-        let table = Table::open(alloc, entry, index)?;
+        Route::open_checked(alloc, entry, index, 0, &[])
+    }
+
+    /// Opens a route at rest, with this clock, whose slots have these generations; 0 where none is given. The entry, the
+    /// index and the clock were checked. Allocates as `open` does.
+    pub(crate) fn open_checked(
+        alloc: Global,
+        entry: &Entry,
+        index: usize,
+        clock: u64,
+        generations: &[u16],
+    ) -> Result<Route, OpenFault>
+        requires sound { fault_of (terms_of entry.now) index ≡ None }
+        requires early { clock < 2 ^ 62 }
+        ensures stands { IfOk result (λ route. (items : List TheItem) →
+            RestsAs (terms_of entry.now) index items clock generations.now → stands route (terms_of entry.now) index items) }
+        ensures none_waits { IfOk result (λ route. waiting route ≡ []) }
+        ensures none_ended { IfOk result (λ route. (slot : ℕ) → ended_in slot route ≡ None) }
+        ensures tally { IfOk result (λ route. tally_in route ≡ no_tally) }
+        ensures totals { IfOk result (λ route. totals_of_ended route ≡ no_totals) }
+        ensures room { IfOk result (λ route. places route ≡ 4 + 66 * entry.now.sessions) }
+        ensures memory { IfErr result (λ fault. fault ≡ OpenFault.OutOfMemory) }
+    {
+        let table = Table::open(alloc, entry, index, generations)?;
         let room = 4 + 66 * (entry.sessions as usize);
         let Ok(waiting) = ReplyQueue::open(alloc, room) else {
             return Err(OpenFault::OutOfMemory);
@@ -106,7 +130,7 @@ impl Route {
             return Err(OpenFault::OutOfMemory);
         };
         Ok(Route {
-            clock: 0,
+            clock,
             table,
             scratch,
             waiting,

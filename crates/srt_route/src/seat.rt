@@ -1,7 +1,7 @@
 //! Seats: each slot's session and buffers.
 
 ghost use Rattle.std.specs.Prelude.{◌≡◌, ℕ, ◌+◌, ◌*◌, ◌%◌, ◌^◌, ◌<◌, ◌≤◌, true, false, None, Some, position, length, option_map, count_by, if◌then◌else◌};
-ghost use Rattle.std.specs.List.{list_any};
+ghost use Rattle.std.specs.List.{list_all, list_any};
 ghost use Rattle.srt_types.specs.Given.{given};
 ghost use Rattle.srt_route.specs.Sessions.{is_same_peer, publishes};
 ghost use Rattle.srt_route.specs.Tables.{is_session_of, session_passes, holds, has_address, has_publisher, has_subscriber, used_buffers, publishes_from};
@@ -14,7 +14,7 @@ use crate::publisher_buffers::PublisherBuffers;
 use crate::replies::Reply;
 use srt_hs::HsAnswer;
 use srt_sub::Subscriber;
-use srt_types::{Peer, Role};
+use srt_types::{Peer, Role, is_same_site};
 
 /// An open session.
 #[derive(Drop)]
@@ -108,12 +108,12 @@ impl Seat {
         }
     }
 
-    /// Whether a session of this address is open here, whatever the port.
+    /// Whether a session of this address's site is open here, whatever the port.
     fn has_address(&self, peer: Peer) -> bool
         ensures { result ≡ has_address peer.ip self.now }
     {
         match &self.session {
-            Some(session) => session.peer.ip == peer.ip,
+            Some(session) => is_same_site(&session.peer.ip, &peer.ip),
             None => false,
         }
     }
@@ -154,12 +154,12 @@ impl Seat {
         self.session.is_none()
     }
 
-    /// Returns a seat with these buffers in which no session was opened yet.
-    pub fn vacant(subscriber: Subscriber) -> Seat
-        ensures { result ≡ record { generation = 0; session = None; subscriber = subscriber } }
+    /// Returns a seat with these buffers in which so many sessions were opened, modulo 2^16, and none is open.
+    pub fn vacant(generation: u16, subscriber: Subscriber) -> Seat
+        ensures { result ≡ record { generation = generation; session = None; subscriber = subscriber } }
     {
         Seat {
-            generation: 0,
+            generation,
             session: None,
             subscriber,
         }
@@ -323,4 +323,11 @@ pub fn free_slot(seats: &[Seat]) -> Option<usize>
     ensures { result ≡ position is_vacant seats.now }
 {
     seats.iter().position(|seat| seat.is_vacant())
+}
+
+/// Whether no session is open in any seat.
+pub fn are_vacant(seats: &[Seat]) -> bool
+    ensures { result ≡ list_all is_vacant seats.now }
+{
+    seats.iter().all(|seat| seat.is_vacant())
 }

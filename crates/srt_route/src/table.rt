@@ -1,6 +1,6 @@
 //! A route's sessions and their buffers.
 
-ghost use Rattle.std.specs.Prelude.{◌≡◌, ◌<◌, ◌≤◌, [], None, length, IfOk, IfErr};
+ghost use Rattle.std.specs.Prelude.{◌≡◌, ◌<◌, ◌≤◌, ◌^◌, ℕ, None, length, slice_index_or, IfOk, IfErr};
 
 use crate::publisher_buffers::PublisherBuffers;
 use crate::seat::Seat;
@@ -34,9 +34,22 @@ pub struct Table {
     pub ghost two: { length publishers.items ≡ 2 },
 }
 
+/// Returns the generation of a slot; 0 if none is given for it.
+fn generation_at(generations: &[u16], slot: usize) -> u16
+    ensures { result ≡ slice_index_or generations.now slot 0 }
+{
+    if slot < generations.len() {
+        generations[slot]
+    } else {
+        0
+    }
+}
+
 impl Table {
     ghost use Rattle.srt_types.specs.Terms.{terms_of};
     ghost use Rattle.srt_route.specs.Opening.{fault_of};
+    ghost use Rattle.srt_route.specs.Rests.{IsResting};
+    ghost use Rattle.srt_route.specs.Route.{Route};
     ghost use Rattle.srt_route.specs.Tables.{IsTable, AreWide};
 
     /// Allocates the buffers of two publishers, each with a window of `buffer` packets.
@@ -52,10 +65,17 @@ impl Table {
         Ok(publishers)
     }
 
-    /// Opens the table of a route without sessions, at clock 0. Allocates all buffers.
-    pub fn open(alloc: Global, entry: &Entry, index: usize) -> Result<Table, OpenFault>
+    /// Opens the table of a route at rest, whose slots have these generations; 0 where none is given. Allocates all
+    /// buffers.
+    pub fn open(
+        alloc: Global,
+        entry: &Entry,
+        index: usize,
+        generations: &[u16],
+    ) -> Result<Table, OpenFault>
         requires { fault_of (terms_of entry.now) index ≡ None }
-        ensures empty { IfOk result (λ table. IsTable (terms_of entry.now) index 0 table []) }
+        ensures rests { IfOk result (λ table. (m : Route) (clock : ℕ) → clock < 2 ^ 62 →
+            IsResting entry.now.sessions m clock generations.now → IsTable (terms_of entry.now) index clock table m.sessions) }
         ensures memory { IfErr result (λ fault. fault ≡ OpenFault.OutOfMemory) }
     {
         let Ok(publishers) = Table::open_publishers(alloc, entry.buffer) else {
@@ -69,7 +89,8 @@ impl Table {
             let Ok(subscriber) = Subscriber::open(alloc, entry.buffer) else {
                 return Err(OpenFault::OutOfMemory);
             };
-            let Ok(()) = seats.push(Seat::vacant(subscriber)) else {
+            let generation = generation_at(generations, seats.len());
+            let Ok(()) = seats.push(Seat::vacant(generation, subscriber)) else {
                 return Err(OpenFault::OutOfMemory);
             };
         }

@@ -1,12 +1,13 @@
 -- A bound on the open sessions that pass a test holds if every opening keeps it.
 use Rattle.std.proofs.Common.{◌≡◌, ℕ, zero, suc, ◌+◌, ◌-◌, ◌<◌, ◌≤◌, ◌==◌, ◌&&◌, ◌||◌, not, nat_le, nat_lt, Bool, true, false, cond, Option, None, Some}
-use Rattle.std.proofs.Common.{List, [], ◌∷◌, map, find, Result, Ok, Err, refl, sym, ap, ◌∙◌, arith}
+use Rattle.std.proofs.Common.{List, [], ◌∷◌, length, filter, map, find, Result, Ok, Err, refl, sym, ap, ◌∙◌, arith}
 use Rattle.std.specs.Option.{is_some}
 use Rattle.std.specs.Str.{bytes_eq}
 use Rattle.std.proofs.lemmas.Bool.{and_from, and_parts}
 use Rattle.std.proofs.lemmas.Bool.Decides.{nat_tests}
 use Rattle.std.proofs.lemmas.Slice.Eq.{bytes_eq-Decides}
 use Rattle.srt_types.specs.declared.shared.Peer.{Peer}
+use Rattle.srt_types.specs.Access.{site, is_same_site}
 use Rattle.srt_types.specs.Runs.{numbers_from}
 use Rattle.srt_types.specs.declared.shared.Callers.{Callers}
 use Rattle.srt_types.specs.declared.shared.Callers.TheVariants.{Draft, Libsrt}
@@ -215,8 +216,8 @@ subscribers_stay f keeps s h =
 
 addresses_stay : (ip : List ℕ) → Stays (is_from ip)
 addresses_stay ip f keeps s h =
-    let parts = and_parts (f s).is_open (bytes_eq (f s).peer.ip ip) h in
-    and_from s.is_open (bytes_eq s.peer.ip ip) (keeps.opens_none s parts.0) (rw (← keeps.peer s) parts.1)
+    let parts = and_parts (f s).is_open (is_same_site (f s).peer.ip ip) h in
+    and_from s.is_open (is_same_site s.peer.ip ip) (keeps.opens_none s parts.0) (rw (← keeps.peer s) parts.1)
 
 -- a subscriber's session opens only while more slots are free than are reserved
 kept_open : (e : Terms) → OpensWithin e is_subscriber (e.sessions - e.rules.reserved)
@@ -244,9 +245,9 @@ kept_open e clock peer stamp c ss slot alone is few = by (publishes c.role) refl
           by_role ss,
         )
 
--- a session of an address opens only while fewer are open
+-- a session of a site opens only while fewer are open
 address_opens : (e : Terms) (limit : ℕ) (ip : List ℕ) → e.rules.sessions_per_address ≡ Some limit → OpensWithin e (is_from ip) limit
-address_opens e limit ip limit_is clock peer stamp c ss slot alone is few = by (bytes_eq peer.ip ip) refl
+address_opens e limit ip limit_is clock peer stamp c ss slot alone is few = by (is_same_site peer.ip ip) refl
   where
     s : Session
     s = session_opened clock peer stamp c slot (generation_of ss slot)
@@ -257,10 +258,13 @@ address_opens e limit ip limit_is clock peer stamp c ss slot alone is few = by (
     fewer : (count : ℕ) → nat_le limit count ≡ false → count < limit
     fewer count h = grind (arith, nat_tests, h)
 
-    by : (b : Bool) → bytes_eq peer.ip ip ≡ b → how_many (is_from ip) (s ∷ ss) ≤ limit
+    among : (there : List ℕ) → ℕ
+    among there = length (filter (λ (t : Session). t.is_open && bytes_eq (site t.peer.ip) there) ss)
+
+    by : (b : Bool) → is_same_site peer.ip ip ≡ b → how_many (is_from ip) (s ∷ ss) ≤ limit
     by false other = omega (arith, one_more (is_from ip) s ss false other, few)
     by true mine =
-        let same : sessions_from peer.ip ss ≡ sessions_from ip ss = ap (λ (xs : List ℕ). sessions_from xs ss) ((bytes_eq-Decides peer.ip ip).0 mine) in
+        let same : sessions_from peer.ip ss ≡ sessions_from ip ss = ap among ((bytes_eq-Decides (site peer.ip) (site ip)).0 mine) in
         omega (arith, one_more (is_from ip) s ss true mine, fewer (sessions_from peer.ip ss) test, same)
 
 few_kept : (e : Terms) (index : ℕ) → fault_of e index ≡ None → e.rules.reserved ≤ e.sessions

@@ -1,9 +1,9 @@
 -- A session opens.
 use Rattle.std.proofs.Common.{◌≡◌, ◌⊎◌, ℕ, ◌+◌, ◌-◌, ◌*◌, ◌%◌, ◌<◌, ◌≤◌, ◌==◌, ◌&&◌, nat_lt, Bool, true, false, cond, Option, None}
-use Rattle.std.proofs.Common.{Some, List, [], ◌∷◌, ◌++◌, length, find, get_or, set, refl, sym, ap, subst, ◌∙◌, ◌≢◌, inl, inr, arith}
-use Rattle.std.proofs.lemmas.Bool.{cases_Bool, cases_eq, cases_lt, and_parts, eqb-true, eq-eqb, false_from_ne_true}
+use Rattle.std.proofs.Common.{Some, List, ◌∷◌, length, find, get_or, set, refl, sym, ap, subst, ◌∙◌, ◌≢◌, inl, inr, arith}
+use Rattle.std.proofs.lemmas.Bool.{cases_Bool, cases_eq, and_parts, eqb-true, eq-eqb, false_from_ne_true}
 use Rattle.std.proofs.lemmas.Bool.Decides.{nat_tests}
-use Rattle.std.proofs.lemmas.List.{get_or-set_same, get_or-set_other, get_or_default, get_or_append_left, get_or_at, length-set, length-append}
+use Rattle.std.proofs.lemmas.List.{get_or-set_same, get_or-set_other, get_or_default, length-set}
 use Rattle.srt_types.specs.declared.shared.Peer.{Peer}
 use Rattle.srt_types.specs.declared.shared.Mode.{Mode}
 use Rattle.srt_types.specs.declared.shared.Rules.{Rules}
@@ -373,30 +373,6 @@ publisher_terms e c a width delay same wide delay_is =
 pub buffer_fits : (e : Terms) → in_limits e ≡ true → e.buffer ≤ 8192
 buffer_fits e h = grind (arith, nat_tests, h)
 
--- the seats of a table without sessions
-abbrev pub AreVacant : (width : ℕ) → List Seat → Type 0
-AreVacant width seats =
-    (k : ℕ) (d : Seat) → k < length seats
-    → ((get_or seats k d).generation ≡ 0) × ((get_or seats k d).session ≡ None) × subscriber.IsWide width (get_or seats k d).subscriber
-
--- one more seat
-pub vacant_pushed : (width : ℕ) (xs ys : List Seat) (x : Seat) (u : Subscriber) → ys ≡ xs ++ x ∷ [] → AreVacant width xs
-    → x ≡ record { generation = 0; session = None; subscriber = u } → subscriber.IsWide width u
-    → AreVacant width ys
-vacant_pushed width xs ys x u same vacant new wide k d below = subst (λ (zs : List Seat). IsVacant (get_or zs k d)) (sym same) (elim (cases_lt k (length xs)) [
-  | inl inside ↦ subst IsVacant (sym (get_or_append_left xs (x ∷ []) d k inside)) (vacant k d inside)
-  | inr outside ↦
-      let last : length xs ≡ k = omega (arith, outside, below, ap length same, length-append xs (x ∷ [])) in
-      subst IsVacant (sym (get_or_at xs x [] d k last)) (
-        ap (λ (z : Seat). z.generation) new,
-        ap (λ (z : Seat). z.session) new,
-        subst (λ (z : Seat). subscriber.IsWide width z.subscriber) (sym new) wide,
-      )
-])
-  where
-    IsVacant : Seat → Type 0
-    IsVacant z = (z.generation ≡ 0) × (z.session ≡ None) × subscriber.IsWide width z.subscriber
-
 -- a route that can be opened is within its limits
 pub limits_hold : (e : Terms) (index : ℕ) → fault_of e index ≡ None → in_limits e ≡ true
 limits_hold e index = by (is_name e.name) (nat_lt index 511) (in_limits e)
@@ -406,34 +382,3 @@ limits_hold e index = by (is_name e.name) (nat_lt index 511) (in_limits e)
     by true true false h = absurd (let bad : Some Limits ≡ None = h in cc)
     by true false false h = absurd (let bad : Some Limits ≡ None = h in cc)
     by false few false h = absurd (let bad : Some Names ≡ None = h in cc)
-
--- the table without sessions
-pub table_empty : (e : Terms) (index : ℕ) (table : Table) → fault_of e index ≡ None → table.index ≡ index → table.mode ≡ e.mode
-    → table.latency_ms ≡ e.latency_ms → table.buffer ≡ e.buffer → table.rules ≡ e.rules → AreWide e.buffer table.publishers.items
-    → length table.seats.items ≡ e.sessions → AreVacant e.buffer table.seats.items
-    → IsTable e index 0 table []
-table_empty e index table free index_is mode_is latency_is buffer_is rules_are publishers_wide places_are vacant =
-    record {
-      limits = limits_hold e index free;
-      early = omega arith;
-      index_is = index_is;
-      mode_is = mode_is;
-      latency_is = latency_is;
-      buffer_is = buffer_is;
-      rules_are = rules_are;
-      publishers_wide = publishers_wide;
-      places_are = places_are;
-      seats_are = λ at d p below.
-          let is = vacant at d below in
-          record {
-            session_is = subst (λ (o : Option TheSession). IsStored e index o None) (sym is.1) tt;
-            count_is = is.0;
-            wide = is.2;
-            seated = λ s found. absurd (let bad : None ≡ Some s = found in cc);
-          };
-      alone = tt;
-      publishers_are = record {
-        apart = λ at k d s t one other both. absurd (let bad : None ≡ Some s = one.found in cc);
-        leading_is_active = λ at d s one first. absurd (let bad : None ≡ Some s = one.found in cc);
-      };
-    }

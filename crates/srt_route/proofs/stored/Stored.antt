@@ -4,12 +4,12 @@ use Rattle.std.proofs.Common.{List, [], ◌∷◌, length, find, take, get_or, r
 use Rattle.std.specs.Prelude.{count_by}
 use Rattle.std.specs.Option.{option_map, is_some}
 use Rattle.std.specs.List.{list_any, position, position_or_len}
-use Rattle.std.specs.Str.{bytes_eq}
 use Rattle.std.proofs.lemmas.Bool.{cases_lt, and_parts, false_from_ne_true, lt-ltb, or_left, or_right}
 use Rattle.std.proofs.lemmas.List.{get_or_default, take_more}
 use Rattle.std.proofs.lemmas.List.Quantifiers.{position-Some}
 use Rattle.std.proofs.lemmas.List.Sums.{fails_before_first, sum_by-cons, sum_by_push}
 use Rattle.srt_types.specs.declared.shared.Peer.{Peer}
+use Rattle.srt_types.specs.Access.{is_same_site}
 use Rattle.srt_types.specs.Runs.{numbers_from}
 use Rattle.srt_types.specs.Terms.{Terms}
 use Rattle.srt_packet.specs.Grammar.{Packet}
@@ -200,8 +200,8 @@ publishers_among e index clock table ss are =
 pub address_among : (e : Terms) (index clock : ℕ) (table : Table) (ss : List Session) (ip : List ℕ)
     → IsTable e index clock table ss → count_by (has_address ip) table.seats.items ≡ sessions_from ip ss
 address_among e index clock table ss ip are =
-    among e index clock table ss (λ t. bytes_eq t.peer.ip ip) (is_from ip) (λ t s is o. rw (o, is.peer_is) refl)
-    (λ s h. (and_parts s.is_open (bytes_eq s.peer.ip ip) h).0) are
+    among e index clock table ss (λ t. is_same_site t.peer.ip ip) (is_from ip) (λ t s is o. rw (o, is.peer_is) refl)
+    (λ s h. (and_parts s.is_open (is_same_site s.peer.ip ip) h).0) are
 
 -- the draining sessions
 pub draining_among : (e : Terms) (index clock : ℕ) (table : Table) (ss : List Session)
