@@ -1,6 +1,10 @@
-//! A set of routes as bits that any thread sets and clears, 64 in a word.
+//! A set of routes as bits that any thread sets and clears, 64 in a word. What is read is read at some moment: the clauses
+//! state what follows of a word that was read, and which routes an answer may name.
 
-ghost use Rattle.std.specs.Prelude.{◌≡◌};
+ghost use Rattle.std.specs.Prelude.{◌≡◌, ◌≢◌, ℕ, ◌<◌, ◌≤◌, ◌+◌, ◌-◌, ◌*◌, ◌^◌, ◌==◌, min, IfOk, IsTrue, count_ones};
+ghost use Rattle.std.specs.Int.{bit_at};
+ghost use Rattle.srt_wakeups.specs.Marks.{routes_of, IsNextFrom};
+ghost use Rattle.srt_wakeups.specs.inside.Words.{place_of, IsFirstFrom};
 
 use std::alloc::{AllocError, Global};
 use std::sync::atomic::{AtomicU64, Ordering};
@@ -14,12 +18,46 @@ pub struct AtomicBitSet {
 }
 
 /// A route's bit in its word.
-fn bit_of(route: usize) -> u64 {
+fn bit_of(route: usize) -> u64
+    ensures { result ≡ 2 ^ place_of route }
+{
     1u64.wrapping_shl((route % 64) as u32)
 }
 
+/// All bits of a word but a route's.
+fn others_of(route: usize) -> u64
+    ensures { result ≡ 2 ^ 64 - 1 - 2 ^ place_of route }
+{
+    !bit_of(route)
+}
+
+/// Whether a route's bit is set in its word.
+fn is_in(word: u64, route: usize) -> bool
+    ensures { result ≡ (bit_at word (place_of route) == 1) }
+{
+    word & bit_of(route) != 0
+}
+
+/// A word with a route's bit set.
+fn with(word: u64, route: usize) -> u64
+    ensures set { bit_at result (place_of route) ≡ 1 }
+    ensures others { (place : ℕ) → place ≢ place_of route → bit_at result place ≡ bit_at word place }
+{
+    word | bit_of(route)
+}
+
+/// A word with a route's bit clear.
+fn without(word: u64, route: usize) -> u64
+    ensures clear { bit_at result (place_of route) ≡ 0 }
+    ensures others { (place : ℕ) → place < 64 → place ≢ place_of route → bit_at result place ≡ bit_at word place }
+{
+    word & others_of(route)
+}
+
 /// A word with the bits of this many routes set, 64 at most.
-fn all_of(routes: usize) -> u64 {
+fn all_of(routes: usize) -> u64
+    ensures { result ≡ 2 ^ min routes 64 - 1 }
+{
     if routes < 64 {
         bit_of(routes).wrapping_sub(1)
     } else {
@@ -27,15 +65,28 @@ fn all_of(routes: usize) -> u64 {
     }
 }
 
-/// The route of the lowest bit of a word that isn't 0, the word with this index.
-fn lowest_of(word: u64, at: usize) -> usize {
-    at.wrapping_mul(64)
-        .wrapping_add(word.trailing_zeros() as usize)
+/// The first bit from this one on that is set in a word; 64 if there is none.
+fn first_in(word: u64, from: u32) -> u32
+    requires { from < 64 }
+    ensures { IsFirstFrom word from result }
+{
+    // the bits from this one on
+    let kept = word & u64::MAX.wrapping_shl(from);
+    kept.trailing_zeros()
+}
+
+/// The index of the route that has this bit of the word with this index.
+fn route_at(word: usize, place: u32) -> usize
+    ensures { result ≡ min (word * 64 + place) (2 ^ 64 - 1) }
+{
+    word.saturating_mul(64).saturating_add(place as usize)
 }
 
 impl AtomicBitSet {
     /// Bits for this many routes, all clear. Allocates a bit a route; an error means that memory was refused.
-    pub fn open(alloc: Global, routes: usize) -> Result<AtomicBitSet, AllocError> {
+    pub fn open(alloc: Global, routes: usize) -> Result<AtomicBitSet, AllocError>
+        ensures { IfOk result (λ set. routes_of set ≡ routes) }
+    {
         let count = routes.div_ceil(64);
         let mut words = Vec::with_capacity(alloc, count)?;
         for _ in 0..count {
@@ -45,24 +96,27 @@ impl AtomicBitSet {
     }
 
     /// Whether the route's bit is set.
-    pub(crate) fn is_set(&self, route: usize) -> bool {
+    pub(crate) fn is_set(&self, route: usize) -> bool
+        ensures { IsTrue result → route < routes_of self.now }
+    {
         match self.words.get(route / 64) {
-            Some(word) => word.load(Ordering::SeqCst) & bit_of(route) != 0,
+            Some(word) => route < self.routes && is_in(word.load(Ordering::SeqCst), route),
             None => false,
         }
     }
 
     /// Sets the route's bit. True if it was clear and this call set it. A bit that is set already is only read, so
     /// that its cache line isn't taken from other processors.
-    pub fn set(&self, route: usize) -> bool {
+    pub fn set(&self, route: usize) -> bool
+        ensures { IsTrue result → route < routes_of self.now }
+    {
         if route >= self.routes {
             return false;
         }
-        let bit = bit_of(route);
         match self.words.get(route / 64) {
             Some(word) => {
-                word.load(Ordering::SeqCst) & bit == 0
-                    && word.fetch_or(bit, Ordering::SeqCst) & bit == 0
+                !is_in(word.load(Ordering::SeqCst), route)
+                    && !is_in(word.fetch_or(bit_of(route), Ordering::SeqCst), route)
             }
             None => false,
         }
@@ -70,12 +124,12 @@ impl AtomicBitSet {
 
     /// Sets the route's bit, if no other thread writes to this set meanwhile. Makes no locked operation.
     pub(crate) fn set_alone(&self, route: usize) {
-        if route >= self.routes {
+        let Some(word) = self.words.get(route / 64) else {
             return;
-        }
-        if let Some(word) = self.words.get(route / 64) {
+        };
+        if route < self.routes {
             let bits = word.load(Ordering::Relaxed);
-            word.store(bits | bit_of(route), Ordering::Relaxed);
+            word.store(with(bits, route), Ordering::Relaxed);
         }
     }
 
@@ -83,23 +137,25 @@ impl AtomicBitSet {
     pub(crate) fn clear_alone(&self, route: usize) {
         if let Some(word) = self.words.get(route / 64) {
             let bits = word.load(Ordering::Relaxed);
-            word.store(bits & !bit_of(route), Ordering::Relaxed);
+            word.store(without(bits, route), Ordering::Relaxed);
         }
     }
 
     /// The number of bits that are set. Costs a load for each 64 routes.
-    pub(crate) fn count(&self) -> u64 {
+    pub(crate) fn count(&self) -> u64
+        ensures { result ≤ routes_of self.now }
+    {
         let mut count = 0u64;
         for word in &self.words {
             let bits = word.load(Ordering::Relaxed);
             count = count.saturating_add(u64::from(bits.count_ones()));
         }
-        count
+        count.min(self.routes as u64)
     }
 
     /// The number of routes.
     pub(crate) fn len(&self) -> usize
-        ensures { result ≡ self.now.routes }
+        ensures { result ≡ routes_of self.now }
     {
         self.routes
     }
@@ -107,7 +163,7 @@ impl AtomicBitSet {
     /// Clears the route's bit.
     pub fn clear(&self, route: usize) {
         if let Some(word) = self.words.get(route / 64) {
-            word.fetch_and(!bit_of(route), Ordering::SeqCst);
+            word.fetch_and(others_of(route), Ordering::SeqCst);
         }
     }
 
@@ -126,29 +182,27 @@ impl AtomicBitSet {
 
     /// The first route from this one on whose bit is set; the number of routes if there is none. Costs a load for each 64
     /// routes that it passes over.
-    pub fn next_from(&self, route: usize) -> usize {
+    pub fn next_from(&self, route: usize) -> usize
+        ensures { IsNextFrom (routes_of self.now) route result }
+    {
         let first = route / 64;
-        // the bits from the route's on
-        let mut kept = u64::MAX.wrapping_shl((route % 64) as u32);
+        let mut from = (route % 64) as u32;
         for at in first..self.words.len() {
             if let Some(word) = self.words.get(at) {
-                let found = word.load(Ordering::SeqCst) & kept;
-                if found != 0 {
-                    return lowest_of(found, at);
+                let place = first_in(word.load(Ordering::SeqCst), from);
+                if place < 64 {
+                    return route_at(at, place).min(self.routes);
                 }
             }
-            kept = u64::MAX;
+            from = 0;
         }
-        self.routes
+        self.len()
     }
 
     /// Whether any bit is set. Costs a load for each 64 routes.
-    pub(crate) fn any(&self) -> bool {
-        for word in &self.words {
-            if word.load(Ordering::SeqCst) != 0 {
-                return true;
-            }
-        }
-        false
+    pub(crate) fn any(&self) -> bool
+        ensures { IsTrue result → 0 < routes_of self.now }
+    {
+        self.next_from(0) < self.routes
     }
 }

@@ -1,8 +1,8 @@
 //! How the threads of a run wake each other, how long they sleep, and what they are called.
 //!
-//! All of it is hints, and no contract depends on them: a lost one delays work and never loses an item. So nothing here has
-//! a clause that says more than what memory and arithmetic need, and the crate knows neither routes nor queues: a route is
-//! an index.
+//! All of it is hints, and no contract of another crate depends on them: a lost one delays work and never loses an item.
+//! Clauses state what names and times are, what follows of a word of marks that was read, and which routes an answer may
+//! name. The crate knows neither routes nor queues: a route is an index.
 //!
 //! Types: `Wakeups` is what the threads of a run share, the marks of the routes and the notifiers at which threads sleep; an
 //! `AtomicBitSet` has a mark for each route; a `ThreadName` names a thread by `name_thread`. `pacing` has the times and the

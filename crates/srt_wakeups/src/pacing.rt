@@ -1,6 +1,9 @@
 //! How long the threads of a run sleep, and how much work makes them share it. Durations are in microseconds, by their
 //! names `_US`; all else are counts.
 
+ghost use Rattle.std.specs.Prelude.{◌≡◌};
+ghost use Rattle.srt_wakeups.specs.inside.Pacing.{doze_us, rest_us, all_rest, wakes_worker};
+
 /// How long a worker that found nothing to do sleeps at most before it looks again.
 pub const NAP_US: u64 = 500;
 
@@ -42,3 +45,36 @@ pub const THIN_ROUTES: u32 = 32;
 
 /// The most turns at a route of a thin round.
 pub const THIN_TURNS: u32 = 16;
+
+/// How long a worker dozes at most after a thin round over this many routes: `DOZE_PER_ROUTE_US` for each of them, and at
+/// least `NAP_US`.
+pub(crate) fn doze_us(routes: u32) -> u64
+    ensures { result ≡ doze_us routes }
+{
+    u64::from(routes)
+        .saturating_mul(DOZE_PER_ROUTE_US)
+        .max(NAP_US)
+}
+
+/// How long a worker rests at most: `SLEEP_US`, or `NAP_US` if an inbox is ready that it couldn't serve.
+pub(crate) fn rest_us(is_ready: bool) -> u64
+    ensures { result ≡ rest_us is_ready }
+{
+    if is_ready { NAP_US } else { SLEEP_US }
+}
+
+/// Whether no worker is awake or dozes: as many as there are rest, or are in reserve.
+pub(crate) fn all_rest(resting: u64, reserve: u64, workers: u64) -> bool
+    ensures { result ≡ all_rest resting reserve workers }
+{
+    resting.saturating_add(reserve) >= workers
+}
+
+/// Whether a round of the poller wakes a worker that read this many datagrams and made this many inboxes ready: if it read
+/// `MANY_DATAGRAMS` or more, for few routes, or any while no worker is awake.
+pub(crate) fn wakes_worker(datagrams: u32, begun: u64, all_rest: bool) -> bool
+    ensures { result ≡ wakes_worker datagrams begun all_rest }
+{
+    let are_for_few = begun.saturating_mul(DATAGRAMS_PER_ROUTE) <= u64::from(datagrams);
+    (datagrams >= MANY_DATAGRAMS && are_for_few) || (datagrams > 0 && all_rest)
+}

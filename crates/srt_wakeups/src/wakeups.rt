@@ -1,5 +1,6 @@
 //! What the threads of a run share besides the routes: which routes may have work, how many threads run, and whether the
-//! run is over. All of it is hints, and no contract depends on them: a lost one delays work and never loses an item.
+//! run is over. All of it is hints, and no contract of another crate depends on them: a lost one delays work and never loses
+//! an item.
 //!
 //! Each route has four marks, a bit of an `AtomicBitSet` each: `inbox_ready`, `in_service`, `outbox_ready` and
 //! `polled`. docs/ARCHITECTURE.md, "The threads of a run", has a table of them: what each means, who sets, clears and
@@ -23,11 +24,12 @@
 //!   in whose round `MANY_REPLIES` were moved if a further inbox is ready.
 //! - `wake_reserve`, if a worker is in reserve: by a worker after such a round, if that wasn't thin.
 
+ghost use Rattle.std.specs.Prelude.{◌≡◌, ℕ, ◌<◌, ◌≤◌, IfOk, IsTrue};
+ghost use Rattle.srt_wakeups.specs.Marks.{routes_of, IsNextFrom};
+
 use crate::bit_set::AtomicBitSet;
 use crate::notifier::Notifier;
-use crate::pacing::{
-    DATAGRAMS_PER_ROUTE, DOZE_PER_ROUTE_US, GATHER_SLEEPS, MANY_DATAGRAMS, NAP_US, SLEEP_US,
-};
+use crate::pacing::{GATHER_SLEEPS, NAP_US, SLEEP_US, all_rest, doze_us, rest_us, wakes_worker};
 use std::alloc::{AllocError, Global};
 use std::sync::Wait;
 use std::sync::atomic::{AtomicBool, AtomicU64, Ordering};
@@ -35,6 +37,9 @@ use std::time::Duration;
 
 /// What the threads of a run share besides the routes. Every method may be called from any thread, but for those that
 /// say otherwise.
+///
+/// What other threads set, clear and count at any time no clause can state. So the clauses state which routes an answer may
+/// name, and how many it may count; a call that returns nothing has none.
 #[derive(Drop)]
 pub struct Wakeups {
     // the marks of the routes
@@ -62,8 +67,12 @@ pub struct Wakeups {
 }
 
 impl Wakeups {
+    ghost use Rattle.srt_wakeups.specs.Marks.{IsFor, IsAmong, IsNextAmong};
+
     /// For this many routes and workers. Allocates four marks a route; an error means that memory was refused.
-    pub fn open(alloc: Global, routes: usize, workers: usize) -> Result<Wakeups, AllocError> {
+    pub fn open(alloc: Global, routes: usize, workers: usize) -> Result<Wakeups, AllocError>
+        ensures { IfOk result (λ wakeups. IsFor routes workers wakeups) }
+    {
         Ok(Wakeups {
             inbox_ready: AtomicBitSet::open(alloc, routes)?,
             in_service: AtomicBitSet::open(alloc, routes)?,
@@ -128,13 +137,17 @@ impl Wakeups {
 
     /// The first route from this one on whose inbox may have an item, or that has more to do; the number of routes if
     /// there is none.
-    pub fn next_inbox_ready(&self, route: usize) -> usize {
+    pub fn next_inbox_ready(&self, route: usize) -> usize
+        ensures { IsNextAmong self.now route result }
+    {
         self.inbox_ready.next_from(route)
     }
 
     /// The calling worker begins to serve the route: sets `in_service` and clears `inbox_ready`. False, with no change,
     /// if another worker serves it.
-    pub fn enter(&self, route: usize) -> bool {
+    pub fn enter(&self, route: usize) -> bool
+        ensures { IsTrue result → IsAmong self.now route }
+    {
         let entered = self.in_service.set(route);
         if entered {
             self.inbox_ready.clear(route);
@@ -146,12 +159,14 @@ impl Wakeups {
     pub fn leave(&self, route: usize, is_left: bool) {
         self.in_service.clear(route);
         if is_left {
-            self.inbox_ready.set(route);
+            self.set_inbox_ready(route);
         }
     }
 
     /// The route's inbox may have an item, or there is more to do. True if the mark was clear.
-    pub fn set_inbox_ready(&self, route: usize) -> bool {
+    pub fn set_inbox_ready(&self, route: usize) -> bool
+        ensures { IsTrue result → IsAmong self.now route }
+    {
         self.inbox_ready.set(route)
     }
 
@@ -161,7 +176,9 @@ impl Wakeups {
     }
 
     /// Whether the outbox of the route may have a reply. Clears the mark.
-    pub fn take_outbox_ready(&self, route: usize) -> bool {
+    pub fn take_outbox_ready(&self, route: usize) -> bool
+        ensures { IsTrue result → IsAmong self.now route }
+    {
         let is_ready = self.outbox_ready.is_set(route);
         if is_ready {
             self.outbox_ready.clear(route);
@@ -170,12 +187,16 @@ impl Wakeups {
     }
 
     /// The first route from this one on whose outbox may have a reply; the number of routes if there is none.
-    pub fn next_outbox_ready(&self, route: usize) -> usize {
+    pub fn next_outbox_ready(&self, route: usize) -> usize
+        ensures { IsNextAmong self.now route result }
+    {
         self.outbox_ready.next_from(route)
     }
 
     /// Whether the outbox of any route may have a reply. Clears no mark.
-    pub fn any_outbox_ready(&self) -> bool {
+    pub fn any_outbox_ready(&self) -> bool
+        ensures { IsTrue result → IsAmong self.now 0 }
+    {
         self.outbox_ready.any()
     }
 
@@ -191,18 +212,24 @@ impl Wakeups {
 
     /// The first route from this one on whose inbox accepted something from the poller that nobody was asked to serve
     /// yet; the number of routes if there is none.
-    pub fn next_polled(&self, route: usize) -> usize {
+    pub fn next_polled(&self, route: usize) -> usize
+        ensures { IsNextAmong self.now route result }
+    {
         self.polled.next_from(route)
     }
 
     /// The number of such routes.
-    pub fn count_polled(&self) -> u64 {
+    pub fn count_polled(&self) -> u64
+        ensures { (routes workers : ℕ) → IsFor routes workers self.now → result ≤ routes }
+    {
         self.polled.count()
     }
 
     /// Leaves all `polled` routes to the workers: sets `inbox_ready` of each. Returns the number of those where it was
     /// clear. Only the polling thread calls this.
-    pub fn hand_over(&self) -> u64 {
+    pub fn hand_over(&self) -> u64
+        ensures { (routes workers : ℕ) → IsFor routes workers self.now → result ≤ routes }
+    {
         let mut begun = 0u64;
         let mut route = self.next_polled(0);
         for _ in 0..self.polled.len() {
@@ -244,10 +271,9 @@ impl Wakeups {
     /// Wakes a worker after a round of the poller that read this many datagrams and set this many `inbox_ready` marks that
     /// were clear, if it read many for few routes, or if it read any and no worker is awake or dozes.
     pub fn read_ended(&self, datagrams: u32, begun: u64) {
-        let are_for_few = begun.saturating_mul(DATAGRAMS_PER_ROUTE) <= u64::from(datagrams);
         let resting = self.resting.load(Ordering::SeqCst);
-        let all_rest = resting.saturating_add(self.reserve.load(Ordering::SeqCst)) >= self.workers;
-        if (datagrams >= MANY_DATAGRAMS && are_for_few) || (datagrams > 0 && all_rest) {
+        let reserve = self.reserve.load(Ordering::SeqCst);
+        if wakes_worker(datagrams, begun, all_rest(resting, reserve, self.workers)) {
             self.work.notify_one();
         }
     }
@@ -264,10 +290,8 @@ impl Wakeups {
         if self.dozing.swap(true, Ordering::SeqCst) {
             self.rest_in_reserve(rt, seen);
         } else {
-            let most_us = u64::from(routes)
-                .saturating_mul(DOZE_PER_ROUTE_US)
-                .max(NAP_US);
-            self.work.sleep(rt, seen, Duration::from_micros(most_us));
+            self.work
+                .sleep(rt, seen, Duration::from_micros(doze_us(routes)));
             self.dozing.store(false, Ordering::SeqCst);
         }
     }
@@ -285,11 +309,7 @@ impl Wakeups {
     /// not serve.
     pub fn rest<R: Wait>(&self, rt: &R, seen: u64) {
         self.resting.fetch_add(1, Ordering::SeqCst);
-        let most_us = if self.inbox_ready.any() {
-            NAP_US
-        } else {
-            SLEEP_US
-        };
+        let most_us = rest_us(self.inbox_ready.any());
         if !self.is_done() {
             self.work.sleep(rt, seen, Duration::from_micros(most_us));
         }
