@@ -1,10 +1,11 @@
-//! A source and a wire over one UDP socket, IPv4.
+//! A source and a wire over one UDP socket: of IPv4, or of IPv6 and then with the callers over IPv4 too.
 
 ghost use Rattle.std.specs.Prelude.{◌≡◌, ◌++◌, ◌∷◌, ◌==◌, [], ℕ, IfOk, IfSome, IfNone, length};
 ghost use Rattle.std.specs.Net.Addr.{ipv4_octets};
 ghost use Rattle.srt_types.specs.declared.shared.Peer.{Peer as ThePeer};
 ghost use Rattle.srt_poller.specs.declared.devices.Read.TheVariants.{Datagram};
-ghost use Rattle.srt_poller.specs.inside.Sockets.{mapped, HasAddress, HasIpv4};
+ghost use Rattle.srt_poller.specs.declared.sockets.Family.TheVariants.{V4 as OfIpv4};
+ghost use Rattle.srt_poller.specs.inside.Sockets.{mapped, HasAddress, HasIpv4, HasIpv6, IsTarget};
 
 use crate::devices::{Clock, Polled, Read, Sent, Source, Wire};
 use crate::pace::{Pace, Pause};
@@ -16,13 +17,14 @@ use mio::{Events, Interest, Poll, Token};
 use srt_types::Peer;
 use std::alloc::{AllocError, Global};
 use std::io::ErrorKind;
-use std::net::{IpAddr, Ipv4Addr, Net, SocketAddr, SocketAddrV4};
+use std::net::{IpAddr, Ipv4Addr, Ipv6Addr, Net, SocketAddr, SocketAddrV4, SocketAddrV6};
 use std::os::fd::AsRawFd;
 use std::sync::Arc;
 use std::sync::atomic::{AtomicBool, AtomicU32, Ordering};
 use std::time::Duration;
 use thiserror::Error;
 
+mod ipv6;
 #[cfg(test)]
 mod refused;
 
@@ -38,9 +40,19 @@ pub enum BindFault {
     OutOfMemory,
 }
 
+/// The family of a socket's own address.
+#[derive(Clone, Copy, Debug, PartialEq, Eq)]
+pub(crate) enum Family {
+    /// IPv4: it has callers over IPv4 alone.
+    V4,
+    /// IPv6: at `::` it has callers over both, and an IPv4 address has the form `::ffff:a.b.c.d`.
+    V6,
+}
+
 #[derive(Drop)]
 struct Shared {
     socket: UdpSocket,
+    family: Family,
     // A send returned Later since the source last waited.
     put_off: AtomicBool,
     // The number of datagrams sent since the source last waited, modulo 2^32. A hint: sends by another thread than the
@@ -119,8 +131,8 @@ fn peer_of(from: SocketAddr) -> Peer
     }
 }
 
-/// The socket address of this peer. `None` if it isn't of the form `::ffff:a.b.c.d`.
-fn address_of(peer: Peer) -> Option<SocketAddr>
+/// The IPv4 socket address of this peer. `None` if it isn't of the form `::ffff:a.b.c.d`.
+fn ipv4_address_of(peer: Peer) -> Option<SocketAddr>
     ensures address { IfSome result (λ address. HasIpv4 peer address) }
     ensures none { IfNone result ((a b c d : ℕ) → peer.ip ≡ mapped (a ∷ b ∷ c ∷ d ∷ []) → ⊥) }
 {
@@ -131,6 +143,25 @@ fn address_of(peer: Peer) -> Option<SocketAddr>
     Some(SocketAddr::V4(SocketAddrV4::new(ip, peer.port)))
 }
 
+/// The IPv6 socket address of this peer, without a zone.
+fn ipv6_address_of(peer: Peer) -> SocketAddr
+    ensures { HasIpv6 peer result }
+{
+    let ip = Ipv6Addr::from_octets(peer.ip);
+    SocketAddr::V6(SocketAddrV6::new(ip, peer.port, 0, 0))
+}
+
+/// The address of this peer for a socket of this family. `None` if the peer has none of it.
+fn address_of(family: Family, peer: Peer) -> Option<SocketAddr>
+    ensures address { IfSome result (λ address. IsTarget family peer address) }
+    ensures none { IfNone result ((family ≡ OfIpv4) × ((a b c d : ℕ) → peer.ip ≡ mapped (a ∷ b ∷ c ∷ d ∷ []) → ⊥)) }
+{
+    match family {
+        Family::V4 => ipv4_address_of(peer),
+        Family::V6 => Some(ipv6_address_of(peer)),
+    }
+}
+
 /// A datagram that the socket gave, with its length and its sender.
 fn datagram_read(received: (usize, SocketAddr), moment: u64) -> Read
     ensures { (peer : ThePeer) × HasAddress peer received.1 × (result ≡ Datagram peer received.0 moment) }
@@ -139,13 +170,13 @@ fn datagram_read(received: (usize, SocketAddr), moment: u64) -> Read
     Read::Datagram(peer_of(from), len, moment)
 }
 
-/// What the socket gets to send: the address and the bytes. `None` if the peer has no IPv4 address.
-fn outgoing<'a>(to: Peer, bytes: &'a [u8]) -> Option<(SocketAddr, &'a [u8])>
-    ensures address { IfSome result (λ sent. HasIpv4 to sent.0) }
+/// What a socket of this family gets to send: the address and the bytes. `None` if the peer has no address of it.
+fn outgoing<'a>(family: Family, to: Peer, bytes: &'a [u8]) -> Option<(SocketAddr, &'a [u8])>
+    ensures address { IfSome result (λ sent. IsTarget family to sent.0) }
     ensures bytes { IfSome result (λ sent. sent.1.now ≡ bytes.now) }
-    ensures none { IfNone result ((a b c d : ℕ) → to.ip ≡ mapped (a ∷ b ∷ c ∷ d ∷ []) → ⊥) }
+    ensures none { IfNone result ((family ≡ OfIpv4) × ((a b c d : ℕ) → to.ip ≡ mapped (a ∷ b ∷ c ∷ d ∷ []) → ⊥)) }
 {
-    let target = address_of(to)?;
+    let target = address_of(family, to)?;
     Some((target, bytes))
 }
 
@@ -157,11 +188,16 @@ fn is_whole(taken: usize, bytes: &[u8]) -> bool
 }
 
 impl Shared {
-    fn share(alloc: Global, socket: UdpSocket) -> Result<(Arc<Shared>, Arc<Shared>), AllocError> {
+    fn share(
+        alloc: Global,
+        socket: UdpSocket,
+        family: Family,
+    ) -> Result<(Arc<Shared>, Arc<Shared>), AllocError> {
         let ours = Arc::new(
             alloc,
             Shared {
                 socket,
+                family,
                 put_off: AtomicBool::new(false),
                 sent: AtomicU32::new(0),
             },
@@ -183,17 +219,40 @@ impl Shared {
     }
 }
 
+/// The family of an address.
+fn family_of(addr: SocketAddr) -> Family {
+    match addr {
+        SocketAddr::V4(_) => Family::V4,
+        SocketAddr::V6(_) => Family::V6,
+    }
+}
+
+/// Binds a UDP socket at this address.
+fn socket_at<N: Net>(net: &N, addr: SocketAddr) -> Result<UdpSocket, BindFault> {
+    match addr {
+        SocketAddr::V4(_) => match UdpSocket::bind(net, addr) {
+            Ok(socket) => Ok(socket),
+            Err(error) => Err(BindFault::Socket(error.raw_os_error())),
+        },
+        SocketAddr::V6(addr) => match ipv6::bind(addr) {
+            Ok(socket) => Ok(socket),
+            Err(number) => Err(BindFault::Socket(Some(number))),
+        },
+    }
+}
+
 impl<C: Clock> MioSource<C> {
     ghost use Rattle.srt_mailbox.specs.Counts.{Grew};
     ghost use Rattle.srt_poller.specs.declared.devices.Polled.TheVariants.{Failed as PollFailed};
 
     /// Binds a UDP socket at this address and returns a source and a wire over it. With port 0 the system chooses the
-    /// port. The clock gives the moment of each datagram as it is read. The system is asked for a receive buffer of 4
-    /// MiB; whether it gives that isn't checked. Allocates.
+    /// port. A socket at `::` also has callers over IPv4, whose addresses are `::ffff:a.b.c.d`, whatever the system's
+    /// default is; of an IPv6 address the port and the 16 bytes alone count. The clock gives the moment of each datagram
+    /// as it is read. The system is asked for a receive buffer of 4 MiB; whether it gives that isn't checked. Allocates.
     pub fn bind<N: Net>(
         net: &N,
         alloc: Global,
-        addr: SocketAddrV4,
+        addr: SocketAddr,
         clock: C,
     ) -> Result<(MioSource<C>, MioWire), BindFault>
     where
@@ -201,10 +260,7 @@ impl<C: Clock> MioSource<C> {
         ensures source { IfOk result (λ r. ⟦<MioSource<C> as Source>⟧.failures r.0 ≡ 0) }
         ensures wire { IfOk result (λ r. ⟦<MioWire as Wire>⟧.failures r.1 ≡ 0) }
     {
-        let mut socket = match UdpSocket::bind(net, SocketAddr::V4(addr)) {
-            Ok(socket) => socket,
-            Err(error) => return Err(BindFault::Socket(error.raw_os_error())),
-        };
+        let mut socket = socket_at(net, addr)?;
         ask_for_room(&socket);
         let poll = match Poll::new(net) {
             Ok(poll) => poll,
@@ -217,7 +273,7 @@ impl<C: Clock> MioSource<C> {
         let Ok(events) = Events::with_capacity(alloc, 4) else {
             return Err(BindFault::OutOfMemory);
         };
-        let Ok((ours, theirs)) = Shared::share(alloc, socket) else {
+        let Ok((ours, theirs)) = Shared::share(alloc, socket, family_of(addr)) else {
             return Err(BindFault::OutOfMemory);
         };
         let source = MioSource {
@@ -322,9 +378,9 @@ impl Wire for MioWire {
 
     ghost attempts = { λ w. None };
 
-    /// Also fails if the peer has no IPv4 address, or if the socket took fewer bytes.
+    /// Also fails if the peer has no address of the socket's family, or if the socket took fewer bytes.
     fn send(&mut self, to: Peer, bytes: &[u8]) -> Sent {
-        let Some((target, whole)) = outgoing(to, bytes) else {
+        let Some((target, whole)) = outgoing(self.shared.family, to, bytes) else {
             return self.fail();
         };
         match self.shared.socket.send_to(whole, target) {

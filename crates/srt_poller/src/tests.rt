@@ -597,8 +597,8 @@ fn a_wire_that_puts_off_blocks_turns_and_fills_inboxes(rt: HostRuntime) -> Resul
     Ok(())
 }
 
-fn local(port: u16) -> SocketAddrV4 {
-    SocketAddrV4::new(Ipv4Addr::new(127, 0, 0, 1), port)
+fn local(port: u16) -> SocketAddr {
+    SocketAddr::V4(SocketAddrV4::new(Ipv4Addr::new(127, 0, 0, 1), port))
 }
 
 type Socket = (MioSource<ClockScript>, MioWire);
@@ -656,7 +656,7 @@ fn assert_reads(
     let bytes = [byte; 3000];
     let mut buffer = [0u8; 2048];
     let target = address(source)?;
-    let client = UdpSocket::bind(rt, SocketAddr::V4(local(0)))?;
+    let client = UdpSocket::bind(rt, local(0))?;
     let port = client.local_addr()?.port();
     for sent in [
         &bytes[..0],
@@ -694,7 +694,7 @@ fn assert_answers(
     wire: &mut MioWire,
 ) -> Result<(), Fail> {
     let target = address(source)?;
-    let client = UdpSocket::bind(rt, SocketAddr::V4(local(0)))?;
+    let client = UdpSocket::bind(rt, local(0))?;
     client.send_to(&induction_of(CALLER).bytes(rt.alloc())?, target)?;
     assert_eq!(rt; pumped(rt, [ALWAYS; 2], ends, source, wire, 10)?, ANSWERED);
     let mut answer = [0u8; 100];
@@ -714,7 +714,7 @@ fn a_socket_answers_an_induction(rt: HostRuntime) -> Result<(), Fail> {
 
 /// A client gets what this wire sends to it.
 fn assert_sends(rt: &(impl Net + Abort), wire: &mut MioWire) -> Result<(), Fail> {
-    let client = UdpSocket::bind(rt, SocketAddr::V4(local(0)))?;
+    let client = UdpSocket::bind(rt, local(0))?;
     let port = client.local_addr()?.port();
     assert_eq!(rt; wire.send(peer(port), &[1, 2, 3]), Sent::Taken);
     let mut bytes = [0u8; 100];
@@ -755,7 +755,7 @@ fn each_datagram_of_a_socket_has_its_clocks_next_moment(rt: HostRuntime) -> Resu
     };
     let mut buffer = [0u8; 2048];
     assert_eq!(&rt; source.next(&mut buffer), Read::Empty);
-    let client = UdpSocket::bind(&rt, SocketAddr::V4(local(0)))?;
+    let client = UdpSocket::bind(&rt, local(0))?;
     let target = address(&source)?;
     for moment in [1_000_001, 1_000_003, 5_000_000] {
         client.send_to(&[7], target)?;

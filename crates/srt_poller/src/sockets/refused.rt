@@ -22,7 +22,7 @@ fn free_port<N: Net>(net: &N) -> Result<u16, Fail> {
 #[test]
 fn a_read_that_the_system_fails_is_not_an_empty_one(rt: HostRuntime) -> Result<(), Fail> {
     let clock = ClockScript::new(Vec::new(rt.alloc()));
-    let local = SocketAddrV4::new(loopback(), 0);
+    let local = SocketAddr::V4(SocketAddrV4::new(loopback(), 0));
     let Ok((mut source, mut wire)) = MioSource::bind(&rt, rt.alloc(), local, clock) else {
         return Err(Fail::from("the socket is bound"));
     };
