@@ -37,7 +37,7 @@ mod watcher_channel;
 mod watching;
 mod working;
 
-pub use running::{Gates, Ran, RunFault, Watched, run, run_until};
+pub use running::{Crew, Gates, Ran, RunFault, RunPlan, Watched, run, run_until};
 pub use srt_supervision::{
     Answers, ChangeFault, ChangeRoutes, Refusal, RouteChanges, RunStatus, Watch,
 };

@@ -93,6 +93,30 @@ pub struct Watched<K: Drop, T: Drop> {
     pub watch: T,
 }
 
+/// What a watched run is to do.
+#[derive(Clone, Copy)]
+pub struct RunPlan<'a> {
+    /// The secret of the lobby's cookies.
+    pub secret: &'a Secret,
+    /// The routes with which it begins. They must be valid as a whole: names distinct, numbers within their limits.
+    pub entries: &'a [Entry],
+    /// The rounds in which each of them opens and closes, in the same order.
+    pub schedules: &'a [Schedule],
+    /// The most rounds of its poller, 2^48 at most.
+    pub rounds: u64,
+}
+
+/// What the threads of a run other than the polling one work with.
+#[derive(Drop)]
+pub struct Crew<K: Drop, G: Drop, T: Drop> {
+    /// The ticking thread's.
+    pub ticker: K,
+    /// Those of the workers, and perhaps one of the polling thread.
+    pub gates: Gates<G>,
+    /// The watching thread's.
+    pub watch: T,
+}
+
 // What the threads of a run share. It is opened before any of them is started.
 #[derive(Drop)]
 struct Shared<A: Answers> {
@@ -121,14 +145,6 @@ struct Task<'a> {
     // the most rounds; their number if the run isn't watched
     rounds: u64,
     is_watched: bool,
-}
-
-// The parts of a run other than its poller.
-#[derive(Drop)]
-struct Crew<K: Drop, G: Drop, T: Drop> {
-    ticker: K,
-    gates: Gates<G>,
-    watch: T,
 }
 
 // What the end of a run uses.
@@ -553,7 +569,7 @@ where
     }
 }
 
-/// As `run`, until the watcher orders the poller to end, and for at most `rounds` rounds, 2^48 at most. The watcher's
+/// As `run`, until the watcher orders the poller to end, and for at most `plan.rounds` rounds. The watcher's
 /// latest order holds for each round: in a round that closes all, no route opens, and Close is offered to each visible one.
 ///
 /// A further thread watches. It repeats these steps: it lets the watcher rest (`Watch::next`), reports the refusals, and
@@ -569,43 +585,34 @@ where
 pub fn run_until<R, S: Source, W: Wire, K, G, T>(
     rt: &R,
     alloc: Global,
-    secret: &Secret,
-    entries: &[Entry],
-    schedules: &[Schedule],
+    plan: RunPlan,
     source: &mut S,
     wire: &mut W,
-    ticker: K,
-    gates: Gates<G>,
-    watch: T,
-    rounds: u64,
+    crew: Crew<K, G, T>,
 ) -> Result<Watched<K, T>, RunFault>
 where
     R: Threads + Wait + Sync,
     K: Ticker + Send + Drop,
     G: Gate + Send + Drop,
     T: Watch + Send + Drop,
-    requires entries { fault_of (map terms_of entries.now) ≡ None }
-    requires schedules { length schedules.now ≡ length entries.now }
-    requires workers { (1 ≤ vec_len gates.workers) × (vec_len gates.workers ≤ 16) }
-    requires few { rounds ≤ 2 ^ 48 }
-    ensures ran { IfOk result (λ r. RanChanging T.answered (class_of (secret_bytes secret.now)) schedules.now (map terms_of entries.now) r.rounds
-        (recorded_by (heard (S.gave source.old) (S.calls source.old)) (carried (W.handed wire.old) (W.attempts wire.old)) (K.gave ticker))
+    requires entries { fault_of (map terms_of plan.entries.now) ≡ None }
+    requires schedules { length plan.schedules.now ≡ length plan.entries.now }
+    requires workers { (1 ≤ vec_len crew.gates.workers) × (vec_len crew.gates.workers ≤ 16) }
+    requires few { plan.rounds ≤ 2 ^ 48 }
+    ensures ran { IfOk result (λ r. RanChanging T.answered
+        (class_of (secret_bytes plan.entry.secret.now)) plan.entry.schedules.now (map terms_of plan.entry.entries.now) r.rounds
+        (recorded_by (heard (S.gave source.old) (S.calls source.old)) (carried (W.handed wire.old) (W.attempts wire.old)) (K.gave crew.ticker))
         (recorded_by (heard (S.gave source.new) (S.calls source.new)) (carried (W.handed wire.new) (W.attempts wire.new)) (K.gave r.ticker))
         r.report r.accounts.items) }
-    ensures rounds { IfOk result (λ r. (r.rounds ≤ rounds) × ((r.rounds ≡ rounds) ⊎ T.answered RunEnds)) }
+    ensures rounds { IfOk result (λ r. (r.rounds ≤ plan.entry.rounds) × ((r.rounds ≡ plan.entry.rounds) ⊎ T.answered RunEnds)) }
     ensures unread { (result ≡ Err RunFault.OutOfMemory) ⊎ (result ≡ Err RunFault.Thread) → (source.new ≡ source.old) × (wire.new ≡ wire.old) }
 {
     let task = Task {
-        secret,
-        entries,
-        schedules,
-        rounds,
+        secret: plan.secret,
+        entries: plan.entries,
+        schedules: plan.schedules,
+        rounds: plan.rounds,
         is_watched: true,
-    };
-    let crew = Crew {
-        ticker,
-        gates,
-        watch,
     };
     run_with(rt, alloc, task, source, wire, crew)
 }

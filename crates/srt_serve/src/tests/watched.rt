@@ -6,7 +6,8 @@ ghost use Rattle.std.specs.Vec.{vec_len};
 use crate::tests::datagrams::{FIRST, SECOND, STUDIA, STUDIO, conclusion_of};
 use crate::tests::{ALWAYS, Again, LIMIT, Member, Routes, SECRET, Scene, peer, scene_of};
 use crate::{
-    Answers, ChangeRoutes, Gates, Refusal, RunFault, RunStatus, Ticker, Watch, Watched, run_until,
+    Answers, ChangeRoutes, Crew, Gates, Refusal, RunFault, RunPlan, RunStatus, Ticker, Watch,
+    Watched, run_until,
 };
 use srt_cookie::Secret;
 use srt_lobby::Names;
@@ -185,19 +186,19 @@ where
     if routes.schedules.len() != routes.entries.len() {
         return Err(Fail::from("there is a schedule for each entry"));
     }
-    match run_until(
-        rt,
-        alloc,
-        &Secret::new(SECRET),
-        &routes.entries,
-        &routes.schedules,
-        source,
-        wire,
+    let secret = Secret::new(SECRET);
+    let plan = RunPlan {
+        secret: &secret,
+        entries: &routes.entries,
+        schedules: &routes.schedules,
+        rounds,
+    };
+    let crew = Crew {
         ticker,
         gates,
         watch,
-        rounds,
-    ) {
+    };
+    match run_until(rt, alloc, plan, source, wire, crew) {
         Ok(ran) => Ok(ran),
         Err(RunFault::OutOfMemory) => Err(Fail::from("memory")),
         Err(RunFault::Thread) => Err(Fail::from("a thread")),
