@@ -9,3 +9,4 @@ pub mod SameFile
 pub mod Compared
 pub mod Changed
 pub mod Placed
+pub mod Groups

@@ -1,5 +1,5 @@
 -- Two routes have the same keys exactly where the test says so.
-use Rattle.std.proofs.Common.{◌≡◌, ℕ, ◌==◌, Bool, Option, None, Some, List, refl, ap, nat_eq}
+use Rattle.std.proofs.Common.{◌≡◌, ℕ, ◌==◌, ◌&&◌, Bool, Option, None, Some, List, refl, ap, nat_eq}
 use Rattle.std.specs.Bool.{Decides}
 use Rattle.std.specs.Str.{bytes_eq}
 use Rattle.std.proofs.lemmas.Bool.Decides.{Decides-and, Decides-like, Decides-eqb}
@@ -9,6 +9,7 @@ use Rattle.srt_types.specs.declared.shared.Callers.TheVariants.{Draft, Libsrt}
 use Rattle.srt_types.specs.declared.shared.Mode.{Mode}
 use Rattle.srt_types.specs.declared.shared.Mode.TheVariants.{Live, Buffer}
 use Rattle.srt_types.specs.declared.shared.Network.{Network}
+use Rattle.srt_types.specs.declared.shared.Network.TheVariants.{V4, V6}
 use Rattle.srt_types.specs.declared.shared.Rules.{Rules}
 use Rattle.srt_types.specs.declared.shared.Schedule.{Schedule}
 use Rattle.srt_types.specs.Access.{RoleTerms, AccessTerms}
@@ -39,10 +40,16 @@ number_decides : (a b : Option ℕ) → Decides (same_if nat_eq a b) (a ≡ b)
 number_decides = if_decides nat_eq Decides-eqb
 
 network_decides : (a b : Network) → Decides (same_network a b) (a ≡ b)
-network_decides a b =
-    Decides-like (same_network a b) (λ h i. record { first = h.0 i; size = h.1 i })
-    (λ p. (ap (λ (n : Network). n.first) p, ap (λ (n : Network). n.size) p))
-    (Decides-and (a.first == b.first) (a.size == b.size) (Decides-eqb a.first b.first) (Decides-eqb a.size b.size))
+network_decides (V4 first size) (V4 other many) =
+    Decides-like (first == other && size == many) (λ h i. V4 (h.0 i) (h.1 i))
+    (λ p. let firsts : first ≡ other = cc in let sizes : size ≡ many = cc in (firsts, sizes))
+    (Decides-and (first == other) (size == many) (Decides-eqb first other) (Decides-eqb size many))
+network_decides (V4 first size) (V6 other prefix) = (λ e. cc, λ p. cc)
+network_decides (V6 first prefix) (V4 other size) = (λ e. cc, λ p. cc)
+network_decides (V6 first prefix) (V6 other many) =
+    Decides-like (first == other && prefix == many) (λ h i. V6 (h.0 i) (h.1 i))
+    (λ p. let firsts : first ≡ other = cc in let prefixes : prefix ≡ many = cc in (firsts, prefixes))
+    (Decides-and (first == other) (prefix == many) (Decides-eqb first other) (Decides-eqb prefix many))
 
 networks_decide : (a b : List Network) → Decides (same_networks a b) (a ≡ b)
 networks_decide a b = slice_eq-Decides network_decides a b (same_networks a b) refl

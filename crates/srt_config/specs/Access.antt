@@ -5,11 +5,11 @@ use Rattle.std.specs.Int.{w32, from_be_bytes}
 use Rattle.std.specs.List.{list_all}
 use Rattle.toml.specs.Data.{Data, Items, no_items, item, Members, get_member, as_str, as_array}
 use Rattle.srt_types.specs.declared.shared.Network.{Network}
-use Rattle.srt_types.specs.Access.{AccessTerms, network_of}
+use Rattle.srt_types.specs.Access.{AccessTerms, ip_number, network_of, ipv6_network_of}
 use Rattle.srt_types.specs.Entries.{is_between}
 use Rattle.srt_config.specs.declared.config.table.Key.{Key}
 use Rattle.srt_config.specs.declared.config.table.Key.TheVariants.{PublishFrom, RequestFrom, PublishKey, RequestKey}
-use Rattle.srt_config.specs.Address.{parted, octet_to}
+use Rattle.srt_config.specs.Address.{parted, octet_to, has_byte, ipv6_in}
 use Rattle.srt_config.specs.KeyTable.{key_name, limits_of}
 use Rattle.srt_config.specs.FirstFault.{Fault, WrongKind, OutOfRange, BadAddress, ◌>>=◌}
 use Rattle.srt_config.specs.Keys.{of_kind, optional, text_value}
@@ -24,11 +24,25 @@ unfoldable pub ending_in : List ℕ → Option (ℕ × ℕ)
 ending_in text = ending_of text (parted 47 text)
 
 -- `a.b.c.d` or `a.b.c.d/n`, with no bit set after the first n
-unfoldable pub network_in : List ℕ → Option Network
-network_in text =
+unfoldable pub ipv4_network_in : List ℕ → Option Network
+ipv4_network_in text =
     option_and_then (λ a. option_and_then (λ b. option_and_then (λ c. option_and_then
     (λ d. network_of (from_be_bytes w32 (a.0 ∷ b.0 ∷ c.0 ∷ d.0 ∷ [])) d.1)
     (ending_in c.1)) (octet_to 46 b.1)) (octet_to 46 a.1)) (octet_to 46 text)
+
+-- the IPv6 address, and the number of first bits after a slash: 128 without one
+abbrev pub ipv6_network_of_parts : List ℕ → Option (List ℕ × List ℕ) → Option Network
+ipv6_network_of_parts text (Some parts) =
+    option_and_then (λ ip. option_and_then (λ prefix. ipv6_network_of (ip_number ip) prefix) (number_in 129 parts.1)) (ipv6_in parts.0)
+ipv6_network_of_parts text None = option_and_then (λ ip. ipv6_network_of (ip_number ip) 128) (ipv6_in text)
+
+-- `X` or `X/n` with an IPv6 address X, with no bit set after the first n
+unfoldable pub ipv6_network_in : List ℕ → Option Network
+ipv6_network_in text = ipv6_network_of_parts text (parted 47 text)
+
+-- a network of either family: a colon is in every text of IPv6, and in none of IPv4
+unfoldable pub network_in : List ℕ → Option Network
+network_in text = if has_byte 58 text then ipv6_network_in text else ipv4_network_in text
 
 -- every item is a text
 abbrev pub are_texts : Items → Bool

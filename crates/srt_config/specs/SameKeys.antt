@@ -7,6 +7,7 @@ use Rattle.srt_types.specs.declared.shared.Callers.TheVariants.{Draft, Libsrt}
 use Rattle.srt_types.specs.declared.shared.Mode.{Mode}
 use Rattle.srt_types.specs.declared.shared.Mode.TheVariants.{Live, Buffer}
 use Rattle.srt_types.specs.declared.shared.Network.{Network}
+use Rattle.srt_types.specs.declared.shared.Network.TheVariants.{V4, V6}
 use Rattle.srt_types.specs.declared.shared.Rules.{Rules}
 use Rattle.srt_types.specs.declared.shared.Schedule.{Schedule}
 use Rattle.srt_types.specs.Access.{RoleTerms, AccessTerms}
@@ -32,7 +33,10 @@ same_callers Libsrt Draft = false
 same_callers Libsrt Libsrt = true
 
 abbrev pub same_network : Network → Network → Bool
-same_network a b = a.first == b.first && a.size == b.size
+same_network (V4 first size) (V4 other many) = first == other && size == many
+same_network (V4 first size) (V6 other prefix) = false
+same_network (V6 first prefix) (V4 other size) = false
+same_network (V6 first prefix) (V6 other many) = first == other && prefix == many
 
 -- the same networks in the same order
 abbrev pub same_networks : List Network → List Network → Bool

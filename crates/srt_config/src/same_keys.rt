@@ -54,7 +54,22 @@ fn same_number(a: Option<u32>, b: Option<u32>) -> bool
 fn same_network(a: Network, b: Network) -> bool
     ensures { result ≡ same_network a b }
 {
-    a.first == b.first && a.size == b.size
+    match a {
+        Network::V4 { first, size } => match b {
+            Network::V4 {
+                first: other,
+                size: many,
+            } => first == other && size == many,
+            Network::V6 { .. } => false,
+        },
+        Network::V6 { first, prefix } => match b {
+            Network::V4 { .. } => false,
+            Network::V6 {
+                first: other,
+                prefix: many,
+            } => first == other && prefix == many,
+        },
+    }
 }
 
 fn same_networks(a: &[Network], b: &[Network]) -> bool

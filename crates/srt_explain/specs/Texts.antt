@@ -1,8 +1,11 @@
 -- The texts of warnings.
-use Rattle.std.specs.Prelude.{◌≡◌, ℕ, List, ◌++◌, map, codes, decimal, slice_index, Option, None, Some}
+use Rattle.std.specs.Prelude.{◌≡◌, ℕ, List, [], ◌∷◌, ◌++◌, map, codes, decimal, slice_index, Option, None, Some, if◌then◌else◌}
+use Rattle.std.specs.Net.Addr.{segments_of}
+use Rattle.std.specs.Net.Text.{hex_groups_text}
 use Rattle.toml.specs.Data.{Members}
 use Rattle.srt_types.specs.declared.shared.Role.{Role}
 use Rattle.srt_types.specs.declared.shared.Role.TheVariants.{Publish, Request}
+use Rattle.srt_types.specs.Access.{is_mapped}
 use Rattle.srt_types.specs.Terms.{Terms}
 use Rattle.srt_config.specs.declared.config.address.BindAddress.{BindAddress}
 use Rattle.srt_config.specs.declared.config.table.Key.{Key}
@@ -18,13 +21,24 @@ octets_text ip =
     decimal (slice_index ip 0) ++ codes "." ++ decimal (slice_index ip 1) ++ codes "." ++ decimal (slice_index ip 2) ++ codes "."
     ++ decimal (slice_index ip 3)
 
+-- the 16 bytes of an address: those of an IPv4 address as four numbers, others as groups (RFC 5952, section 4)
+unfoldable pub address_text : (ip : List ℕ) → List ℕ
+address_text ip =
+    if is_mapped ip
+    then octets_text (slice_index ip 12 ∷ slice_index ip 13 ∷ slice_index ip 14 ∷ slice_index ip 15 ∷ [])
+    else hex_groups_text (segments_of ip)
+
+-- the same before a port: groups in brackets
+unfoldable pub host_text : (ip : List ℕ) → List ℕ
+host_text ip = if is_mapped ip then address_text ip else codes "[" ++ address_text ip ++ codes "]"
+
 unfoldable pub example_secret_text : List ℕ
 example_secret_text =
     codes "secret: it is that of examples/gateway.toml, which everybody can " ++ codes "read; put the output of openssl rand -hex 32 in its place"
 
 unfoldable pub exposed_text : BindAddress → List ℕ
 exposed_text address =
-    codes "status = \"" ++ (octets_text address.ip ++ (codes ":" ++ (decimal address.port
+    codes "status = \"" ++ (host_text address.ip ++ (codes ":" ++ (decimal address.port
     ++ codes "\": others can reach the status page, which tells who is connected and can't ask for a password; ")))
 
 unfoldable pub loopback_text : (port : ℕ) → List ℕ

@@ -1,10 +1,10 @@
 -- The risks of a valid configuration (our choice).
 use Rattle.std.specs.Prelude.{◌≡◌, ℕ, suc, ◌+◌, ◌-◌, ◌*◌, ◌/◌, ◌==◌, nat_lt, nat_le, Bool, true, false, not, codes, List, [], ◌∷◌, ◌++◌, map}
-use Rattle.std.specs.Prelude.{slice_index, slice_get, min, Option, None, Some, is_some, is_none, ◌&&◌, if◌then◌else◌}
+use Rattle.std.specs.Prelude.{slice_index, slice_get, min, Option, None, Some, is_some, is_none, ◌&&◌, ◌||◌, if◌then◌else◌}
 use Rattle.std.specs.Str.{bytes_eq}
 use Rattle.toml.specs.Data.{Data, Items, no_items, get_item, Members, no_members, get_member, as_str, as_array, as_table}
 use Rattle.srt_types.specs.declared.shared.Role.TheVariants.{Publish, Request}
-use Rattle.srt_types.specs.Access.{RoleTerms, AccessTerms}
+use Rattle.srt_types.specs.Access.{RoleTerms, AccessTerms, is_mapped}
 use Rattle.srt_types.specs.Terms.{Terms}
 use Rattle.srt_types.specs.declared.shared.Mode.{Mode}
 use Rattle.srt_types.specs.declared.shared.Mode.TheVariants as mode
@@ -174,9 +174,13 @@ text_in None = None
 abbrev pub has_example_secret : Members → Bool
 has_example_secret table = is_example (text_in (get_member (codes "secret") table))
 
--- an address of 127.0.0.0/8
+-- the 16 bytes of ::1
+abbrev pub ipv6_loopback : List ℕ
+ipv6_loopback = 0 ∷ 0 ∷ 0 ∷ 0 ∷ 0 ∷ 0 ∷ 0 ∷ 0 ∷ 0 ∷ 0 ∷ 0 ∷ 0 ∷ 0 ∷ 0 ∷ 0 ∷ 1 ∷ []
+
+-- an address of 127.0.0.0/8, or ::1
 abbrev pub is_loopback : BindAddress → Bool
-is_loopback address = slice_index address.ip 0 == 127
+is_loopback address = is_mapped address.ip && slice_index address.ip 12 == 127 || bytes_eq address.ip ipv6_loopback
 
 -- the warnings about the address of the status page
 abbrev pub status_warnings : Option BindAddress → List Warning

@@ -63,7 +63,7 @@ pub enum Hint {
     NoPort,
     /// The address has a port alone.
     PortAlone,
-    /// The address is one of IPv6.
+    /// The address is one of IPv6, in the wrong form.
     Ipv6,
     /// The list has this many values.
     Members(usize),
@@ -75,10 +75,10 @@ pub enum Hint {
     AddressInNetwork {
         /// The number of the value, counted from 1.
         number: usize,
-        /// The address that is written.
-        address: [u8; 4],
+        /// The address that is written. An IPv4 address is `::ffff:a.b.c.d`.
+        address: [u8; 16],
         /// The network's first address.
-        first: [u8; 4],
+        first: [u8; 16],
         /// The number of first bits that the network's addresses have in common.
         prefix: u32,
     },

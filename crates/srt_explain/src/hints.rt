@@ -11,7 +11,8 @@ use crate::values::{
     first_named, first_no_network, first_no_text, members_at, opening_of, routes_of, sessions_of,
     text_or_empty, value_at,
 };
-use srt_config::{Key, ROUTE_KEYS, TOP_KEYS, ValueKind, read_network};
+use srt_config::{Key, ROUTE_KEYS, TOP_KEYS, ValueKind, read_network, read_number};
+use srt_types::Network;
 use toml::{Table, Value};
 
 /// Returns the hint for a text that isn't TOML from this place on.
@@ -126,23 +127,52 @@ pub(crate) fn of_kind(table: &Table, key: Key) -> Hint
     }
 }
 
-/// Reads the number of first bits that a network's text has after its slash: 0 to 32, without leading zeros.
-fn prefix_in(text: &str) -> Option<u32> {
-    let prefix = match text.as_bytes() {
-        [one @ b'0'..=b'9'] => u32::from(*one - b'0'),
-        [ten @ b'1'..=b'9', one @ b'0'..=b'9'] => {
-            u32::from(*ten - b'0') * 10 + u32::from(*one - b'0')
-        }
-        _ => return None,
-    };
-    if prefix <= 32 { Some(prefix) } else { None }
+/// Reads the number of first bits that a network's text has after its slash, without leading zeros, if it is below this
+/// limit.
+fn prefix_in(limit: u64, text: &str) -> Option<u32> {
+    match u32::try_from(read_number(text.as_bytes(), limit)?) {
+        Ok(prefix) => Some(prefix),
+        Err(_) => None,
+    }
 }
 
-/// Reads a network of one address, and returns that address.
-fn only_address(text: &str) -> Option<u32> {
-    match read_network(text.as_bytes()) {
-        Some(network) if !text.contains("/") => Some(network.first),
-        _ => None,
+/// Reads a network of one address.
+fn only_address(text: &str) -> Option<Network> {
+    if text.contains("/") {
+        return None;
+    }
+    read_network(text.as_bytes())
+}
+
+/// The 16 bytes of an IPv4 address, `::ffff:a.b.c.d`.
+fn mapped(ip: u32) -> [u8; 16] {
+    let [a, b, c, d] = ip.to_be_bytes();
+    [0, 0, 0, 0, 0, 0, 0, 0, 0, 0, 255, 255, a, b, c, d]
+}
+
+/// Returns the hint for an IPv4 address with the length of a network, 0 to 32 bits.
+fn of_ipv4_network(number: usize, ip: u32, prefix: u32) -> Hint {
+    let mask = u32::MAX
+        .checked_shl(32u32.saturating_sub(prefix))
+        .unwrap_or(0);
+    Hint::AddressInNetwork {
+        number,
+        address: mapped(ip),
+        first: mapped(ip & mask),
+        prefix,
+    }
+}
+
+/// Returns the hint for an IPv6 address with the length of a network, 0 to 128 bits.
+fn of_ipv6_network(number: usize, ip: u128, prefix: u32) -> Hint {
+    let mask = u128::MAX
+        .checked_shl(128u32.saturating_sub(prefix))
+        .unwrap_or(0);
+    Hint::AddressInNetwork {
+        number,
+        address: ip.to_be_bytes(),
+        first: (ip & mask).to_be_bytes(),
+        prefix,
     }
 }
 
@@ -151,17 +181,16 @@ fn of_network(number: usize, text: &str) -> Hint {
     let Some((address, prefix)) = text.split_once("/") else {
         return Hint::NoNetwork(number);
     };
-    let (Some(address), Some(prefix)) = (only_address(address), prefix_in(prefix)) else {
-        return Hint::NoNetwork(number);
-    };
-    let mask = u32::MAX
-        .checked_shl(32u32.saturating_sub(prefix))
-        .unwrap_or(0);
-    Hint::AddressInNetwork {
-        number,
-        address: address.to_be_bytes(),
-        first: (address & mask).to_be_bytes(),
-        prefix,
+    match only_address(address) {
+        Some(Network::V4 { first, size: _ }) => match prefix_in(33, prefix) {
+            Some(prefix) => of_ipv4_network(number, first, prefix),
+            None => Hint::NoNetwork(number),
+        },
+        Some(Network::V6 { first, prefix: _ }) => match prefix_in(129, prefix) {
+            Some(prefix) => of_ipv6_network(number, first, prefix),
+            None => Hint::NoNetwork(number),
+        },
+        None => Hint::NoNetwork(number),
     }
 }
 
@@ -255,6 +284,9 @@ fn of_address(text: &str) -> Hint
     ensures { is_hint_private result ≡ true }
 {
     let colons = text.as_bytes().iter().filter(|byte| **byte == b':').count();
+    if text.starts_with("[") && text.ends_with("]") {
+        return Hint::NoPort;
+    }
     if text.starts_with("[") || colons > 1 {
         return Hint::Ipv6;
     }

@@ -2,7 +2,8 @@
 
 ghost use Rattle.std.specs.Prelude.{◌≡◌, Some};
 ghost use Rattle.std.specs.Fmt.{DisplaysOnOk};
-ghost use Rattle.srt_explain.specs.Texts.{octets_text, exposed_text, loopback_text, exposed_status_text, open_key_text, small_outbox_text};
+ghost use Rattle.srt_explain.specs.Texts.{octets_text, address_text, host_text, exposed_text, loopback_text, exposed_status_text};
+ghost use Rattle.srt_explain.specs.Texts.{open_key_text, small_outbox_text};
 ghost use Rattle.srt_explain.specs.Texts.{brought_text, enough_text, small_window_text, one_session_text};
 ghost use Rattle.srt_explain.specs.Texts.{unused_takeover_text, unused_limit_text, one_unreserved_text, no_callers_text, no_reserved_text};
 ghost use Rattle.srt_explain.specs.Texts.{no_takeover_text, no_resend_limit_text, example_secret_text, warning_text, route_text, warning_line};
@@ -10,8 +11,9 @@ ghost use Rattle.srt_explain.specs.Texts.{no_takeover_text, no_resend_limit_text
 use crate::explanation::{Explanation, Hint, RouteAt};
 use crate::warnings::{Warning, WarningText};
 use srt_config::{BindAddress, ConfigFault, Key, Limits, ROUTE_KEYS, TOP_KEYS, ValueKind};
-use srt_types::Role;
+use srt_types::{Role, is_mapped};
 use std::fmt;
+use std::net::Ipv6Addr;
 
 /// A key as it is written, in quotes if it isn't one of letters, digits, `-` and `_` alone.
 #[derive(Clone, Copy)]
@@ -42,10 +44,14 @@ impl fmt::Display for Allowed {
         match self.0 {
             Key::Secret => write!(f, "{most} hexadecimal digits in quotes"),
             Key::Bind => {
-                f.write_str("an IPv4 address and a UDP port in quotes, as \"0.0.0.0:9000\"")
+                f.write_str(
+                    "an address and a UDP port in quotes, as \"0.0.0.0:9000\" or \"[::]:9000\"",
+                )
             }
             Key::Status => {
-                f.write_str("an IPv4 address and a TCP port in quotes, as \"127.0.0.1:9001\"")
+                f.write_str(
+                    "an address and a TCP port in quotes, as \"127.0.0.1:9001\" or \"[::1]:9001\"",
+                )
             }
             Key::Name => {
                 write!(
@@ -69,7 +75,7 @@ impl fmt::Display for Allowed {
             Key::PublishFrom | Key::RequestFrom => {
                 write!(
                     f,
-                    "{least} to {most} IPv4 addresses or networks in quotes, as [\"192.0.2.7\", \"198.51.100.0/24\"]"
+                    "{least} to {most} addresses or networks in quotes, as [\"192.0.2.7\", \"198.51.100.0/24\", \"2001:db8::/32\"]"
                 )
             }
             Key::PublishKey | Key::RequestKey => {
@@ -318,7 +324,7 @@ fn address_before_port(key: Key) -> &'static str {
     }
 }
 
-/// Octets with dots between them.
+/// Four octets with dots between them.
 #[derive(Clone, Copy)]
 struct Octets([u8; 4]);
 
@@ -329,6 +335,42 @@ impl fmt::Display for Octets {
     fn fmt<W: fmt::Write>(&self, f: &mut fmt::Formatter<W>) -> fmt::Result {
         let [a, b, c, d] = self.0;
         write!(f, "{a}.{b}.{c}.{d}")
+    }
+}
+
+/// The 16 bytes of an address: those of an IPv4 address as four octets, others as groups.
+#[derive(Clone, Copy)]
+struct Address([u8; 16]);
+
+impl fmt::Display for Address {
+    ghost output = { λ x. Some (address_text x.0) };
+
+    #[tactic(auto, unfolding(crate::specs::Texts::address_text))]
+    fn fmt<W: fmt::Write>(&self, f: &mut fmt::Formatter<W>) -> fmt::Result {
+        let ip = self.0;
+        if is_mapped(&ip) {
+            let octets = Octets([ip[12], ip[13], ip[14], ip[15]]);
+            return write!(f, "{octets}");
+        }
+        let groups = Ipv6Addr::from_octets(ip).hex_groups();
+        write!(f, "{groups}")
+    }
+}
+
+/// The same before a port: groups in brackets.
+#[derive(Clone, Copy)]
+struct Host([u8; 16]);
+
+impl fmt::Display for Host {
+    ghost output = { λ x. Some (host_text x.0) };
+
+    #[tactic(auto, unfolding(crate::specs::Texts::host_text))]
+    fn fmt<W: fmt::Write>(&self, f: &mut fmt::Formatter<W>) -> fmt::Result {
+        let address = Address(self.0);
+        if is_mapped(&self.0) {
+            return write!(f, "{address}");
+        }
+        write!(f, "[{address}]")
     }
 }
 
@@ -346,7 +388,7 @@ fn write_bad_network<W: fmt::Write>(
             first,
             prefix,
         } => {
-            let (address, first) = (Octets(address), Octets(first));
+            let (address, first) = (Address(address), Address(first));
             write!(
                 f,
                 "{name} = {value}: value {number} of the list is an address with a network's length; "
@@ -381,7 +423,7 @@ fn write_bad_address<W: fmt::Write>(
             let address = address_before_port(key);
             write!(f, "; the address is missing, {address}")
         }
-        Hint::Ipv6 => f.write_str("; IPv6 isn't served"),
+        Hint::Ipv6 => f.write_str("; an IPv6 address stands in brackets, without a zone"),
         _ => Ok(()),
     }
 }
@@ -414,7 +456,7 @@ impl fmt::Display for Explanation {
 fn write_exposed<W: fmt::Write>(f: &mut fmt::Formatter<W>, address: BindAddress) -> fmt::Result
     ensures { DisplaysOnOk W.write_str_gives f.old result (Some (exposed_text address)) f.new }
 {
-    let ip = Octets(address.ip);
+    let ip = Host(address.ip);
     let port = address.port;
     write!(
         f,

@@ -14,7 +14,7 @@ ghost use Rattle.srt_explain.specs.Warnings.{warnings_of, route_of, names_missin
 
 use crate::values::{lacks, text_at};
 use srt_config::{BindAddress, Config, Key};
-use srt_types::{Access, Entry, Mode, Role, RoleAccess};
+use srt_types::{Access, Entry, Mode, Role, RoleAccess, is_mapped};
 use std::alloc::{AllocError, Global};
 use toml::Table;
 
@@ -23,7 +23,7 @@ use toml::Table;
 pub enum Warning {
     /// The secret is the one of examples/gateway.toml.
     ExampleSecret,
-    /// The status page is at an address of other machines than this one too: none of 127.0.0.0/8.
+    /// The status page is at an address of other machines than this one too: none of 127.0.0.0/8, and not `::1`.
     ExposedStatus {
         /// The address.
         address: BindAddress,
@@ -441,11 +441,14 @@ fn push_routes(list: &mut Vec<Warning>, table: &Table, entries: &[Entry]) -> Res
     Ok(())
 }
 
-/// Whether an address is one of this machine alone: one of 127.0.0.0/8.
+/// The 16 bytes of `::1`.
+const IPV6_LOOPBACK: [u8; 16] = [0, 0, 0, 0, 0, 0, 0, 0, 0, 0, 0, 0, 0, 0, 0, 1];
+
+/// Whether an address is one of this machine alone: one of 127.0.0.0/8, or `::1`.
 fn is_loopback(address: BindAddress) -> bool
     ensures { result ≡ is_loopback address }
 {
-    address.ip[0] == 127
+    is_mapped(&address.ip) && address.ip[12] == 127 || address.ip[..] == IPV6_LOOPBACK[..]
 }
 
 /// Adds the warning about the address of the status page.

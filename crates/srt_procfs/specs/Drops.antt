@@ -1,6 +1,7 @@
--- Dropped datagrams in the text of /proc/net/udp.
+-- Dropped datagrams in the text of /proc/net/udp or /proc/net/udp6.
 use Rattle.std.specs.Prelude.{ℕ, ◌+◌, ◌-◌, ◌/◌, ◌%◌, Bool, false, nat_lt, List, [], ◌∷◌, ◌++◌, Option, None, Some, slice_index, if◌then◌else◌}
 use Rattle.std.specs.Str.{bytes_eq}
+use Rattle.srt_types.specs.Access.{is_mapped}
 use Rattle.srt_procfs.specs.Parts.{parts_of, word_at}
 use Rattle.srt_procfs.specs.Numbers.{number_in}
 
@@ -12,11 +13,25 @@ hex_digit n = if nat_lt n 10 then 48 + n else 65 + (n - 10)
 abbrev pub hex_of_byte : ℕ → List ℕ
 hex_of_byte b = hex_digit (b / 16 % 16) ∷ hex_digit (b % 16) ∷ []
 
--- the address's bytes from the last to the first, a colon, the port's two bytes
-abbrev pub local_text : (ip : List ℕ) → (port : ℕ) → List ℕ
-local_text ip port =
-    hex_of_byte (slice_index ip 3) ++ hex_of_byte (slice_index ip 2) ++ hex_of_byte (slice_index ip 1) ++ hex_of_byte (slice_index ip 0)
-    ++ 58 ∷ [] ++ hex_of_byte (port / 256) ++ hex_of_byte (port % 256)
+-- four bytes from the last to the first
+abbrev pub word_text : (a b c d : ℕ) → List ℕ
+word_text a b c d = hex_of_byte d ++ hex_of_byte c ++ hex_of_byte b ++ hex_of_byte a
+
+-- the four bytes of an address from an index on, from the last to the first
+abbrev pub word_from : (ip : List ℕ) → (at : ℕ) → List ℕ
+word_from ip at = word_text (slice_index ip at) (slice_index ip (at + 1)) (slice_index ip (at + 2)) (slice_index ip (at + 3))
+
+-- a colon and the port's two bytes
+abbrev pub port_text : (port : ℕ) → List ℕ
+port_text port = 58 ∷ [] ++ hex_of_byte (port / 256) ++ hex_of_byte (port % 256)
+
+-- an IPv4 address and the port, as /proc/net/udp has them; the address is the last word of ::ffff:a.b.c.d
+unfoldable pub ipv4_local : (ip : List ℕ) → (port : ℕ) → List ℕ
+ipv4_local ip port = word_from ip 12 ++ port_text port
+
+-- an IPv6 address by words of four bytes and the port, as /proc/net/udp6 has them
+unfoldable pub ipv6_local : (ip : List ℕ) → (port : ℕ) → List ℕ
+ipv6_local ip port = word_from ip 0 ++ word_from ip 4 ++ word_from ip 8 ++ word_from ip 12 ++ port_text port
 
 -- a word is this one
 abbrev pub is_word : (word : List ℕ) → Option (List ℕ) → Bool
@@ -41,5 +56,7 @@ abbrev pub first_drops : (local : List ℕ) → (lines : List (List ℕ)) → Op
 first_drops local [] = None
 first_drops local (line ∷ lines) = if is_at local line then drops_of line else first_drops local lines
 
+-- that of the local address of these 16 bytes, in the table of its family
 abbrev pub drops_in : (text ip : List ℕ) → (port : ℕ) → Option ℕ
-drops_in text ip port = first_drops (local_text ip port) (parts_of 10 text)
+drops_in text ip port =
+    if is_mapped ip then first_drops (ipv4_local ip port) (parts_of 10 text) else first_drops (ipv6_local ip port) (parts_of 10 text)

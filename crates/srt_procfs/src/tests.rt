@@ -26,6 +26,26 @@ const TABLE: &[u8] =
 15875: 0100007F:2328 00000000:0000 07 00000000:00033C00 00:00000000 00000000     0        0 83274 2 000000009390efbc 208       \n\
 15876: 00000000:2329 00000000:0000 07 00000000:00001200 00:00000000 00000000     0        0 83275 2 00000000eed59b9c 198       \n";
 
+/// A table of three sockets over IPv6, of which two have lost datagrams: at `::1`, and at `::`.
+const IPV6_TABLE: &[u8] =
+    b"  sl  local_address                         remote_address                        st tx_queue rx_queue \
+tr tm->when retrnsmt   uid  timeout inode ref pointer drops\n\
+ 1425: 00000000000000000000000001000000:2328 00000000000000000000000000000000:0000 07 00000000:00001200 \
+00:00000000 00000000     0        0 71070 2 00000000b172fc69 206\n\
+ 1426: 00000000000000000000000000000000:2329 00000000000000000000000000000000:0000 07 00000000:00001200 \
+00:00000000 00000000     0        0 71071 2 000000006ea612ad 48\n\
+ 2838: 00000000000000000000000000000000:E8AD 00000000000000000000000000000000:0000 07 00000000:00000000 \
+00:00000000 00000000     0        0 71072 2 000000006368c875 0\n";
+
+/// The 16 bytes of an IPv4 address.
+fn mapped(octets: [u8; 4]) -> [u8; 16] {
+    let [a, b, c, d] = octets;
+    [0, 0, 0, 0, 0, 0, 0, 0, 0, 0, 255, 255, a, b, c, d]
+}
+
+/// The 16 bytes of `::1`.
+const LOOPBACK: [u8; 16] = [0, 0, 0, 0, 0, 0, 0, 0, 0, 0, 0, 0, 0, 0, 0, 1];
+
 #[test]
 fn a_pending_signal_asks_to_stop(rt: HostRuntime) {
     assert!(rt; asks_to_stop(TERMINATED));
@@ -63,19 +83,28 @@ fn nobody_has_asked_these_tests_to_stop(rt: HostRuntime) {
 
 #[test]
 fn drops_of_each_socket(rt: HostRuntime) {
-    assert_eq!(rt; drops_in(TABLE, [127, 0, 0, 1], 9000), Some(208));
-    assert_eq!(rt; drops_in(TABLE, [0, 0, 0, 0], 9001), Some(198));
-    assert_eq!(rt; drops_in(TABLE, [0, 0, 0, 0], 43311), Some(0));
+    assert_eq!(rt; drops_in(TABLE, mapped([127, 0, 0, 1]), 9000), Some(208));
+    assert_eq!(rt; drops_in(TABLE, mapped([0, 0, 0, 0]), 9001), Some(198));
+    assert_eq!(rt; drops_in(TABLE, mapped([0, 0, 0, 0]), 43311), Some(0));
+}
+
+#[test]
+fn drops_of_each_socket_over_ipv6(rt: HostRuntime) {
+    assert_eq!(rt; drops_in(IPV6_TABLE, LOOPBACK, 9000), Some(206));
+    assert_eq!(rt; drops_in(IPV6_TABLE, [0; 16], 9001), Some(48));
+    assert_eq!(rt; drops_in(IPV6_TABLE, [0; 16], 59565), Some(0));
+    assert_eq!(rt; drops_in(IPV6_TABLE, [0; 16], 9000), None);
+    assert_eq!(rt; drops_in(IPV6_TABLE, mapped([0, 0, 0, 0]), 9001), None);
 }
 
 #[test]
 fn no_socket_no_drops(rt: HostRuntime) {
-    assert_eq!(rt; drops_in(TABLE, [0, 0, 0, 0], 9000), None);
-    assert_eq!(rt; drops_in(TABLE, [127, 0, 0, 1], 9001), None);
-    assert_eq!(rt; drops_in(TABLE, [1, 0, 0, 127], 9000), None);
-    assert_eq!(rt; drops_in(b"", [0, 0, 0, 0], 0), None);
+    assert_eq!(rt; drops_in(TABLE, mapped([0, 0, 0, 0]), 9000), None);
+    assert_eq!(rt; drops_in(TABLE, mapped([127, 0, 0, 1]), 9001), None);
+    assert_eq!(rt; drops_in(TABLE, mapped([1, 0, 0, 127]), 9000), None);
+    assert_eq!(rt; drops_in(b"", mapped([0, 0, 0, 0]), 0), None);
     assert_eq!(rt;
-        drops_in(b"1: 0100007F:2328 2 3", [127, 0, 0, 1], 9000),
+        drops_in(b"1: 0100007F:2328 2 3", mapped([127, 0, 0, 1]), 9000),
         None
     );
 }
@@ -84,9 +113,9 @@ fn no_socket_no_drops(rt: HostRuntime) {
 fn a_socket_of_ones_own_has_dropped_nothing(rt: HostRuntime) -> Result<(), Fail> {
     let socket = UdpSocket::bind(&rt, "127.0.0.1:0")?;
     let port = socket.local_addr()?.port();
-    assert_eq!(rt; kernel_drops(&rt, [127, 0, 0, 1], port), Some(0));
+    assert_eq!(rt; kernel_drops(&rt, mapped([127, 0, 0, 1]), port), Some(0));
     drop(socket);
-    assert_eq!(rt; kernel_drops(&rt, [127, 0, 0, 1], port), None);
+    assert_eq!(rt; kernel_drops(&rt, mapped([127, 0, 0, 1]), port), None);
     Ok(())
 }
 

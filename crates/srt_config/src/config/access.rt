@@ -7,10 +7,11 @@ ghost use Rattle.srt_types.specs.Access.{access_of};
 ghost use Rattle.srt_types.specs.Entries.{is_between};
 ghost use Rattle.srt_config.specs.FirstFault.{seen, Gives};
 ghost use Rattle.srt_config.specs.inside.AccessParts.{ending_seen};
-ghost use Rattle.srt_config.specs.Access.{ending_in, network_in, are_texts, member_count, networked, networks_from, list_in, list_value, list_at};
+ghost use Rattle.srt_config.specs.Access.{ending_in, ipv4_network_in, ipv6_network_in, network_in, are_texts, member_count};
+ghost use Rattle.srt_config.specs.Access.{networked, networks_from, list_in, list_value, list_at};
 ghost use Rattle.srt_config.specs.Access.{is_key_byte, is_key_text, key_in, key_value, key_at, access_at};
 
-use super::address::octet_to;
+use super::address::{has_byte, ipv6_in, octet_to};
 use super::faults::ConfigFault;
 use super::keys::{found_at, text_value};
 use super::table::Key;
@@ -54,11 +55,10 @@ fn read_ending(text: &[u8]) -> Option<Ending>
     }
 }
 
-/// Reads a network, `a.b.c.d` or `a.b.c.d/n`, in decimal digits without leading zeros. An address alone is a network of one
-/// address. None if the text has another form, or if the address has a bit set after its first n.
-#[tactic(auto, unfolding(crate::specs::Access::network_in))]
-pub fn read_network(text: &[u8]) -> Option<Network>
-    ensures { result ≡ network_in text.now }
+/// Reads `a.b.c.d` or `a.b.c.d/n` in decimal digits without leading zeros.
+#[tactic(auto, unfolding(crate::specs::Access::ipv4_network_in))]
+fn read_ipv4_network(text: &[u8]) -> Option<Network>
+    ensures { result ≡ ipv4_network_in text.now }
 {
     let a = octet_to(b'.', text)?;
     let b = octet_to(b'.', a.behind)?;
@@ -66,6 +66,38 @@ pub fn read_network(text: &[u8]) -> Option<Network>
     let d = read_ending(c.behind)?;
     let address = u32::from_be_bytes([a.octet, b.octet, c.octet, d.octet]);
     Network::of_prefix(address, d.prefix)
+}
+
+/// Reads `X` or `X/n` with an IPv6 address X and n in decimal digits without leading zeros.
+#[tactic(auto, unfolding(crate::specs::Access::ipv6_network_in))]
+fn read_ipv6_network(text: &[u8]) -> Option<Network>
+    ensures { result ≡ ipv6_network_in text.now }
+{
+    match parted(b'/', text) {
+        Some(parts) => {
+            let ip = ipv6_in(parts.before)?;
+            let prefix = read_number(parts.behind, 129)?;
+            Network::of_ipv6_prefix(u128::from_be_bytes(ip), prefix as u32)
+        }
+        None => {
+            let ip = ipv6_in(text)?;
+            Network::of_ipv6_prefix(u128::from_be_bytes(ip), 128)
+        }
+    }
+}
+
+/// Reads a network: `a.b.c.d` or `a.b.c.d/n`, or `X` or `X/n` with an IPv6 address X, where n is in decimal digits without
+/// leading zeros. An address alone is a network of one address. None if the text has another form, or if the address has a
+/// bit set after its first n.
+#[tactic(auto, unfolding(crate::specs::Access::network_in))]
+pub fn read_network(text: &[u8]) -> Option<Network>
+    ensures { result ≡ network_in text.now }
+{
+    if has_byte(b':', text) {
+        read_ipv6_network(text)
+    } else {
+        read_ipv4_network(text)
+    }
 }
 
 /// Returns the network in a text, or `BadAddress`.

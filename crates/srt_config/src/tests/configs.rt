@@ -71,7 +71,7 @@ fn a_right_configuration(rt: HostRuntime) -> Result<(), Fail> {
         cookie(&config.secret, peer, 0),
         cookie(&Secret::new(bytes), peer, 0)
     );
-    assert_eq!(rt; config.bind.ip, [127, 0, 0, 1]);
+    assert_eq!(rt; config.bind.ip, mapped([127, 0, 0, 1]));
     assert_eq!(rt; config.bind.port, 0);
     assert_eq!(rt; config.workers, 1);
     assert_entries(&rt, &config, "studio");
@@ -151,6 +151,12 @@ fn numbers_at_their_limits_are_read(rt: HostRuntime) -> Result<(), Fail> {
     Ok(())
 }
 
+/// The 16 bytes of an IPv4 address.
+fn mapped(octets: [u8; 4]) -> [u8; 16] {
+    let [a, b, c, d] = octets;
+    [0, 0, 0, 0, 0, 0, 0, 0, 0, 0, 255, 255, a, b, c, d]
+}
+
 /// Asserts that the valid configuration is read with this name in the place of the first route's.
 fn assert_name(rt: &(impl AllocGlobal + Abort), name: &str) -> Result<(), Fail> {
     let text = changed(rt, RIGHT, "studio", name)?;
@@ -169,7 +175,7 @@ const NAMES: [&str; 3] = [
 fn names_and_addresses_are_read(rt: HostRuntime) -> Result<(), Fail> {
     let text = changed(&rt, RIGHT, "127.0.0.1", "255.254.0.10")?;
     let config = config_of(&rt, text.as_str())?;
-    assert_eq!(rt; config.bind.ip, [255, 254, 0, 10]);
+    assert_eq!(rt; config.bind.ip, mapped([255, 254, 0, 10]));
     for name in &NAMES {
         assert_name(&rt, name)?;
     }
@@ -184,7 +190,7 @@ fn a_status_page_may_have_an_address(rt: HostRuntime) -> Result<(), Fail> {
     let text = changed(&rt, RIGHT, "workers = 1\n", both)?;
     let config = config_of(&rt, text.as_str())?;
     let address = BindAddress {
-        ip: [10, 1, 2, 3],
+        ip: mapped([10, 1, 2, 3]),
         port: 9001,
     };
     assert_eq!(rt; config.status, Some(address));
