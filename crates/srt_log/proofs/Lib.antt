@@ -3,4 +3,5 @@ pub mod Slots
 pub mod Equal
 pub mod Between
 pub mod Limits
+pub mod Apart
 pub mod Calendar

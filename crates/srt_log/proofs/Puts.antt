@@ -5,6 +5,7 @@ use Rattle.std.proofs.Math.Seq.{take-append-add}
 use Rattle.std.proofs.lemmas.List.{length-take-le, take_all, take_more, flat_map_more}
 use Rattle.std.specs.List.{flat_map}
 use Rattle.srt_log.specs.Texts.{put, escaped, escaped_all, readable, readable_all}
+use Rattle.srt_log.specs.Peers.{next_group, next_groups}
 
 twice : (n : ℕ) (x y : List ℕ) → take n (take n x ++ y) ≡ take n (x ++ y)
 twice zero x y = refl
@@ -48,3 +49,7 @@ one_more bytes i within = more escaped bytes i within
 pub one_more_readable : (bytes : List ℕ) (i : ℕ) → i < length bytes →
     readable_all (take (i + 1) bytes) ≡ readable_all (take i bytes) ++ readable (slice_index bytes i)
 one_more_readable bytes i within = more readable bytes i within
+
+pub one_more_group : (groups : List ℕ) (i : ℕ) → i < length groups →
+    next_groups (take (i + 1) groups) ≡ next_groups (take i groups) ++ next_group (slice_index groups i)
+one_more_group groups i within = more next_group groups i within

@@ -5,6 +5,7 @@ pub mod Peers
 pub mod ConfigEvents
 pub mod Events
 pub mod LineLimit
+pub mod LineShares
 pub mod Snapshots
 pub mod Changes
 pub mod Telling

@@ -37,6 +37,14 @@ is_written calls moment = nat_le (lines_in (record { is_line = true; moment = mo
 abbrev pub omitted_at : List LimitCall → (moment : ℕ) → ℕ
 omitted_at calls moment = if begins calls moment then left_out_in calls else 0
 
+-- a line at this moment is one of the first of its second, of which it may have so many
+abbrev pub is_within : (most : ℕ) → List LimitCall → (moment : ℕ) → Bool
+is_within most calls moment = nat_le (lines_in (record { is_line = true; moment = moment } ∷ calls)) most
+
+-- what the latest second had beyond as many, where a new one begins at this moment
+abbrev pub omitted_within : (most : ℕ) → List LimitCall → (moment : ℕ) → ℕ
+omitted_within most calls moment = if begins calls moment then lines_in calls - most else 0
+
 -- the limit knows the latest second and its lines
 pub record StandsFor (limit : LineLimit) (calls : List LimitCall) : Type 0 where
   pub second_is : limit.second ≡ second_of calls
@@ -54,6 +62,12 @@ writes a calls = a.is_line && is_written calls a.moment
 abbrev pub written_in : List LimitCall → ℕ
 written_in [] = 0
 written_in (a ∷ calls) = more_if (writes a calls) (if begins calls a.moment then 0 else written_in calls)
+
+-- the same where a second may have so many
+abbrev pub written_within : (most : ℕ) → List LimitCall → ℕ
+written_within most [] = 0
+written_within most (a ∷ calls) =
+    more_if (a.is_line && is_within most calls a.moment) (if begins calls a.moment then 0 else written_within most calls)
 
 -- of the lines of a second the first fifty are written, and no more, at any times
 pub record KeepsTheLimit (calls : List LimitCall) : Type 0 where

@@ -1,24 +1,21 @@
 -- The text of a line while it is made.
-use Rattle.std.specs.Prelude.{ℕ, ◌+◌, ◌-◌, ◌/◌, ◌%◌, Bool, ◌==◌, not, ◌&&◌, nat_le, nat_lt, List, [], ◌∷◌, ◌++◌, take, if◌then◌else◌}
+use Rattle.std.specs.Prelude.{ℕ, ◌/◌, ◌%◌, Bool, ◌==◌, not, ◌&&◌, nat_le, List, [], ◌∷◌, ◌++◌, take, if◌then◌else◌}
+use Rattle.std.specs.Char.{digit_char}
 use Rattle.std.specs.List.{flat_map}
 
 -- a text with more bytes at its end, cut off behind 1023
 unfoldable pub put : (text bytes : List ℕ) → List ℕ
 put text bytes = take 1023 (text ++ bytes)
 
--- the lower-case digit of a number below 16
-abbrev pub hex_digit : ℕ → ℕ
-hex_digit n = if nat_lt n 10 then 48 + n else 97 + (n - 10)
-
 -- a byte as two digits
 abbrev pub hex_of_byte : ℕ → List ℕ
-hex_of_byte b = hex_digit (b / 16) ∷ hex_digit (b % 16) ∷ []
+hex_of_byte b = digit_char (b / 16) ∷ digit_char (b % 16) ∷ []
 
 -- a socket ID: 0x and eight digits
 abbrev pub id_text : (id : ℕ) → List ℕ
 id_text id =
-    48 ∷ 120 ∷ hex_digit (id / 268435456 % 16) ∷ hex_digit (id / 16777216 % 16) ∷ hex_digit (id / 1048576 % 16) ∷ hex_digit (id / 65536 % 16)
-    ∷ hex_digit (id / 4096 % 16) ∷ hex_digit (id / 256 % 16) ∷ hex_digit (id / 16 % 16) ∷ hex_digit (id % 16) ∷ []
+    48 ∷ 120 ∷ digit_char (id / 268435456 % 16) ∷ digit_char (id / 16777216 % 16) ∷ digit_char (id / 1048576 % 16) ∷ digit_char (id / 65536 % 16)
+    ∷ digit_char (id / 4096 % 16) ∷ digit_char (id / 256 % 16) ∷ digit_char (id / 16 % 16) ∷ digit_char (id % 16) ∷ []
 
 -- the byte stands for itself: a printable character of ASCII, neither " nor \
 abbrev pub is_plain : (byte : ℕ) → Bool

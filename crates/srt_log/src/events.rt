@@ -86,8 +86,8 @@ pub enum StopCause {
 pub enum LogEvent<'a> {
     /// The gateway serves callers.
     Started {
-        /// The IPv4 address of its socket.
-        ip: [u8; 4],
+        /// The address of its socket, in the form of a peer's.
+        ip: [u8; 16],
         /// The port.
         port: u16,
         /// The number of routes.

@@ -1,7 +1,9 @@
 //! Laws of the definitions.
 
-ghost use Rattle.std.specs.Prelude.{List};
+ghost use Rattle.std.specs.Prelude.{ℕ, List};
 ghost use Rattle.srt_log.specs.Changes.{NothingBetweenEqual};
+ghost use Rattle.srt_log.specs.LineShares.{SharedCall, AreOthers, KeepsApart, KeepsShares};
+ghost use Rattle.srt_log.specs.declared.shares.LineKind.{LineKind};
 ghost use Rattle.srt_log.specs.LineLimit.{LimitCall, KeepsTheLimit, CountsEachLine};
 
 /// Two equal snapshots have nothing between them.
@@ -18,4 +20,14 @@ pub fn most_lines()
 /// out untold. For up to 2^64 - 1 lines.
 pub fn each_line_is_counted()
     ensures { CountsEachLine }
+{}
+
+/// A flood of lines of one kind never costs a line of the other kind, whatever the times of the calls are.
+pub fn shares_are_apart()
+    ensures { (kind : LineKind) (flood calls : List SharedCall) (moment : ℕ) → AreOthers kind flood → KeepsApart kind flood calls moment }
+{}
+
+/// Of each kind's lines of a second the first ones are written, as many as its share has; both kinds together have 50 at most.
+pub fn most_shared_lines()
+    ensures { (calls : List SharedCall) → KeepsShares calls }
 {}

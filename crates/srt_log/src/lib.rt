@@ -6,9 +6,9 @@
 //! mix. Nothing allocates.
 //!
 //! Types: [`LogEvent`] (`events.rt`) is the content of a line, [`ConfigEvent`] (`config_events.rt`) that of a line about a
-//! changed configuration. [`LineLimit`] (`limit.rt`) is the limit of lines in a second. [`RouteSnapshot`] (`snapshots.rt`) has
-//! the sessions of a route at one time, each with its `srt_route::SessionView`. [`Change`] (`changes.rt`) is what changed
-//! between two snapshots.
+//! changed configuration. [`LineLimit`] (`limit.rt`) is the limit of lines in a second, [`LineShares`] (`shares.rt`) one with
+//! a share for each kind. [`RouteSnapshot`] (`snapshots.rt`) has the sessions of a route at one time, each with its
+//! `srt_route::SessionView`. [`Change`] (`changes.rt`) is what changed between two snapshots.
 //!
 //! Calls: [`write_line`] (`writing.rt`, `config_lines.rt`) writes an event's line, [`LineLimit::line`] returns whether it may,
 //! [`change_at`] compares two snapshots, step by step, and [`event_of`] (`telling.rt`) returns the event of a change.
@@ -24,6 +24,7 @@ pub mod laws;
 mod limit;
 mod line;
 mod peers;
+mod shares;
 mod snapshots;
 mod telling;
 mod times;
@@ -33,6 +34,7 @@ pub use changes::{Change, STEPS, change_at};
 pub use config_events::{ChangeSummary, CloseCause, ConfigEvent};
 pub use events::{Caller, ClockDrift, EndReason, LogEvent, SessionCounts, StopCause, Trouble};
 pub use limit::{LineAllowance, LineLimit};
+pub use shares::{LineKind, LineShares};
 pub use snapshots::{RouteSnapshot, SlotSession, slot_of};
 pub use telling::event_of;
 pub use times::utc_text;

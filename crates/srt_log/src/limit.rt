@@ -26,7 +26,7 @@ pub struct LineLimit {
 }
 
 impl LineLimit {
-    ghost use Rattle.srt_log.specs.LineLimit.{LimitCall, StandsFor, left_out_in, is_written, omitted_at};
+    ghost use Rattle.srt_log.specs.LineLimit.{LimitCall, StandsFor, left_out_in, is_written, omitted_at, is_within, omitted_within};
 
     /// Returns a limit before its first line.
     pub fn new() -> LineLimit
@@ -51,12 +51,37 @@ impl LineLimit {
         ensures written { (calls : List LimitCall) → StandsFor self.old calls → result.written ≡ is_written calls moment }
         ensures left_out { (calls : List LimitCall) → StandsFor self.old calls → result.left_out ≡ omitted_at calls moment }
     {
-        let left_out = self.poll(moment);
+        self.line_within(moment, MAX_LOG_LINES)
+    }
+
+    /// Whether one more line may be written at this time, where a second may have so many. Returns also how many lines the
+    /// second before had beyond that.
+    pub(crate) fn line_within(&mut self, moment: u64, most: u64) -> LineAllowance
+        ensures stands { (calls : List LimitCall) → StandsFor self.old calls → StandsFor self.new (record { is_line = true; moment = moment } ∷ calls) }
+        ensures written { (calls : List LimitCall) → StandsFor self.old calls → result.written ≡ is_within most calls moment }
+        ensures left_out { (calls : List LimitCall) → StandsFor self.old calls → result.left_out ≡ omitted_within most calls moment }
+    {
+        let left_out = self.begin_second(moment, most);
         self.lines = self.lines.saturating_add(1);
         LineAllowance {
-            written: self.lines <= MAX_LOG_LINES,
+            written: self.lines <= most,
             left_out,
         }
+    }
+
+    // Begins a new second, if it has come, and returns how many lines the one before had beyond so many; else 0.
+    fn begin_second(&mut self, moment: u64, most: u64) -> u64
+        ensures stands { (calls : List LimitCall) → StandsFor self.old calls → StandsFor self.new (record { is_line = false; moment = moment } ∷ calls) }
+        ensures left_out { (calls : List LimitCall) → StandsFor self.old calls → result ≡ omitted_within most calls moment }
+    {
+        let second = moment / SECOND;
+        if second <= self.second {
+            return 0;
+        }
+        let left_out = self.lines.saturating_sub(most);
+        self.second = second;
+        self.lines = 0;
+        left_out
     }
 
     /// Returns how many lines were left out in the second before, if a new one has begun by this time, and 0 otherwise.
@@ -65,13 +90,6 @@ impl LineLimit {
         ensures stands { (calls : List LimitCall) → StandsFor self.old calls → StandsFor self.new (record { is_line = false; moment = moment } ∷ calls) }
         ensures left_out { (calls : List LimitCall) → StandsFor self.old calls → result ≡ omitted_at calls moment }
     {
-        let second = moment / SECOND;
-        if second <= self.second {
-            return 0;
-        }
-        let left_out = self.left_out();
-        self.second = second;
-        self.lines = 0;
-        left_out
+        self.begin_second(moment, MAX_LOG_LINES)
     }
 }

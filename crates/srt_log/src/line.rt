@@ -1,8 +1,9 @@
 //! A line while it is made.
 
 ghost use Rattle.std.specs.Prelude.{◌≡◌, ◌+◌, ◌≤◌, ◌<◌, ◌++◌, ◌∷◌, [], length, decimal};
+ghost use Rattle.std.specs.Char.{digit_char};
 ghost use Rattle.std.specs.Fmt.{signed_decimal};
-ghost use Rattle.srt_log.specs.Texts.{put, hex_digit, id_text, escaped, escaped_all, readable, readable_all};
+ghost use Rattle.srt_log.specs.Texts.{put, id_text, escaped, escaped_all, readable, readable_all};
 
 use arrayvec::ArrayVec;
 use itoa::Buffer;
@@ -150,7 +151,7 @@ impl Line {
 /// The hexadecimal digit of a number below 16, in lower case.
 pub(crate) fn hex_digit(number: u8) -> u8
     requires { number < 16 }
-    ensures { result ≡ hex_digit number }
+    ensures { result ≡ digit_char number }
 {
     if number < 10 {
         b'0' + number

@@ -1,9 +1,9 @@
 //! Lines as a person reads them, the limit over moments, and what comes between looks.
 
 use crate::{
-    Caller, Change, ChangeSummary, CloseCause, ConfigEvent, EndReason, LineLimit, LogEvent,
-    RouteSnapshot, STEPS, SessionCounts, SlotSession, StopCause, Trouble, change_at, event_of,
-    slot_of, write_line,
+    Caller, Change, ChangeSummary, CloseCause, ConfigEvent, EndReason, LineKind, LineLimit,
+    LineShares, LogEvent, RouteSnapshot, STEPS, SessionCounts, SlotSession, StopCause, Trouble,
+    change_at, event_of, slot_of, write_line,
 };
 use srt_config::FixedKeys;
 use srt_route::{EndCause, EndedSession, SessionView, Traffic};
@@ -102,7 +102,7 @@ fn lines_of_ends_and_take_overs(rt: HostRuntime) -> Result<(), Fail> {
             counts,
             clock: None,
         },
-        "studio: subscriber [2001:0db8:0000:0000:0000:0000:0000:0001]:9 ended, socket 0xfedcba98, nothing arrived from its peer, after 3600123 ms, 1000 packets, 1316000 bytes, 3 lost, 2 resent\n",
+        "studio: subscriber [2001:db8::1]:9 ended, socket 0xfedcba98, nothing arrived from its peer, after 3600123 ms, 1000 packets, 1316000 bytes, 3 lost, 2 resent\n",
     )?;
     assert_line(
         &rt,
@@ -257,7 +257,7 @@ fn lines_of_a_start_and_a_stop(rt: HostRuntime) -> Result<(), Fail> {
         &rt,
         None,
         LogEvent::Started {
-            ip: [192, 0, 2, 1],
+            ip: [0, 0, 0, 0, 0, 0, 0, 0, 0, 0, 0xff, 0xff, 192, 0, 2, 1],
             port: 9000,
             routes: 3,
             workers: 4,
@@ -274,6 +274,84 @@ fn lines_of_a_start_and_a_stop(rt: HostRuntime) -> Result<(), Fail> {
         "stopping, by a signal\n",
     )?;
     assert_line(&rt, None, LogEvent::Stopped, "stopped\n")
+}
+
+/// A thousand refused callers in a second leave room for all lines about sessions.
+#[test]
+fn refusals_cost_no_line_about_a_session(rt: HostRuntime) -> Result<(), Fail> {
+    let mut shares = LineShares::new();
+    let mut refusals = 0_u64;
+    for _ in 0..1000 {
+        if shares.line(LineKind::Refusal, 7_000_000).written {
+            refusals = refusals.saturating_add(1);
+        }
+    }
+    assert_eq!(rt; refusals, 10);
+    let mut sessions = 0_u64;
+    for _ in 0..41 {
+        if shares.line(LineKind::Session, 7_999_999).written {
+            sessions = sessions.saturating_add(1);
+        }
+    }
+    assert_eq!(rt; sessions, 40);
+    assert_eq!(rt; shares.line(LineKind::Refusal, 8_000_000).left_out, 990);
+    assert_eq!(rt; shares.line(LineKind::Refusal, 8_000_000).left_out, 0);
+    assert_eq!(rt; shares.line(LineKind::Session, 8_000_000).left_out, 1);
+    Ok(())
+}
+
+/// Asserts that the first line has an address so.
+fn assert_address<R: Abort + AllocGlobal>(rt: &R, ip: [u8; 16], line: &str) -> Result<(), Fail> {
+    assert_line(
+        rt,
+        None,
+        LogEvent::Started {
+            ip,
+            port: 9000,
+            routes: 1,
+            workers: 1,
+            memory: 1024,
+        },
+        line,
+    )
+}
+
+/// The forms of RFC 5952: its examples, and others.
+#[test]
+fn addresses_are_as_short_as_they_can_be(rt: HostRuntime) -> Result<(), Fail> {
+    assert_address(
+        &rt,
+        [0x20, 1, 0xd, 0xb8, 0, 0, 0, 1, 0, 1, 0, 1, 0, 1, 0, 1],
+        "serving at [2001:db8:0:1:1:1:1:1]:9000, routes 1, workers 1, memory 1 KiB\n",
+    )?;
+    assert_address(
+        &rt,
+        [0x20, 1, 0xd, 0xb8, 0, 0, 0, 0, 0, 1, 0, 0, 0, 0, 0, 1],
+        "serving at [2001:db8::1:0:0:1]:9000, routes 1, workers 1, memory 1 KiB\n",
+    )?;
+    assert_address(
+        &rt,
+        [0x20, 1, 0, 0, 0, 0, 0, 1, 0, 0, 0, 0, 0, 0, 0, 1],
+        "serving at [2001:0:0:1::1]:9000, routes 1, workers 1, memory 1 KiB\n",
+    )?;
+    assert_address(
+        &rt,
+        [0; 16],
+        "serving at [::]:9000, routes 1, workers 1, memory 1 KiB\n",
+    )?;
+    assert_address(
+        &rt,
+        [0xfe, 0x80, 0, 0, 0, 0, 0, 0, 0, 0, 0, 0, 0, 0, 0, 0],
+        "serving at [fe80::]:9000, routes 1, workers 1, memory 1 KiB\n",
+    )?;
+    assert_address(
+        &rt,
+        [
+            0xab, 0xcd, 0xef, 1, 0x23, 0x45, 0x67, 0x89, 0xab, 0xcd, 0xef, 1, 0x23, 0x45, 0x67,
+            0x89,
+        ],
+        "serving at [abcd:ef01:2345:6789:abcd:ef01:2345:6789]:9000, routes 1, workers 1, memory 1 KiB\n",
+    )
 }
 
 #[test]

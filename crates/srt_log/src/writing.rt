@@ -214,7 +214,7 @@ fn put_code_name(line: &mut Line, code: u32)
 }
 
 #[tactic(auto, using(crate::proofs::Puts::put_put))]
-fn put_started(line: &mut Line, ip: [u8; 4], port: u16, routes: u32, workers: u32, memory: u64)
+fn put_started(line: &mut Line, ip: [u8; 16], port: u16, routes: u32, workers: u32, memory: u64)
     ensures { line.new.text.items ≡ put line.old.text.items (started_text ip port routes workers memory) }
 {
     line.put(b"serving at ");

@@ -1,8 +1,10 @@
 -- A caller's address and port in a text.
-use Rattle.std.specs.Prelude.{ℕ, ◌+◌, ◌/◌, ◌%◌, List, [], ◌∷◌, ◌++◌, take, slice_index, codes, decimal, if◌then◌else◌}
+use Rattle.std.specs.Prelude.{ℕ, ◌+◌, List, [], ◌∷◌, ◌++◌, take, slice_index, codes, decimal, if◌then◌else◌}
 use Rattle.std.specs.Str.{bytes_eq}
+use Rattle.std.specs.List.{flat_map}
+use Rattle.std.specs.Net.Addr.{segments_of}
+use Rattle.std.specs.Net.Text.{hex, hex_groups_text}
 use Rattle.srt_types.specs.declared.shared.Peer.{Peer}
-use Rattle.srt_status.specs.Texts.{hex_digit}
 
 -- the bytes from an index on
 abbrev pub four_from : (at : ℕ) → (ip : List ℕ) → List ℕ
@@ -13,19 +15,16 @@ unfoldable pub ipv4_text : (ip : List ℕ) → List ℕ
 ipv4_text ip =
     decimal (slice_index ip 0) ++ codes "." ++ decimal (slice_index ip 1) ++ codes "." ++ decimal (slice_index ip 2) ++ codes "." ++ decimal (slice_index ip 3)
 
--- two bytes as four digits
-unfoldable pub group_text : (high low : ℕ) → List ℕ
-group_text high low = hex_digit (high / 16) ∷ hex_digit (high % 16) ∷ hex_digit (low / 16) ∷ hex_digit (low % 16) ∷ []
+-- a group behind a colon
+abbrev pub next_group : (group : ℕ) → List ℕ
+next_group group = codes ":" ++ hex group
 
--- the eight bytes from an index on as four groups
-unfoldable pub half_text : (ip : List ℕ) → (at : ℕ) → List ℕ
-half_text ip at =
-    group_text (slice_index ip at) (slice_index ip (at + 1)) ++ codes ":" ++ group_text (slice_index ip (at + 2)) (slice_index ip (at + 3)) ++ codes ":"
-    ++ group_text (slice_index ip (at + 4)) (slice_index ip (at + 5)) ++ codes ":" ++ group_text (slice_index ip (at + 6)) (slice_index ip (at + 7))
+abbrev pub next_groups : (groups : List ℕ) → List ℕ
+next_groups groups = flat_map next_group groups
 
--- eight groups in brackets
+-- hexadecimal groups in brackets, with `::` in place of the longest run of zeros (RFC 5952, section 4)
 unfoldable pub ipv6_text : (ip : List ℕ) → List ℕ
-ipv6_text ip = codes "[" ++ half_text ip 0 ++ codes ":" ++ half_text ip 8 ++ codes "]"
+ipv6_text ip = codes "[" ++ hex_groups_text (segments_of ip) ++ codes "]"
 
 -- the first twelve bytes of ::ffff:a.b.c.d
 abbrev pub mapped : List ℕ

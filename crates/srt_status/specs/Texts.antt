@@ -1,5 +1,6 @@
 -- The parts of a text.
-use Rattle.std.specs.Prelude.{ℕ, suc, ◌+◌, ◌-◌, ◌/◌, ◌%◌, ℤ, pos, negsuc, ◌==◌, nat_lt, List, [], ◌∷◌, ◌++◌, codes, decimal, if◌then◌else◌}
+use Rattle.std.specs.Prelude.{ℕ, suc, ◌+◌, ◌/◌, ◌%◌, ℤ, pos, negsuc, ◌==◌, nat_lt, List, [], ◌∷◌, ◌++◌, codes, decimal, if◌then◌else◌}
+use Rattle.std.specs.Char.{digit_char}
 use Rattle.std.specs.Fmt.{signed_decimal}
 use Rattle.std.specs.List.{flat_map}
 use Rattle.srt_status.specs.declared.figures.Amount.{Amount}
@@ -14,15 +15,11 @@ shown byte =
 abbrev pub name_text : (name : List ℕ) → List ℕ
 name_text name = flat_map shown name
 
--- the lower-case digit of a number below 16
-abbrev pub hex_digit : ℕ → ℕ
-hex_digit n = if nat_lt n 10 then 48 + n else 97 + (n - 10)
-
 -- a socket ID: eight digits
 abbrev pub id_text : (id : ℕ) → List ℕ
 id_text id =
-    hex_digit (id / 268435456 % 16) ∷ hex_digit (id / 16777216 % 16) ∷ hex_digit (id / 1048576 % 16) ∷ hex_digit (id / 65536 % 16)
-    ∷ hex_digit (id / 4096 % 16) ∷ hex_digit (id / 256 % 16) ∷ hex_digit (id / 16 % 16) ∷ hex_digit (id % 16) ∷ []
+    digit_char (id / 268435456 % 16) ∷ digit_char (id / 16777216 % 16) ∷ digit_char (id / 1048576 % 16) ∷ digit_char (id / 65536 % 16)
+    ∷ digit_char (id / 4096 % 16) ∷ digit_char (id / 256 % 16) ∷ digit_char (id / 16 % 16) ∷ digit_char (id % 16) ∷ []
 
 -- microseconds as seconds, with six digits behind the point
 abbrev pub micros_text : (micros : ℕ) → List ℕ

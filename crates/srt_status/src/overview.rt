@@ -38,44 +38,74 @@ h1 { font-size: 20px; font-weight: 650; margin: 0; letter-spacing: -.01em; }
 .pill.bad { color: var(--bad); background: var(--bad-back); }
 #gone { display: none; margin-top: 12px; padding: 10px 14px; border-radius: 8px; color: var(--bad); background: var(--bad-back); }
 .late #gone { display: block; }
-.late main, .late #sums { opacity: .45; }
-#sums { display: grid; grid-template-columns: repeat(auto-fit, minmax(132px, 1fr)); gap: 8px; margin: 16px 0; }
-#sums div { background: var(--card); border: 1px solid var(--line); border-radius: 8px; padding: 8px 12px; }
-#sums b { display: block; font-size: 15px; font-weight: 600; white-space: nowrap; }
+.late main, .late #sums, .late #attention { opacity: .45; }
+#sums { display: grid; grid-template-columns: repeat(auto-fit, minmax(132px, 1fr)); gap: 8px; margin: 8px 0; }
+#sums div {
+  display: flex; align-items: baseline; gap: 2px 8px; padding: 3px 12px;
+  background: var(--card); border: 1px solid var(--line); border-radius: 8px;
+}
+#sums b { font-size: 15px; font-weight: 600; white-space: nowrap; }
 #sums span { color: var(--dim); font-size: 12.5px; }
-#sums .bad b { color: var(--bad); }
+#sums .bad b, #facts .bad { color: var(--bad); }
+#sums .warn b { color: var(--warn); }
+#attention { margin: 8px 0 0; padding: 5px 14px; border-radius: 8px; font-weight: 620; color: var(--dim); background: var(--card); }
+#attention.good { color: var(--good); background: var(--good-back); }
+#attention.warn { color: var(--warn); background: var(--warn-back); }
+#attention.bad { color: var(--bad); background: var(--bad-back); }
+#how { display: none; margin: 16px 0; padding: 12px 16px; background: var(--card); border: 1px solid var(--line); border-radius: 8px; }
+.empty #how { display: block; }
+#how code { overflow-wrap: anywhere; }
+#facts { display: flex; flex-wrap: wrap; gap: 2px 18px; margin-top: 16px; color: var(--dim); font-size: 12.5px; }
+#facts div { display: flex; gap: 5px; }
+#facts b { font-weight: 600; }
 #filter {
-  width: 100%; max-width: 320px; padding: 7px 11px; font: inherit; color: inherit;
+  width: 260px; margin-left: auto; padding: 4px 11px; font: inherit; color: inherit;
   background: var(--card); border: 1px solid var(--line); border-radius: 8px;
 }
 #filter:focus-visible, summary:focus-visible { outline: 2px solid var(--in); outline-offset: 1px; }
-main { margin-top: 12px; }
-.route { background: var(--card); border: 1px solid var(--line); border-radius: 8px; margin-bottom: 10px; overflow: hidden; }
+main { margin-top: 8px; }
+#routes { display: grid; grid-template-columns: repeat(auto-fill, minmax(min(100%, 540px), 1fr)); gap: 3px 10px; align-items: start; }
+.route { background: var(--card); border: 1px solid var(--line); border-radius: 6px; overflow: hidden; min-width: 0; }
+.route[open], .route.warn, .route.bad { grid-column: 1 / -1; }
+.route.warn { border-left: 4px solid var(--warn); }
+.route.bad { border-left: 4px solid var(--bad); }
 .route > summary {
-  display: flex; flex-wrap: wrap; align-items: center; gap: 4px 14px; padding: 10px 14px; cursor: pointer; list-style: none;
+  display: grid; grid-template-columns: 66px minmax(0, 1fr) 64px 82px 62px 62px; align-items: center; gap: 2px 8px;
+  padding: 1px 10px; min-height: 24px; cursor: pointer; list-style: none;
+}
+.route.warn > summary, .route.bad > summary, .route[open] > summary {
+  grid-template-columns: 66px minmax(0, 230px) minmax(0, 1fr) 64px 82px 62px 78px;
 }
 .route > summary::-webkit-details-marker { display: none; }
-.route > summary::before { content: "›"; color: var(--dim); width: 8px; transition: transform .12s; }
-.route[open] > summary::before { transform: rotate(90deg); }
-.name { font-weight: 620; overflow-wrap: anywhere; }
-.rates { margin-left: auto; display: flex; gap: 16px; white-space: nowrap; }
-.rates .in, .in { color: var(--in); }
-.rates .out, .out { color: var(--out); }
+.route > summary:hover { background: var(--page); }
+.badge {
+  padding: 0 6px; border-radius: 5px; font-size: 11.5px; font-weight: 650; text-align: center; white-space: nowrap;
+  color: var(--dim); background: var(--page);
+}
+.badge.good { color: var(--good); background: var(--good-back); }
+.badge.warn { color: var(--warn); background: var(--warn-back); }
+.badge.bad { color: var(--bad); background: var(--bad-back); }
+.name { font-weight: 620; white-space: nowrap; overflow: hidden; text-overflow: ellipsis; }
+.why { display: none; flex-wrap: wrap; gap: 2px 6px; min-width: 0; }
+.route.warn .why, .route.bad .why, .route[open] .why { display: flex; }
+.route > summary svg { width: 64px; height: 20px; }
+.route > summary .players, .route > summary .loss { font-size: 12.5px; }
+.route .grid .heads { padding: 6px 0; }
+.in { color: var(--in); }
+.out { color: var(--out); }
 .grid { border-top: 1px solid var(--line); padding: 4px 14px 8px; }
 .session, .heads {
   display: grid; gap: 2px 14px; align-items: center;
   grid-template-columns: minmax(190px, 1.7fr) 92px 128px 88px 104px 104px minmax(116px, 1fr);
 }
-.heads { color: var(--dim); font-size: 12.5px; padding: 6px 15px; position: sticky; top: 0; background: var(--page); z-index: 1; }
+.heads { color: var(--dim); font-size: 12.5px; }
 .session { padding: 7px 0; border-top: 1px solid var(--line); }
-.session:first-child { border-top: 0; }
 .number { text-align: right; white-space: nowrap; }
 .who { overflow-wrap: anywhere; }
 .who small, .session small { display: block; color: var(--dim); font-size: 12.5px; }
 .marks { grid-column: 1 / -1; display: flex; flex-wrap: wrap; gap: 4px 6px; }
 .marks:empty { display: none; }
-#reported { margin: 0 0 16px; }
-.route > .marks { padding: 0 14px 8px; }
+#reported { margin: 0; }
 .mark { padding: 1px 8px; border-radius: 5px; font-size: 12.5px; color: var(--dim); background: var(--page); }
 .mark.warn { color: var(--warn); background: var(--warn-back); }
 .mark.bad { color: var(--bad); background: var(--bad-back); }
@@ -83,17 +113,29 @@ svg { display: block; width: 128px; height: 28px; }
 svg path { vector-effect: non-scaling-stroke; }
 svg .line { fill: none; stroke: currentColor; stroke-width: 1.5; stroke-linejoin: round; }
 svg .area { fill: currentColor; opacity: .14; }
-#idle > summary { padding: 8px 2px; cursor: pointer; color: var(--dim); }
+#idle > summary, #past > summary { padding: 8px 2px; cursor: pointer; color: var(--dim); }
 #names { columns: 220px; column-gap: 20px; padding: 4px 2px; }
 #names div { overflow-wrap: anywhere; padding: 1px 0; break-inside: avoid; }
 .label { display: none; }
+#events { font-size: 12.5px; padding: 0 2px; }
 footer { margin-top: 20px; font-size: 12.5px; color: var(--dim); }
 a { color: inherit; }
 @media (max-width: 860px) {
   body { padding: 14px 12px 40px; }
-  #sums { grid-template-columns: repeat(2, 1fr); }
-  #filter { max-width: none; }
-  .rates { margin-left: 22px; width: 100%; }
+  #sums { grid-template-columns: repeat(6, 1fr); gap: 4px; }
+  #sums div { grid-column: span 2; padding: 1px 8px; }
+  #sums div:nth-child(n + 4) { grid-column: span 3; }
+  #filter { width: 100%; }
+  .route > summary, .route.warn > summary, .route.bad > summary, .route[open] > summary {
+    grid-template-columns: 66px minmax(0, 1fr) auto; gap: 1px 8px; padding: 3px 8px;
+  }
+  .route > summary .plot { display: none; }
+  .route > summary .rate { grid-column: 3; grid-row: 1; }
+  .route > summary .players { grid-column: 2; grid-row: 2; text-align: left; }
+  .route > summary .loss { grid-column: 3; grid-row: 2; }
+  .route > summary .number { white-space: nowrap; }
+  .route > summary .loss, .route > summary .rate { text-align: right; }
+  .why { grid-column: 1 / -1; grid-row: 3; }
   .heads { display: none; }
   .session { grid-template-columns: 1fr 1fr; gap: 6px 14px; padding: 10px 0; }
   .who { grid-column: 1 / -1; }
@@ -109,20 +151,22 @@ a { color: inherit; }
   <span class="dim" id="version"></span>
   <span class="pill" id="state">loading</span>
   <span class="dim" id="uptime"></span>
+  <input id="filter" type="search" placeholder="Filter routes and callers" aria-label="Filter routes and callers" autocomplete="off">
 </header>
 <div id="gone" role="status"></div>
+<div id="attention" role="status">Loading.</div>
 <section id="sums" aria-label="Gateway"></section>
 <section id="reported" class="marks" aria-label="Refused callers and changes of the configuration"></section>
-<input id="filter" type="search" placeholder="Filter routes and callers" aria-label="Filter routes and callers" autocomplete="off">
 <main>
-  <div class="heads">
-    <span>Caller</span><span class="number">Bit rate</span><span>Last minute</span><span class="number">Round trip</span>
-    <span class="number">Lost</span><span class="number">Sent again</span><span class="number">Window</span>
-  </div>
+  <div id="how">Nobody is connected. An encoder calls <code id="publish"></code><br>and a player <code id="play"></code>,
+  with the port of the key <code>bind</code> and the name of a route.</div>
   <div id="routes"></div>
   <details id="idle"><summary></summary><div id="names"></div></details>
+  <details id="past"><summary>Events since this page was opened</summary><div id="events"></div></details>
 </main>
-<footer>Bit rates are those of payloads, averaged over the last three seconds; the curves show the last minute.
+<section id="facts" aria-label="Machine"></section>
+<footer>Bit rates are those of payloads, averaged over the last three seconds; the curves show the last minute,
+and losses are counted over it. A route opens with a click.
 Also here: <a href="/metrics">metrics</a>, <a href="/status.json">status.json</a>, <a href="/healthz">healthz</a>.</footer>
 <script>
 "use strict";
@@ -132,6 +176,8 @@ const INDEXES = 511, FEW_INDEXES = 111;
 const byId = (id) => document.getElementById(id);
 const seen = new Map();
 const shown = new Map();
+const known = new Map();
+const EVENTS = 50, OFF_AIR = 600000, WAITS = 3;
 let last = null, answered = Date.now(), idleKey = "";
 
 function make(tag, name, text) {
@@ -338,16 +384,23 @@ function showSession(parts, session, past) {
 
 function openRoute(name) {
   const box = make("details", "route");
-  box.open = true;
   const top = box.appendChild(make("summary"));
   const parts = { box, sessions: new Map() };
-  top.append(make("span", "name", name));
-  parts.facts = top.appendChild(make("span", "dim"));
-  const rates = top.appendChild(make("span", "rates"));
-  parts.in = rates.appendChild(make("span", "in"));
-  parts.out = rates.appendChild(make("span", "out"));
-  parts.refused = box.appendChild(make("div", "marks"));
+  parts.badge = top.appendChild(make("span", "badge"));
+  top.appendChild(make("span", "name", name)).title = name;
+  parts.why = top.appendChild(make("span", "why"));
+  parts.plot = top.appendChild(make("span", "plot in"));
+  parts.svg = parts.plot.appendChild(plot());
+  parts.rate = top.appendChild(make("span", "number rate in"));
+  parts.players = top.appendChild(make("span", "number players"));
+  parts.loss = top.appendChild(make("span", "number loss"));
   parts.grid = box.appendChild(make("div", "grid"));
+  parts.facts = parts.grid.appendChild(make("div", "dim"));
+  parts.refused = parts.grid.appendChild(make("div", "marks"));
+  parts.heads = parts.grid.appendChild(make("div", "heads"));
+  for (const text of ["Caller", "Bit rate", "Last minute", "Round trip", "Lost", "Sent again", "Window"]) {
+    parts.heads.append(make("span", /Caller|minute/.test(text) ? "" : "number", text));
+  }
   return parts;
 }
 // Puts a node behind another one, or first, unless it stands there.
@@ -358,53 +411,139 @@ function put(box, before, node) {
 function order(a, b) {
   return (b.role === "publisher") - (a.role === "publisher") || (b.active || 0) - (a.active || 0) || a.peer.localeCompare(b.peer);
 }
-function showRoute(parts, route) {
+function clockTime(at) {
+  return new Date(at).toLocaleTimeString("en-GB");
+}
+function tell(text) {
+  const box = byId("events");
+  box.prepend(make("div", "", clockTime(Date.now()) + "  " + text));
+  if (box.children.length > EVENTS) box.lastChild.remove();
+}
+// What this page saw of a route: since when it is on the air or off it, and how often a standby took over.
+function follow(route, isOnAir) {
+  const first = !known.has(route.name);
+  if (first) known.set(route.name, { isOnAir, since: null, overs: route.take_overs_total });
+  const past = known.get(route.name);
+  if (past.isOnAir !== isOnAir) {
+    past.isOnAir = isOnAir;
+    past.since = Date.now();
+    tell(route.name + (isOnAir ? " is on the air" : " is off the air"));
+  }
+  if (route.take_overs_total > past.overs) tell(route.name + ": a standby took over");
+  past.overs = route.take_overs_total;
+  past.live = last;
+  return past;
+}
+// A route's state: its badge, what needs somebody, the worst first, and its numbers.
+function judge(route) {
+  const sessions = route.sessions.slice().sort(order).map((session) => ({ session, past: note(route, session) }));
+  const encoder = sessions.find((s) => s.session.role === "publisher" && s.session.active);
+  const isStandby = sessions.some((s) => s.session.role === "publisher" && !s.session.active);
+  const players = sessions.filter((s) => s.session.role !== "publisher");
+  const past = follow(route, !!encoder), why = [];
+  const add = (is, class_, text) => { if (is) why.push([class_, text]); };
+  const strays = players.filter((s) => s.past.now.stray).length;
+  const waits = players.length - strays;
+  const eager = Math.max(0, ...players.map((s) => s.session.open_seconds));
+  const isSilent = encoder && encoder.session.silent_seconds > 2;
+  add(strays, "bad", strays + (strays === 1 ? " encoder" : " encoders") + " without m=publish");
+  add(!encoder && waits && eager > WAITS, "bad", "no encoder, " + waits + (waits === 1 ? " player waits" : " players wait"));
+  add(isSilent, "bad", "encoder silent for " + lasted(isSilent ? encoder.session.silent_seconds : 0));
+  add(!encoder && past.since && Date.now() - past.since < OFF_AIR, "warn", "encoder gone since " + clockTime(past.since));
+  const lost = encoder ? recent(encoder.past, "lost") : 0;
+  const losers = players.filter((s) => recent(s.past, "lost"));
+  add(lost, "bad", "encoder's line lost " + count(lost) + " packets");
+  add(losers.length, "warn", losers.length + " of " + players.length + (players.length === 1 ? " player loses" : " players lose") + " packets");
+  if (encoder) {
+    add(recent(encoder.past, "late"), "warn", "packets come too late");
+    add(recent(encoder.past, "full"), "warn", "window full");
+    add(Math.abs(encoder.session.publisher_clock_drift_ppm) >= MOST_PPM && encoder.session.open_seconds > 3600, "bad", "encoder's clock off");
+  }
+  const lostByPlayers = losers.reduce((sum, s) => sum + recent(s.past, "lost"), 0);
+  return {
+    sessions, encoder, isStandby, players: waits, why, since: past.since, lost: lost + lostByPlayers,
+    isOnAir: !!encoder && !isSilent, isWaiting: !encoder && waits > 0, isSilent,
+    level: why.some((w) => w[0] === "bad") ? "bad" : why.length ? "warn" : "",
+    hadStream: !!route.publishers.received_packets_total,
+  };
+}
+function badge(view) {
+  if (view.isSilent) return ["bad", "silent"];
+  if (view.encoder) return ["good", view.isStandby ? "on air +1" : "on air"];
+  if (view.isStandby) return ["warn", "standby"];
+  if (view.sessions.length) return ["bad", "waiting"];
+  return ["", "off air"];
+}
+function showRoute(parts, route, view) {
   let into = 0, out = 0;
   const left = new Set(parts.sessions.keys());
-  let place = null;
-  for (const session of route.sessions.slice().sort(order)) {
-    const past = note(route, session);
+  let place = parts.heads;
+  for (const { session, past } of view.sessions) {
     if (session.role === "publisher") {
       if (session.active) into += rate(past) || 0;
     } else {
       out += rate(past) || 0;
     }
+    if (!parts.box.open) continue;
     left.delete(past.key);
     let row = parts.sessions.get(past.key);
     if (!row) parts.sessions.set(past.key, row = openSession());
     put(parts.grid, place, row.row);
     place = row.row;
-    if (parts.box.open) showSession(row, session, past);
+    showSession(row, session, past);
   }
   for (const key of left) {
     parts.sessions.get(key).row.remove();
     parts.sessions.delete(key);
   }
-  write(parts.facts, route.mode + ", " + route.sessions.length + " of " + route.allowed_sessions + " sessions");
-  const limits = route.refused_sessions_total === undefined ? LIMITS_TOGETHER : LIMITS;
-  showCauses(parts.refused, route, ROUTE_CAUSES.concat(limits));
-  write(parts.in, "in " + bits(into));
-  write(parts.out, "out " + bits(out));
+  const [good, text] = badge(view);
+  parts.badge.className = "badge " + good;
+  write(parts.badge, text);
+  parts.badge.title = view.encoder && view.isStandby ? "on the air, with a standby encoder" : "";
+  if (parts.box.className !== "route " + view.level) parts.box.className = "route " + view.level;
+  const said = JSON.stringify(view.why);
+  if (said !== parts.said) {
+    parts.said = said;
+    parts.why.replaceChildren(...view.why.map((m) => make("span", "mark " + m[0], m[1])));
+  }
+  draw(parts.svg, view.encoder ? view.encoder.past.rates : []);
+  write(parts.rate, view.encoder ? bits(into) : "–");
+  write(parts.players, view.players + (view.players === 1 ? " player" : " players"));
+  write(parts.loss, count(view.lost) + " lost");
+  if (parts.box.open) {
+    const off = !view.encoder && view.since ? ", off the air since " + clockTime(view.since) : "";
+    write(parts.facts, route.mode + ", " + route.sessions.length + " of " + route.allowed_sessions + " sessions, out " + bits(out) + off);
+    const limits = route.refused_sessions_total === undefined ? LIMITS_TOGETHER : LIMITS;
+    showCauses(parts.refused, route, ROUTE_CAUSES.concat(limits));
+    parts.heads.hidden = !view.sessions.length;
+  }
   return [into, out];
 }
 
+const LEVELS = ["bad", "warn", ""];
 function show(status) {
   const wanted = byId("filter").value.trim().toLowerCase();
   const fits = (route) => !wanted || route.name.toLowerCase().includes(wanted)
     || route.sessions.some((s) => s.peer.includes(wanted));
-  let into = 0, out = 0, sessions = 0;
-  const idle = [], away = new Set(shown.keys());
-  let place = null;
+  let into = 0, out = 0, sessions = 0, onAir = 0, silent = 0, losing = 0;
+  const idle = [], away = new Set(shown.keys()), lines = [];
   for (const route of status.routes) {
     sessions += route.sessions.length;
-    if (!route.sessions.length) {
-      if (fits(route)) idle.push(route.name);
-      continue;
-    }
+    const view = judge(route);
+    onAir += view.isOnAir;
+    silent += view.isSilent || view.isWaiting ? 1 : 0;
+    losing += view.lost > 0;
+    if (route.sessions.length || view.hadStream || view.level) lines.push({ route, view });
+    else if (fits(route)) idle.push(route.name);
+  }
+  const rank = (it) => 2 * LEVELS.indexOf(it.view.level) + (it.route.sessions.length ? 0 : 1);
+  lines.sort((a, b) => rank(a) - rank(b));
+  let place = null;
+  for (const { route, view } of lines) {
     away.delete(route.name);
     let parts = shown.get(route.name);
     if (!parts) shown.set(route.name, parts = openRoute(route.name));
-    const [i, o] = showRoute(parts, route);
+    const [i, o] = showRoute(parts, route, view);
     into += i;
     out += o;
     parts.box.hidden = !fits(route);
@@ -416,40 +555,58 @@ function show(status) {
     shown.delete(name);
   }
   for (const [key, past] of seen) if (past.live !== last) seen.delete(key);
+  for (const [name, past] of known) if (past.live !== last) known.delete(name);
   const key = idle.join("\n");
   if (key !== idleKey || !byId("idle").dataset.drawn) {
     idleKey = key;
     byId("idle").dataset.drawn = "1";
     byId("idle").hidden = !idle.length;
-    write(byId("idle").firstChild, count(idle.length) + (idle.length === 1 ? " route" : " routes") + " without sessions");
+    write(byId("idle").firstChild, count(idle.length) + (idle.length === 1 ? " route" : " routes") + " without a stream so far");
     byId("names").replaceChildren(...idle.map((name) => make("div", "", name)));
   }
-  const left = INDEXES - status.used_indexes;
-  const sums = [
-    ["Sessions", count(sessions)],
-    ["Routes in use", count(shown.size) + " of " + count(status.routes.length)],
+  showAttention(status, lines, onAir);
+  document.body.className = sessions ? "" : "empty";
+  const left = INDEXES - status.used_indexes, drops = status.kernel_dropped_datagrams_total;
+  showNumbers(byId("sums"), [
+    ["On air", count(onAir)],
+    ["Silent", count(silent), silent ? "bad" : ""],
+    ["Losing", count(losing), losing ? "warn" : ""],
     ["In", bits(into)],
     ["Out", bits(out)],
-    ["Kernel drops", status.kernel_dropped_datagrams_total === undefined ? "–" : count(status.kernel_dropped_datagrams_total), status.kernel_dropped_datagrams_total > 0],
-    ["Not sent", count(status.poller_lost_datagrams_total), status.poller_lost_datagrams_total > 0],
+  ]);
+  showNumbers(byId("facts"), [
+    ["Sessions", count(sessions)],
+    ["Kernel drops", drops === undefined ? "–" : count(drops), drops > 0 ? "bad" : ""],
+    ["Not sent", count(status.poller_lost_datagrams_total), status.poller_lost_datagrams_total > 0 ? "bad" : ""],
     ["Memory", size(status.resident_memory_bytes)],
-    ["Indexes left", count(left), left <= FEW_INDEXES && status.config_changes_taken_total > 0],
-  ];
-  const box = byId("sums");
-  while (box.children.length < sums.length) {
+    ["Indexes left", count(left), left <= FEW_INDEXES && status.config_changes_taken_total > 0 ? "bad" : ""],
+  ]);
+  showCauses(byId("reported"), status, CAUSES);
+  write(byId("version"), status.version);
+  write(byId("uptime"), "up for " + lasted(status.uptime_seconds));
+}
+// The first line: how many routes need somebody.
+function showAttention(status, lines, onAir) {
+  const sick = lines.filter((it) => it.view.level).length, all = status.routes.length;
+  const level = sick ? lines[0].view.level : onAir ? "good" : "";
+  const routes = (n) => count(n) + (n === 1 ? " route" : " routes");
+  const well = onAir ? routes(onAir) + (onAir === 1 ? " is" : " are") + " on the air, and none needs attention" : "No route is on the air";
+  byId("attention").className = level;
+  write(byId("attention"), sick ? count(sick) + " of " + routes(all) + (sick === 1 ? " needs" : " need") + " attention" : well);
+  document.title = (sick ? "(" + sick + ") " : "") + "srtgw";
+}
+function showNumbers(box, numbers) {
+  while (box.children.length < numbers.length) {
     const node = make("div");
     node.append(make("b"), make("span"));
     box.append(node);
   }
-  sums.forEach(([label, value, bad], at) => {
+  numbers.forEach(([label, value, level], at) => {
     const node = box.children[at];
-    node.className = bad ? "bad" : "";
+    node.className = level || "";
     write(node.firstChild, value);
     write(node.lastChild, label);
   });
-  showCauses(byId("reported"), status, CAUSES);
-  write(byId("version"), status.version);
-  write(byId("uptime"), "up for " + lasted(status.uptime_seconds));
 }
 function state(good, text) {
   byId("state").className = "pill " + (good ? "good" : "bad");
@@ -458,7 +615,7 @@ function state(good, text) {
 function gone() {
   const away = Math.round((Date.now() - answered) / 1000);
   if (away < 3) return;
-  document.body.className = "late";
+  document.body.classList.add("late");
   state(false, "no answer");
   write(byId("gone"), "The gateway hasn't answered for " + lasted(away) + ". What is shown is what it said last.");
 }
@@ -468,7 +625,6 @@ async function look() {
     if (!answer.ok) throw new Error(answer.status);
     last = await answer.json();
     answered = Date.now();
-    document.body.className = "";
     state(last.up === 1, last.up === 1 ? "running" : "stalled: no round for two seconds");
     show(last);
   } catch {
@@ -476,6 +632,9 @@ async function look() {
   }
   setTimeout(look, 1000);
 }
+const HOST = "srt://" + location.hostname + ":9000?streamid=";
+write(byId("publish"), HOST + "#!::r=NAME,m=publish");
+write(byId("play"), HOST + "#!::r=NAME");
 byId("filter").addEventListener("input", () => last && show(last));
 byId("routes").addEventListener("toggle", () => last && show(last), true);
 look();

@@ -2,8 +2,9 @@
 //! bytes of all calls before.
 
 ghost use Rattle.std.specs.Prelude.{◌≡◌, ◌++◌, ◌<◌, OnOk, decimal};
+ghost use Rattle.std.specs.Char.{digit_char};
 ghost use Rattle.std.specs.Fmt.{signed_decimal};
-ghost use Rattle.srt_status.specs.Texts.{hex_digit, id_text, micros_text, signed_micros_text, amount_text, shown, name_text};
+ghost use Rattle.srt_status.specs.Texts.{id_text, micros_text, signed_micros_text, amount_text, shown, name_text};
 
 use crate::figures::Amount;
 use itoa::Buffer;
@@ -52,7 +53,7 @@ pub(crate) fn put_name(out: &mut Vec<u8>, name: &str) -> Result<(), AllocError>
 /// The hexadecimal digit of a number below 16, in lower case.
 pub(crate) fn hex_digit(number: u8) -> u8
     requires { number < 16 }
-    ensures { result ≡ hex_digit number }
+    ensures { result ≡ digit_char number }
 {
     if number < 10 {
         b'0' + number
