@@ -1,17 +1,26 @@
 //! Socket addresses of the configuration.
 
 ghost use Rattle.std.specs.Prelude.{◌≡◌};
-ghost use Rattle.std.specs.Net.Addr.{ipv4_octets};
-ghost use Rattle.std.specs.Net.Socket.{v4_ip, v4_port};
+ghost use Rattle.std.specs.Net.Socket.{socket_ip, socket_port, socket_flowinfo, socket_scope_id};
+ghost use Rattle.srt_host.specs.Addresses.{IsSocketIp};
 
 use srt_config::BindAddress;
-use std::net::{Ipv4Addr, SocketAddrV4};
+use srt_types::is_mapped;
+use std::net::{Ipv4Addr, Ipv6Addr, SocketAddr, SocketAddrV4, SocketAddrV6};
 
-/// Returns the socket address that a configuration names. Every socket that the program binds has one of these.
-pub fn socket_address(address: BindAddress) -> SocketAddrV4
-    ensures ip { ipv4_octets (v4_ip result) ≡ address.ip }
-    ensures port { v4_port result ≡ address.port }
+/// Returns the socket address that a configuration names: of IPv4 if its 16 bytes are `::ffff:a.b.c.d`, else of IPv6,
+/// without a flow label or a zone. Every socket that the program binds has one of these.
+pub fn socket_address(address: BindAddress) -> SocketAddr
+    ensures ip { IsSocketIp address.ip (socket_ip result) }
+    ensures port { socket_port result ≡ address.port }
+    ensures label { socket_flowinfo result ≡ 0 }
+    ensures zone { socket_scope_id result ≡ 0 }
 {
-    let [a, b, c, d] = address.ip;
-    SocketAddrV4::new(Ipv4Addr::new(a, b, c, d), address.port)
+    let ip = address.ip;
+    if is_mapped(&ip) {
+        let ip = Ipv4Addr::new(ip[12], ip[13], ip[14], ip[15]);
+        SocketAddr::V4(SocketAddrV4::new(ip, address.port))
+    } else {
+        SocketAddr::V6(SocketAddrV6::new(Ipv6Addr::from_octets(ip), address.port, 0, 0))
+    }
 }

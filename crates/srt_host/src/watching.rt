@@ -1,5 +1,6 @@
 //! The watcher of a gateway that runs on this machine.
 
+use crate::address::socket_address;
 use crate::host::{Errors, Host, HostFile};
 use crate::status_page::StatusPage;
 use srt_command_line::{Manner, VERSION};
@@ -8,7 +9,6 @@ use srt_explain::Explained;
 use srt_procfs::signals_are_blocked;
 use srt_watch::{Start, Watcher};
 use std::io::ErrorKind;
-use std::net::Ipv4Addr;
 use std::time::Instant;
 
 /// A watcher over this machine.
@@ -37,10 +37,8 @@ fn open_page(machine: &HostRuntime, config: &Config) -> Result<StatusPage, Watch
         Err(error) if error.kind() == ErrorKind::OutOfMemory => Err(WatcherFault::OutOfMemory),
         Err(error) => {
             if let Some(address) = config.status {
-                let [a, b, c, d] = address.ip;
-                let ip = Ipv4Addr::new(a, b, c, d);
-                let port = address.port;
-                let _ = eprintln!(machine; "srtgw: status page at {ip}:{port}: {error}");
+                let address = socket_address(address);
+                let _ = eprintln!(machine; "srtgw: status page at {address}: {error}");
             }
             Err(WatcherFault::Page(error.raw_os_error()))
         }

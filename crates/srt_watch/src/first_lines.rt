@@ -17,8 +17,8 @@ const MAX_WARNING: usize = 512;
 /// The content of a log's first line, and when the gateway stops by itself.
 #[derive(Clone, Copy)]
 pub struct Start {
-    /// The IPv4 address of the socket.
-    pub ip: [u8; 4],
+    /// The address of the socket, in the form of a peer's.
+    pub ip: [u8; 16],
     /// Its port.
     pub port: u16,
     /// The number of worker threads.

@@ -9,13 +9,13 @@ use crate::serving::{bind, gates, print_report};
 use srt_command_line::Manner;
 use srt_config::Config;
 use srt_explain::Explained;
-use srt_host::{HostWatcher, open_watcher, time_now};
+use srt_host::{HostWatcher, open_watcher, socket_address, time_now};
 use srt_mailbox::Account;
 use srt_offline::OfflineFault;
 use srt_poller::{BindFault, MioSource, MioWire, Report, Ungated};
-use srt_serve::{Gates, RunFault, Watched, run_until};
+use srt_serve::{Crew, Gates, RunFault, RunPlan, Watched, run_until};
 use std::io;
-use std::net::{Ipv4Addr, Net};
+use std::net::Net;
 use std::rt::{Clock, Files};
 use std::sync::Wait;
 use std::thread::Threads;
@@ -35,16 +35,14 @@ struct Bound<'a, R: Clock> {
 
 /// Says on standard error why no socket was bound.
 fn explain_bind(rt: &impl Eprint, config: &Config, fault: BindFault) {
-    let [a, b, c, d] = config.bind.ip;
-    let ip = Ipv4Addr::new(a, b, c, d);
-    let port = config.bind.port;
+    let address = socket_address(config.bind);
     let _ = match fault {
         BindFault::Socket(Some(number)) => {
             let why = io::Error::from_raw_os_error(number);
-            eprintln!(rt; "srtgw: {ip}:{port}: {why}")
+            eprintln!(rt; "srtgw: {address}: {why}")
         }
-        BindFault::Socket(None) => eprintln!(rt; "srtgw: {ip}:{port}: the socket can't be used"),
-        BindFault::OutOfMemory => eprintln!(rt; "srtgw: {ip}:{port}: out of memory"),
+        BindFault::Socket(None) => eprintln!(rt; "srtgw: {address}: the socket can't be used"),
+        BindFault::OutOfMemory => eprintln!(rt; "srtgw: {address}: out of memory"),
     };
 }
 
@@ -130,20 +128,26 @@ where
     R: Print + Eprint + Files + AllocGlobal + Net + Clock + Threads + Wait + Sync,
     requires { (1 ≤ vec_len gates.workers) × (vec_len gates.workers ≤ 16) }
 {
-    let ran = run_until(
+    let secret = config.secret.of_run(time_now(rt));
+    let plan = RunPlan {
+        secret: &secret,
+        entries: config.entries.as_slice(),
+        schedules: config.schedules.as_slice(),
+        rounds: MAX_RUN_ROUNDS,
+    };
+    let crew = Crew {
+        ticker: ClockTicker::new(rt, bound.start),
+        gates,
+        watch: watcher,
+    };
+    match run_until(
         rt,
         rt.alloc(),
-        &config.secret.of_run(time_now(rt)),
-        config.entries.as_slice(),
-        config.schedules.as_slice(),
+        plan,
         &mut bound.source,
         &mut bound.wire,
-        ClockTicker::new(rt, bound.start),
-        gates,
-        watcher,
-        MAX_RUN_ROUNDS,
-    );
-    match ran {
+        crew,
+    ) {
         Ok(watched) => {
             let Watched {
                 report,

@@ -169,7 +169,7 @@ fn entry(alloc: Global) -> Result<Entry, Fail> {
 
 fn start(is_blocked: bool, lasts: Option<u64>) -> Start {
     Start {
-        ip: [192, 0, 2, 1],
+        ip: [0, 0, 0, 0, 0, 0, 0, 0, 0, 0, 0xff, 0xff, 192, 0, 2, 1],
         port: 9000,
         workers: 2,
         is_blocked,

@@ -1,0 +1,11 @@
+-- The IP address of a socket that a configuration names.
+use Rattle.std.specs.Prelude.{◌≡◌, ℕ, Bool, true, false, List, [], ◌∷◌, slice_index}
+use Rattle.std.specs.Net.Addr.{ipv4_octets, ipv6_segments, segments_of}
+use Rattle.std.specs.declared.net.ip_addr.IpAddr.{IpAddr}
+use Rattle.std.specs.declared.net.ip_addr.IpAddr.TheVariants.{V4, V6}
+use Rattle.srt_types.specs.Access.{is_mapped}
+
+-- these 16 bytes are ::ffff:a.b.c.d, and it is that IPv4 address; or they aren't, and its eight groups are they
+abbrev pub IsSocketIp : (ip : List ℕ) → IpAddr → Type 0
+IsSocketIp ip (V4 a) = (is_mapped ip ≡ true) × (ipv4_octets a ≡ slice_index ip 12 ∷ slice_index ip 13 ∷ slice_index ip 14 ∷ slice_index ip 15 ∷ [])
+IsSocketIp ip (V6 a) = (is_mapped ip ≡ false) × (ipv6_segments a ≡ segments_of ip)
