@@ -14,6 +14,7 @@ import time
 import traceback
 
 import packets
+from machine import family_of
 
 SECOND = 1_000_000
 
@@ -41,7 +42,7 @@ class Caller(threading.Thread):
     def __init__(self, address, stream_id=None, mode="live", receiver_ms=120, sender_ms=0, mtu=1500, window=8192,
                  initial=None, version=5, flags=None, asks=True, more=b"", congestion=None, source=None, skew=0):
         super().__init__(daemon=True)
-        self.socket = socket.socket(socket.AF_INET, socket.SOCK_DGRAM)
+        self.socket = socket.socket(family_of(address[0]), socket.SOCK_DGRAM)
         self.socket.setsockopt(socket.SOL_SOCKET, socket.SO_RCVBUF, 1 << 22)
         if source is not None:
             self.socket.bind((source, 0))

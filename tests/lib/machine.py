@@ -50,10 +50,18 @@ def free_port(kind: socket.SocketKind = socket.SOCK_DGRAM) -> int:
         return probe.getsockname()[1]
 
 
+def family_of(host: str) -> socket.AddressFamily:
+    """The family of an address."""
+    return socket.AF_INET6 if ":" in host else socket.AF_INET
+
+
 def rows_of(port: int) -> list[list[str]]:
-    """The rows of the UDP sockets of this port in /proc/net/udp, each split at its blanks."""
-    with open("/proc/net/udp") as file:
-        rows = [it.split() for it in file.readlines()[1:]]
+    """The rows of the UDP sockets of this port in /proc/net/udp and udp6, each split at its blanks."""
+    rows = []
+    for table in ("udp", "udp6"):
+        if os.path.exists(f"/proc/thread-self/net/{table}"):
+            with open(f"/proc/thread-self/net/{table}") as file:
+                rows += [it.split() for it in file.readlines()[1:]]
     return [it for it in rows if int(it[1].split(":")[1], 16) == port]
 
 

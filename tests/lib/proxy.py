@@ -9,7 +9,7 @@ import threading
 import time
 
 import packets
-from machine import drops_of
+from machine import drops_of, family_of
 
 FAR_LOSS = 0.05
 FAR_DELAY = 0.01  # One way, in seconds.
@@ -38,7 +38,7 @@ class Proxy(threading.Thread):
     def back(self, peer):
         """The socket that forwards a caller's datagrams to the gateway."""
         if peer not in self.backs:
-            back = socket.socket(socket.AF_INET, socket.SOCK_DGRAM)
+            back = socket.socket(family_of(self.target[0]), socket.SOCK_DGRAM)
             back.setsockopt(socket.SOL_SOCKET, socket.SO_RCVBUF, 1 << 22)
             back.connect(self.target)
             self.backs[peer], self.peers[back] = back, peer

@@ -19,7 +19,7 @@ from typing import NamedTuple
 import gateway
 from expecting import Wrong, expect
 from gateway import report
-from machine import drops_of, free_port
+from machine import drops_of, family_of, free_port
 from page import Page
 from tree import PROGRAM, TOP
 
@@ -103,7 +103,7 @@ def can_block():
 
 def usual_signals():
     """For a process to call before it runs the program: signals are handled as in a shell, whatever the tests were started by."""
-    for one in (signal.SIGINT, signal.SIGTERM):
+    for one in (signal.SIGINT, signal.SIGTERM, signal.SIGHUP):
         signal.signal(one, signal.SIG_DFL)
     signal.pthread_sigmask(signal.SIG_SETMASK, [])
 
@@ -237,7 +237,7 @@ def flooded(run, count=12_000):
     """Stops a gateway while more datagrams come than its socket's buffer holds. Returns how many the kernel has dropped."""
     run.process.send_signal(signal.SIGSTOP)
     try:
-        with socket.socket(socket.AF_INET, socket.SOCK_DGRAM) as flood:
+        with socket.socket(family_of(run.address[0]), socket.SOCK_DGRAM) as flood:
             for _ in range(count):
                 flood.sendto(bytes(1316), run.address)
         time.sleep(0.1)

@@ -139,7 +139,7 @@ def transmit(source, sink, fed=False):
 def srt(address, **options):
     """The gateway's address in the form that srt-live-transmit and ffmpeg take."""
     host, port = address
-    return f"srt://{host}:{port}?" + "&".join(f"{key}={value}" for key, value in options.items())
+    return f"srt://{f'[{host}]' if ':' in host else host}:{port}?" + "&".join(f"{key}={value}" for key, value in options.items())
 
 
 def srt_from(source, address, **options):

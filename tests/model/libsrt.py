@@ -6,7 +6,7 @@ from typing import Iterator, NamedTuple
 import clock_cases
 import resend_cases
 from rules import handshakes, packets
-from rules.configuration import Mode
+from rules.configuration import Mode, site
 from rules.handshakes import Refusal
 from rules.hub import Lane
 from rules.numbers import MILLISECOND
@@ -266,7 +266,7 @@ def of_conclusion(before: Before, item: Datagram, packet: Packet) -> Iterator[st
     if Refusal.PEER in refused:
         yield "while it drains: a third publisher is refused"
     met = route.limits_met[before.limits_met:]
-    if Limit.ADDRESS in met and draining.opening.peer.ip == item.peer.ip:
+    if Limit.ADDRESS in met and site(draining.opening.peer) == site(item.peer):
         yield "while it drains: it counts for its address"
     free, publishers = len(route.free_slots()) + len(new), len(route.publishers())
     if new and isinstance(new[0], Subscriber) and free <= route.entry.reserved - (publishers - 1):

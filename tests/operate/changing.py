@@ -4,6 +4,7 @@ from __future__ import annotations
 import os
 import re
 import resource
+import signal
 import threading
 import time
 from typing import NamedTuple
@@ -14,7 +15,7 @@ from cases import case
 from expecting import expect, expect_refusal, expect_run, publish
 from lines import ended_line, opened_line, took_over_line
 from machine import free_port
-from running import SECRET, Run, Shown, Skipped, configuration, expect_polite, launcher, live
+from running import SECRET, Run, Shown, Skipped, can_block, configuration, expect_polite, launcher, live
 
 LOOK = 4.0  # The file is looked at each second, and a change of it is made then. A line that is there sooner is found sooner.
 CLOSED = 4.0  # From a line that says that a route closes until its callers know it.
@@ -161,6 +162,20 @@ def route_added():
         air.end()
         end = run.stop()
         expect_polite(end, ["studio", "news"])
+
+
+@case("SIGHUP ends nothing, and a changed file is taken after it as before")
+def hangs_up():
+    if not can_block():
+        raise Skipped("`env` can't block signals")
+    with Run([live("studio", **SMALL)], "--no-time") as run:
+        run.is_up()
+        for _ in range(3):
+            run.process.send_signal(signal.SIGHUP)
+        changed(run, [live("studio", **SMALL), live("news", **SMALL)], (1, 1, 0, 0))
+        run.process.send_signal(signal.SIGHUP)
+        changed(run, [live("studio", **SMALL)], (1, 0, 1, 0))
+        expect_polite(run.stop(), ["studio", "news"])
 
 
 @case("the callers of a route that is removed get a SHUTDOWN, and no others")

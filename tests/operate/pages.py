@@ -24,10 +24,15 @@ sys.path.append(f"{TOP}/tests/docs")
 from texts import Document, parsed, ticked  # The readers of documents that tests/docs has.
 
 KEYS = f"{TOP}/docs/CONFIGURATION.md"
-ADDRESSES = ("0.0.0.0:0", "255.255.255.255:65535", "127.0.0.1:9001")
-NO_ADDRESSES = ("127.0.0.1", "127.0.0.1:", "127.0.0.1:65536", "256.0.0.1:1", "127.0.0:1", "01.0.0.1:1", "127.0.0.1:01", "localhost:1", "[::1]:1", "")
-NETWORKS = ("192.0.2.7", "0.0.0.0/0", "255.255.255.255/32", "198.51.100.0/24", "10.0.0.0/8")
-NO_NETWORKS = ("192.0.2.7/33", "192.0.2.1/24", "192.0.2.7/", "192.0.2.07", "::1", "192.0.2", "192.0.2.7/-1", "192.0.2.7/024")
+ADDRESSES = ("0.0.0.0:0", "255.255.255.255:65535", "127.0.0.1:9001", "[::]:9000", "[2001:db8::7]:65535")
+NO_ADDRESSES = (
+    "127.0.0.1", "127.0.0.1:", "127.0.0.1:65536", "256.0.0.1:1", "127.0.0:1", "01.0.0.1:1", "127.0.0.1:01",
+    "localhost:1", "[::1]", "::1:1", "[::1%lo]:1", "[::ffff:127.0.0.1]:1", "",
+)
+NETWORKS = ("192.0.2.7", "0.0.0.0/0", "255.255.255.255/32", "198.51.100.0/24", "10.0.0.0/8", "::/0", "2001:db8::7", "2001:db8::/32", "::1/128")
+NO_NETWORKS = (
+    "192.0.2.7/33", "192.0.2.1/24", "192.0.2.7/", "192.0.2.07", "::1/129", "2001:db8::1/32", "::ffff:192.0.2.7", "192.0.2", "192.0.2.7/-1", "192.0.2.7/024",
+)
 FULL = {
     "secret": f'"{SECRET}"', "bind": '"127.0.0.1:0"', "workers": "1", "status": '"127.0.0.1:0"', "name": '"studio"', "mode": '"live"',
     "latency_ms": "120", "buffer": "1024", "sessions": "5", "inbox": "16", "outbox": "334", "open_round": "0", "close_round": "5",
@@ -101,7 +106,7 @@ def values_of(key: Key) -> Iterator[tuple[str, int]]:
     if key.kind == "number":
         low, high = between(key)
         yield from ((str(low), 0), (str(high), 0), (str(low - 1), 5), (str(high + 1), 5))
-    elif "IPv4 address and port" in key.limits:
+    elif "Address and port" in key.limits:
         yield from ((f'"{it}"', 0) for it in ADDRESSES)
         yield from ((f'"{it}"', 9) for it in NO_ADDRESSES)
     elif key.kind == "list":

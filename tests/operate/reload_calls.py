@@ -13,7 +13,7 @@ from reload_log import ROLES
 from reload_model import ADMITTED, DEFAULTS, UNKNOWN, Call, Route, Verdict
 from reload_seen import SECONDS, Compared, Plan
 
-LINES = 35  # Lines of a second to which a refusal can be added.
+LINES = 35  # Lines of a second to which a refusal can be added. Of more than 50 the log leaves some out, and the line waited for may be one.
 FILL = 7  # Calls to a route whose sessions stay open, so that its limits are met.
 
 
@@ -122,6 +122,7 @@ class Called(Compared):
         """Calls until the call is at a route that has just opened: until the one before has closed, its name is that one's or nobody's."""
         until = time.monotonic() + SECONDS
         while True:
+            self.pace(LINES)
             first, caller = len(self.run.lines), self.caller(call)
             code = self.code_of(caller, call)
             if not code and index_of(caller) == route.index:
@@ -135,6 +136,7 @@ class Called(Compared):
         """Calls until no route has the name, after one has closed."""
         until = time.monotonic() + SECONDS
         while True:
+            self.pace(LINES)
             first, caller = len(self.run.lines), self.caller(call)
             code = self.code_of(caller, call)
             if self.transit(caller, code, call, first) == UNKNOWN.cause:

@@ -19,7 +19,8 @@ IS_GONE = "document.body.innerText.includes('no answer')"
 SIZES = ((1280, 800), (390, 844))  # A desk's window and a telephone's.
 UPDATE = 5.0  # What happens is shown within so many seconds.
 LINES = 100  # A picture with text and a table has more different lines than that.
-LONGEST = "99.99 Mbit/s"  # No number above the routes has a longer text.
+LONGEST = "99.99 Mbit/s"  # No bit rate above the routes has a longer text.
+OPENS = "document.querySelectorAll('.route').forEach(it => it.open = true)"
 
 
 class Scene(NamedTuple):
@@ -77,8 +78,8 @@ def expect_fits(browser: Browser, width: int, height: int) -> None:
     wide = browser.value("document.documentElement.scrollWidth")
     expect(wide <= width, f"the page is {wide} pixels wide in a window of {width}")
     overflows = f"it => (it.textContent = {json.dumps(LONGEST)}, it.scrollWidth > it.clientWidth)"
-    narrow = browser.value(f"[...document.querySelectorAll('#sums b')].filter({overflows}).length")
-    expect(narrow == 0, f"{narrow} numbers of the gateway have no room for {LONGEST}")
+    narrow = browser.value(f"[...document.querySelectorAll('#sums b')].slice(-2).filter({overflows}).length")
+    expect(narrow == 0, f"{narrow} bit rates of the gateway have no room for {LONGEST}")
     found = shown_in(browser.picture())
     expect(found[:2] == (width, height) and found[2] >= LINES, f"the picture is {found[0]} x {found[1]}, with {found[2]} different lines")
     expect(not browser.complaints, f"the browser complains: {browser.complaints}")
@@ -92,7 +93,9 @@ def shows_who_is_on_the_air():
             for width, height in SIZES:
                 with Browser(width, height) as browser:
                     browser.opens(address_of(run))
-                    expect_text(browser, ["studio", *map(peer_of, scene.callers()), "Standby"], 10)
+                    expect_text(browser, ["studio", "on air +1", "2 players", "1 route is on the air, and none needs attention"], 10)
+                    browser.value(OPENS)
+                    expect_text(browser, [*map(peer_of, scene.callers()), "Standby"])
                     expect("evening" in browser.value("document.body.textContent"), "the route without callers isn't there")
                     time.sleep(UPDATE)
                     expect_fits(browser, width, height)
@@ -109,6 +112,8 @@ def follows_what_happens():
         browser.opens(address_of(run))
         expect_text(browser, ["running"], 10)
         with on_the_air(run) as scene:
+            expect_text(browser, ["on air"])
+            browser.value(OPENS)
             expect_text(browser, list(map(peer_of, scene.callers())))
             scene.subscribers[0].stop()
             late = Subscriber(run.address, "studio")
@@ -121,9 +126,29 @@ def follows_what_happens():
         run.stop()
 
 
+@case("the status page in a browser begins with the routes that need attention", needs=[CHROMIUM])
+def begins_with_what_needs_attention():
+    for width, height in SIZES:
+        with Shown([live("studio"), live("evening")], "--no-time") as run, Browser(width, height) as browser:
+            run.is_up()
+            browser.opens(address_of(run))
+            expect_text(browser, ["No route is on the air", "Nobody is connected", "#!::r=NAME,m=publish"], 10)
+            with on_the_air(run):
+                waiting = Subscriber(run.address, "evening")
+                start_all(waiting)
+                expect_text(browser, ["1 of 2 routes needs attention", "no encoder, 1 player waits"], 10)
+                first = browser.value("document.querySelector('.route').className + ' ' + document.querySelector('.route .name').innerText")
+                expect(first == "route bad evening", f"the first route is {first!r}")
+                expect_fits(browser, width, height)
+                waiting.close()
+                expect_text(browser, ["1 route is on the air, and none needs attention"], 10)
+            expect_text(browser, ["encoder gone since", "off air"], 10)
+            run.stop()
+
+
 def class_of(browser: Browser, text: str) -> str:
     """The class of the part of the page that has just this text."""
-    return browser.value(f"[...document.querySelectorAll('.mark, #sums div')].find(it => it.innerText === {json.dumps(text)})?.className ?? 'none'")
+    return browser.value(f"[...document.querySelectorAll('.mark, #facts div')].find(it => it.innerText === {json.dumps(text)})?.className ?? 'none'")
 
 
 @case("the status page in a browser tells of changed configurations and of the indexes that are left", needs=[CHROMIUM])

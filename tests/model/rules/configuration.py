@@ -54,13 +54,16 @@ class ConfigFault(Exception):
 
 
 class Network(NamedTuple):
-    """The IPv4 addresses whose first bits are these."""
+    """The addresses of a family whose first bits are these: of 32 of IPv4, of 128 of IPv6."""
 
+    width: int
     address: int
     bits: int
 
-    def has(self, address: int) -> bool:
-        return (address ^ self.address) >> (32 - self.bits) == 0
+    def has(self, peer: Peer) -> bool:
+        if is_ipv4(peer) != (self.width == 32):
+            return False
+        return (int.from_bytes(peer.ip[-self.width // 8:], "big") ^ self.address) >> (self.width - self.bits) == 0
 
 
 @dataclass(frozen=True)
@@ -143,31 +146,61 @@ def address_of(octets: list[str]) -> int | None:
     return int.from_bytes(bytes(values), "big") if max(values) <= 255 else None
 
 
-def ipv4_of(peer: Peer) -> int | None:
-    """The IPv4 address of a peer; None if it has none."""
-    return int.from_bytes(peer.ip[12:], "big") if peer.ip.startswith(IPV4_PREFIX) else None
+def groups_of(text: str) -> list[int] | None:
+    """Groups of 1 to 4 hexadecimal digits with colons between them, or none; None if the text has another form."""
+    if not text:
+        return []
+    return [int(it, 16) for it in text.split(":")] if re.fullmatch(r"[0-9A-Fa-f]{1,4}(:[0-9A-Fa-f]{1,4})*", text) else None
+
+
+def ipv6_of(text: str) -> int | None:
+    """The IPv6 address of eight groups, or of at most seven and one `::`; None if the text has another form, or is an IPv4 address."""
+    front, elided, rest = text.partition("::")
+    before, behind = groups_of(front), groups_of(rest)
+    if before is None or behind is None:
+        return None
+    missing = 8 - len(before) - len(behind)
+    if missing < 1 if elided else missing != 0:
+        return None
+    groups = before + missing * [0] + behind
+    address = b"".join(it.to_bytes(2, "big") for it in groups)
+    return None if address.startswith(IPV4_PREFIX) else int.from_bytes(address, "big")
+
+
+def is_ipv4(peer: Peer) -> bool:
+    return peer.ip.startswith(IPV4_PREFIX)
+
+
+def site(peer: Peer) -> bytes:
+    """What sessions are counted by: an IPv4 address, or the first 64 bits of an IPv6 address."""
+    return peer.ip if is_ipv4(peer) else peer.ip[:8]
 
 
 def is_in(given: tuple[Network, ...] | None, peer: Peer) -> bool:
-    """Whether a peer's address is in a list: any is in one that wasn't given, and only IPv4 addresses are in one that was."""
-    address = ipv4_of(peer)
-    return given is None or address is not None and any(it.has(address) for it in given)
+    """Whether a peer's address is in a list: any is in one that wasn't given, and one that was has those of its networks."""
+    return given is None or any(it.has(peer) for it in given)
 
 
 def is_socket_address(text: str) -> bool:
-    """Whether a text is `a.b.c.d:port`, without leading zeros."""
-    found = re.fullmatch(rf"{OCTETS}:(0|[1-9][0-9]{{0,4}})", text)
-    return found is not None and address_of(list(found.groups()[:4])) is not None and int(found[5]) <= 65535
+    """Whether a text is `a.b.c.d:port` or `[X]:port` with an IPv6 address X, without leading zeros."""
+    found = re.fullmatch(rf"(?:{OCTETS}|\[([^]]*)\]):(0|[1-9][0-9]{{0,4}})", text)
+    if found is None or int(found[6]) > 65535:
+        return False
+    return (address_of(list(found.groups()[:4])) if found[5] is None else ipv6_of(found[5])) is not None
 
 
 def network_of(text: str) -> Network | None:
-    """The network of a text `a.b.c.d` or `a.b.c.d/n`; None if it has another form, or a bit behind the first n is set."""
-    found = re.fullmatch(rf"{OCTETS}(?:/(0|[1-9][0-9]?))?", text)
-    address = address_of(list(found.groups()[:4])) if found else None
-    if found is None or address is None:
+    """The network of a text, an address or an address, a slash and a number of bits; None if it has another form, or a bit behind
+    the first ones is set."""
+    found = re.fullmatch(rf"(?:{OCTETS}|([0-9A-Fa-f:]*:[0-9A-Fa-f:]*))(?:/(0|[1-9][0-9]{{0,2}}))?", text)
+    if found is None:
         return None
-    bits = int(found[5] or 32)
-    return Network(address, bits) if bits <= 32 and address % (1 << (32 - bits)) == 0 else None
+    width = 32 if found[5] is None else 128
+    address = address_of(list(found.groups()[:4])) if found[5] is None else ipv6_of(found[5])
+    bits = int(found[6] or width)
+    if address is None or bits > width or address % (1 << (width - bits)):
+        return None
+    return Network(width, address, bits)
 
 
 def wanted(table: Table, key: str) -> Any:

@@ -6,7 +6,7 @@ from enum import Enum
 from typing import NamedTuple
 
 from . import handshakes, packets
-from .configuration import Entry
+from .configuration import Entry, site
 from .cookies import Peer
 from .handshakes import LONGEST_MTU, Delays, Handshake, Refusal
 from .lobby import ask_of, first_reason
@@ -244,9 +244,9 @@ class Route:
         return Limit.RESERVED if role is Role.REQUEST and free <= kept else None
 
     def has_its_share(self, peer: Peer) -> bool:
-        """Whether as many sessions of the peer's address are open as the route allows, whatever their ports."""
+        """Whether as many sessions of the peer's site are open as the route allows, whatever their ports."""
         most = self.entry.sessions_per_address
-        return most is not None and sum(it.opening.peer.ip == peer.ip for it in self.open) >= most
+        return most is not None and sum(site(it.opening.peer) == site(peer) for it in self.open) >= most
 
     def agreed(self, asked: Handshake) -> Delays:
         """The delays of both directions, live the greater of the route's and the caller's (section 4.4); in buffer mode 0."""
