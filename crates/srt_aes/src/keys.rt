@@ -1,6 +1,6 @@
 //! Round keys, and what they make of blocks.
 
-ghost use Rattle.std.specs.Prelude.{◌≡◌, ◌<◌, ◌≤◌, ◌+◌, ◌*◌, ◌/◌, ℕ, List, take, length};
+ghost use Rattle.std.specs.Prelude.{◌≡◌, ◌<◌, ◌≤◌, ◌+◌, ◌*◌, ◌/◌, ℕ, List, take, length, replicate};
 ghost use Rattle.srt_aes.specs.Aes.{schedule_of, IsKeyLength, aes, inv_aes};
 ghost use Rattle.srt_aes.specs.inside.Planes.{HoldKeys};
 
@@ -37,6 +37,14 @@ impl RoundKeys {
             size,
             planes,
         }
+    }
+
+    /// Overwrites the key with zeros, and the schedule with that of the zeros.
+    pub fn forget(&mut self)
+        ensures { key_of self.new ≡ replicate (length (key_of self.old)) 0 }
+    {
+        let zeros = [0u8; 32];
+        *self = RoundKeys::new(&zeros[..self.size]);
     }
 
     /// Nr, the number of rounds.

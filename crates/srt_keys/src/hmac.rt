@@ -1,10 +1,12 @@
-//! HMAC-SHA1 (RFC 2104).
+//! HMAC-SHA1 and HMAC-SHA256 (RFC 2104).
 
 ghost use Rattle.std.specs.Prelude.{◌≡◌, ◌++◌, ◌-◌, ◌≤◌, List, ℕ, length, replicate};
-ghost use Rattle.sha1.specs.Sha1.{Holds};
-ghost use Rattle.srt_keys.specs.Hmac.{hmac_sha1, inner_key, outer_key, padded_key, xor_each};
+ghost use Rattle.sha1.specs.Sha1.{Holds, sha1};
+ghost use Rattle.sha2.specs.Sha256.{sha256};
+ghost use Rattle.srt_keys.specs.Hmac.{hmac_sha1, hmac_sha256, inner_key, outer_key, padded_key, xor_each};
 
 use sha1::Sha1;
+use sha2::{Digest, Sha256};
 
 /// At most 64 bytes with zeros behind them.
 fn extended(bytes: &[u8]) -> [u8; 64]
@@ -18,7 +20,7 @@ fn extended(bytes: &[u8]) -> [u8; 64]
 
 /// The key with zeros behind it, or its hash if it is longer than 64 bytes.
 fn padded(key: &[u8]) -> [u8; 64]
-    ensures { result ≡ padded_key key.now }
+    ensures { result ≡ padded_key sha1 key.now }
 {
     if key.len() > 64 {
         extended(&Sha1::digest(key))
@@ -80,4 +82,29 @@ impl HmacKey {
         outer.update(&inner.finalize());
         outer.finalize()
     }
+}
+
+/// The key with zeros behind it, or its SHA-256 hash if it is longer than 64 bytes.
+fn padded_for_sha256(key: &[u8]) -> [u8; 64]
+    ensures { result ≡ padded_key sha256 key.now }
+{
+    if key.len() > 64 {
+        extended(&Sha256::digest(key))
+    } else {
+        extended(key)
+    }
+}
+
+/// HMAC-SHA256 of a text, under a key of any length.
+pub fn hmac_sha256(key: &[u8], text: &[u8]) -> [u8; 32]
+    ensures { result ≡ hmac_sha256 key.now text.now }
+{
+    let bytes = padded_for_sha256(key);
+    let mut inner = Sha256::new();
+    inner.update(&xored(&bytes, 0x36));
+    inner.update(text);
+    let mut outer = Sha256::new();
+    outer.update(&xored(&bytes, 0x5c));
+    outer.update(&inner.finalize());
+    outer.finalize()
 }

@@ -2,8 +2,8 @@
 //!
 //! A passphrase and a salt give the key that wraps stream encrypting keys: [`kek`] (`derive.rt`), PBKDF2 with HMAC-SHA1 of
 //! RFC 8018. A passphrase is hashed once for all rounds ([`HmacKey`], `hmac.rt`). [`wrap`] and [`unwrap`] (`wrapping.rt`) are
-//! the key wrap of RFC 3394. Nothing allocates. `specs/Hmac.antt` has HMAC-SHA1 over SHA-1's own definition,
-//! `specs/Pbkdf2.antt` PBKDF2, and `specs/Wrap.antt` the wrap.
+//! the key wrap of RFC 3394. [`hmac_sha256`] is HMAC-SHA256. Nothing allocates. `specs/Hmac.antt` has HMAC over the
+//! hashes' own definitions, `specs/Pbkdf2.antt` PBKDF2, and `specs/Wrap.antt` the wrap.
 #![tactic(auto)]
 
 mod derive;
@@ -11,7 +11,7 @@ mod hmac;
 mod wrapping;
 
 pub use derive::kek;
-pub use hmac::HmacKey;
+pub use hmac::{HmacKey, hmac_sha256};
 pub use wrapping::{unwrap, wrap};
 
 #[cfg(test)]
