@@ -15,6 +15,7 @@ pub mod Delivered
 pub mod Saying
 pub mod Serving
 pub mod Stepping
+pub mod Closing
 pub mod Noting
 pub mod Notified
 pub mod Tallied

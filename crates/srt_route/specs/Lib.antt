@@ -14,6 +14,7 @@ pub mod Buffers
 pub mod PublisherBuffers
 pub mod Tables
 pub mod Admission
+pub mod Stages
 pub mod Stands
 pub mod Closed
 pub mod Deadlines

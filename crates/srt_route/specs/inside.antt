@@ -7,3 +7,4 @@ pub mod Calls
 pub mod Files
 pub mod Drains
 pub mod Notes
+pub mod Event

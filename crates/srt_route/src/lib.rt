@@ -6,8 +6,8 @@
 //! queue. It doesn't choose the route of a datagram and checks no cookie (`srt_lobby` does both). The behaviour of a
 //! single session is in `srt_pub` and `srt_sub`.
 //!
-//! Types: a `Route` contains a `Table`, with the seats of its slots and the publishers' buffers, and a `ReplyQueue`. A
-//! `Seat` has a session and its buffers. A `Reply` is a packet and its receiver. A `SessionView` is a snapshot of an
+//! Types: a `Route` contains a `ReplyQueue` and, until it is closed, a `Table`, with the seats of its slots and the
+//! publishers' buffers (`stage.rt`). A `Seat` has a session and its buffers. A `Reply` is a packet and its receiver. A `SessionView` is a snapshot of an
 //! open session with its counts, an `EndedSession` one of a session that ended. A `Ledger` keeps the last ended session
 //! of each slot, and the route's counts.
 //!
@@ -15,7 +15,7 @@
 //! `session` returns a snapshot of a slot at any time and changes nothing (`view.rt`), as do `ended`, `opened`,
 //! `refused`, `refused_for` and `totals`.
 //!
-//! `step` in `route.rt` processes an event in six steps:
+//! `step` in `route.rt` processes an event in six steps, all but the first in `event.rt`:
 //!
 //! - 1: the clock.
 //! - 2: `idle.rt` ends idle sessions, drops what is too late, and lets the standby take over.
@@ -41,6 +41,7 @@ mod conclusion;
 mod delivery;
 mod dispatch;
 mod draining;
+mod event;
 mod files;
 mod idle;
 pub mod laws;
@@ -54,6 +55,7 @@ mod resting;
 mod route;
 mod seat;
 mod socket_ids;
+mod stage;
 mod standby;
 mod start;
 mod table;

@@ -10,8 +10,8 @@ use std::alloc::{AllocError, Global};
 use std::collections::VecDeque;
 use std::mem;
 
-/// Waiting replies, the oldest first, each in a box, and spare boxes. The number of boxes never changes after the
-/// opening: a box that is queued or fetched is exchanged for another, so that no reply is copied.
+/// Waiting replies, the oldest first, each in a box, and spare boxes. The number of boxes changes only in `trim`: a box
+/// that is queued or fetched is exchanged for another, so that no reply is copied.
 #[derive(Drop)]
 pub struct ReplyQueue {
     replies: VecDeque<Box<Reply>>,
@@ -117,6 +117,34 @@ impl ReplyQueue {
             let _ = self.spare.push(spare);
         }
         true
+    }
+
+    /// The same, but gives back the spare boxes, and the memory of the queue itself with the last reply.
+    pub fn next_and_trim(&mut self, place: &mut Box<Reply>) -> bool
+        ensures trimmed { places_of self.old ≡ length (replies_of self.old) → places_of self.new ≡ length (replies_of self.new) }
+        ensures first { result ≡ true → replies_of self.old ≡ place.new.value ∷ replies_of self.new }
+        ensures none { result ≡ false → (replies_of self.old ≡ []) × (self.new ≡ self.old) × (place.new ≡ place.old) }
+    {
+        if !self.next(place) {
+            return false;
+        }
+        self.trim();
+        true
+    }
+
+    /// Gives back the spare boxes, and the memory of the queue itself if no reply waits.
+    pub fn trim(&mut self)
+        ensures replies { replies_of self.new ≡ replies_of self.old }
+        ensures places { places_of self.new ≡ length (replies_of self.old) }
+    {
+        self.spare.clear();
+        if self.replies.is_empty() {
+            let alloc = *self.spare.allocator();
+            *self = ReplyQueue {
+                replies: VecDeque::new(alloc),
+                spare: Vec::new(alloc),
+            };
+        }
     }
 
     /// Returns the number of waiting replies.

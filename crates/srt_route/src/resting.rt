@@ -17,6 +17,8 @@ ghost use Rattle.srt_route.specs.Stands.{stands, waiting, places};
 use crate::opening::check_rest;
 use crate::route::Route;
 use crate::seat::are_vacant;
+use crate::stage::Stage;
+use crate::table::generation_at;
 use srt_types::{Entry, OpenFault};
 use std::alloc::Global;
 
@@ -54,14 +56,17 @@ impl Route {
     pub fn is_at_rest(&self) -> bool
         ensures { (e : Terms) (index : ℕ) (items : List TheItem) → stands self.now e index items → result ≡ is_at_rest (after e index items) }
     {
-        !self.closed && are_vacant(&self.table.seats)
+        match &self.stage {
+            Stage::Open { table, .. } => are_vacant(&table.seats),
+            Stage::Closed(_) => false,
+        }
     }
 
     /// Whether the route was closed.
     pub fn is_closed(&self) -> bool
         ensures { (e : Terms) (index : ℕ) (items : List TheItem) → stands self.now e index items → result ≡ (after e index items).is_closed }
     {
-        self.closed
+        matches!(self.stage, Stage::Closed(_))
     }
 
     /// Returns the number of sessions that were ever opened in a slot, from 0, modulo 2^16; 0 if there is no such slot.
@@ -70,10 +75,9 @@ impl Route {
             slot < e.sessions → result ≡ generation_of (after e index items).sessions slot % 65536 }
         ensures none { (e : Terms) (index : ℕ) (items : List TheItem) → stands self.now e index items → e.sessions ≤ slot → result ≡ 0 }
     {
-        if slot < self.table.seats.len() {
-            self.table.seats[slot].generation
-        } else {
-            0
+        match &self.stage {
+            Stage::Open { table, .. } => table.generation(slot),
+            Stage::Closed(generations) => generation_at(generations, slot),
         }
     }
 }

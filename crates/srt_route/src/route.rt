@@ -1,36 +1,31 @@
-//! A route's state, and the six steps of an event, which docs/PROTOCOL.md describes in its section "A route".
+//! A route's state. An event has six steps, which docs/PROTOCOL.md describes in its section "A route".
 
 ghost use Rattle.std.specs.Prelude.{◌≡◌, ◌<◌, ◌^◌, max};
 ghost use Rattle.srt_types.specs.Items.{input_of, moment_of};
 ghost use Rattle.srt_route.specs.Route.{closes};
 
-use crate::dispatch::dispatch;
-use crate::draining::deliver_and_settle;
-use crate::idle::advance;
+use crate::event::process;
 use crate::ledger::Ledger;
 use crate::opening::check_entry;
 use crate::replies::Reply;
 use crate::reply_queue::{ReplyQueue, ScratchBoxes};
 use crate::seat::count_publishers;
+use crate::stage::{Stage, generations_of};
 use crate::table::Table;
-use crate::transmit::{transmit_publishers, transmit_subscribers};
 use srt_types::{Entry, Item, OpenFault};
 use std::alloc::Global;
+use std::mem;
 
-/// A route: its sessions and their buffers, and the replies that wait. It allocates nothing after `open`. The fields
-/// that every event reads are first and together, in a few cache lines.
+/// A route: its sessions and their buffers, and the replies that wait. It allocates nothing after `open`, and gives its
+/// buffers back when it is closed. The fields that every event reads are first and together, in a few cache lines.
 #[derive(Drop)]
 pub struct Route {
     /// The greatest time of any item so far, in microseconds.
     pub(crate) clock: u64,
-    /// Whether the route was closed. A closed route has no open session, and only its clock advances.
-    pub(crate) closed: bool,
     /// The replies that wait to be sent.
     pub(crate) waiting: ReplyQueue,
-    /// The sessions and their buffers.
-    pub(crate) table: Table,
-    /// The boxes into which an event writes its packets.
-    pub(crate) scratch: ScratchBoxes,
+    /// The sessions and their buffers, unless the route was closed: then only its clock advances.
+    pub(crate) stage: Stage,
     /// The ended sessions that are kept, and the route's counts.
     pub(crate) ledger: Ledger,
     pub(crate) ghost early: { clock < 2 ^ 62 },
@@ -79,7 +74,7 @@ impl Route {
     ghost use Rattle.srt_route.specs.Ends.{KeepsEnds, kept_in};
     ghost use Rattle.srt_route.specs.Totals.{SumsGrow, no_totals, totals_of_ended};
     ghost use Rattle.srt_route.specs.Tallies.{no_tally, tally_after, tally_in};
-    ghost use Rattle.srt_route.specs.Stands.{stands, waiting, places};
+    ghost use Rattle.srt_route.specs.Stands.{HasGivenBack, stands, waiting, places};
     ghost use Rattle.srt_route.specs.Rests.{RestsAs};
 
     /// Opens a route without sessions, at clock 0. `index` is the route's position in the configuration, below 511.
@@ -131,17 +126,16 @@ impl Route {
         };
         Ok(Route {
             clock,
-            table,
-            scratch,
             waiting,
-            closed: false,
+            stage: Stage::Open { table, scratch },
             ledger: Ledger::new(),
         })
     }
 
     /// Processes one event: a datagram, a tick or a Close, whose time is in microseconds. Returns the number of replies
     /// that now wait: at most 66 for each session that the entry allows, and 4 more; none if the route was closed
-    /// before. Fetch them all with `next_reply` before the next call. Allocates nothing.
+    /// before. Fetch them all with `next_reply` before the next call. Allocates nothing. A Close gives back all buffers
+    /// but those of the replies that wait.
     pub fn step(&mut self, item: &Item) -> usize
         requires none_waits { waiting self.old ≡ [] }
         requires timely { moment_of (input_of item.now) < 2 ^ 62 }
@@ -154,48 +148,31 @@ impl Route {
         ensures tally { (e : Terms) (index : ℕ) (items : List TheItem) →
             stands self.old e index items → tally_in self.new ≡ tally_after e (input_of item.now) (after e index items) (tally_in self.old) }
         ensures sums { SumsGrow (totals_of_ended self.old) (totals_of_ended self.new) }
+        ensures released { (e : Terms) (index : ℕ) (items : List TheItem) → stands self.old e index items →
+            (after e index (input_of item.now ∷ items)).is_closed ≡ true → HasGivenBack self.new }
     {
         // 1: the clock is monotonic. After a Close nothing else happens.
         self.clock = later(self.clock, moment(item));
-        if self.closed {
-            return 0;
+        match &mut self.stage {
+            Stage::Open { table, scratch } => {
+                process(
+                    table,
+                    scratch,
+                    &mut self.ledger,
+                    self.clock,
+                    item,
+                    &mut self.waiting,
+                );
+                if !closes(item) {
+                    return self.waiting.len();
+                }
+                let generations = generations_of(&table.seats);
+                mem::drop(mem::replace(&mut self.stage, Stage::Closed(generations)));
+                self.waiting.trim();
+                self.waiting.len()
+            }
+            Stage::Closed(_) => 0,
         }
-        self.closed = closes(item);
-        // 2: idle sessions end, what is too late is dropped, and the standby takes over if it is due.
-        advance(
-            &mut self.table,
-            &mut self.ledger,
-            self.clock,
-            &mut self.scratch.reply,
-            &mut self.waiting,
-        );
-        // 3: a datagram belongs to a session or is a conclusion; a Close ends every session.
-        dispatch(
-            &mut self.table,
-            &mut self.ledger,
-            self.clock,
-            item,
-            &mut self.scratch.reply,
-            &mut self.waiting,
-        );
-        // 4: the active publisher's payloads go to the subscribers; a draining session ends once nothing is left.
-        deliver_and_settle(&mut self.table, &mut self.ledger, self.clock);
-        // 5: the publishers' packets.
-        transmit_publishers(
-            &mut self.table,
-            self.clock,
-            &mut self.scratch,
-            &mut self.waiting,
-        );
-        // 6: the subscribers' packets, or the end of a session whose subscriber has the whole file.
-        transmit_subscribers(
-            &mut self.table,
-            &mut self.ledger,
-            self.clock,
-            &mut self.scratch.reply,
-            &mut self.waiting,
-        );
-        self.waiting.len()
     }
 
     /// Returns the greatest time of any item so far, in microseconds; 0 before the first item.
@@ -210,7 +187,10 @@ impl Route {
     pub fn publishers(&self) -> usize
         ensures { (e : Terms) (index : ℕ) (items : List TheItem) → stands self.now e index items → result ≡ open_publishers (after e index items).sessions }
     {
-        count_publishers(&self.table.seats)
+        match &self.stage {
+            Stage::Open { table, .. } => count_publishers(&table.seats),
+            Stage::Closed(_) => 0,
+        }
     }
 
     /// Whether a reply waits.
@@ -221,7 +201,8 @@ impl Route {
     }
 
     /// Puts the oldest waiting reply into `place` by exchanging boxes; the box that was in `place` is kept for a later
-    /// reply. Returns false and changes nothing if none waits. O(1). Allocates nothing.
+    /// reply, or given back if the route was closed. Returns false and changes nothing if none waits. O(1). Allocates
+    /// nothing.
     pub fn next_reply(&mut self, place: &mut Box<Reply>) -> bool
         ensures first { result ≡ true → waiting self.old ≡ written place.new.value ∷ waiting self.new }
         ensures none { result ≡ false → (waiting self.old ≡ []) × (self.new ≡ self.old) × (place.new ≡ place.old) }
@@ -229,7 +210,11 @@ impl Route {
         ensures tally { tally_in self.new ≡ tally_in self.old }
         ensures sums { totals_of_ended self.new ≡ totals_of_ended self.old }
         ensures stands { (e : Terms) (index : ℕ) (items : List TheItem) → stands self.old e index items → stands self.new e index items }
+        ensures released { HasGivenBack self.old → HasGivenBack self.new }
     {
-        self.waiting.next(place)
+        match &self.stage {
+            Stage::Open { .. } => self.waiting.next(place),
+            Stage::Closed(_) => self.waiting.next_and_trim(place),
+        }
     }
 }

@@ -35,7 +35,7 @@ pub struct Table {
 }
 
 /// Returns the generation of a slot; 0 if none is given for it.
-fn generation_at(generations: &[u16], slot: usize) -> u16
+pub fn generation_at(generations: &[u16], slot: usize) -> u16
     ensures { result ≡ slice_index_or generations.now slot 0 }
 {
     if slot < generations.len() {
@@ -51,6 +51,7 @@ impl Table {
     ghost use Rattle.srt_route.specs.Rests.{IsResting};
     ghost use Rattle.srt_route.specs.Route.{Route};
     ghost use Rattle.srt_route.specs.Tables.{IsTable, AreWide};
+    ghost use Rattle.srt_route.specs.declared.seat.Seat.{Seat as TheSeat};
 
     /// Allocates the buffers of two publishers, each with a window of `buffer` packets.
     fn open_publishers(alloc: Global, buffer: u32) -> Result<Vec<Publisher>, AllocError>
@@ -104,5 +105,16 @@ impl Table {
             publishers,
             leading: PublisherBuffers::First,
         })
+    }
+
+    /// Returns the number of sessions that were ever opened in a slot, modulo 2^16; 0 if there is no such slot.
+    pub fn generation(&self, slot: usize) -> u16
+        ensures value { (d : TheSeat) → slot < length self.now.seats.items → result ≡ (slice_index_or self.now.seats.items slot d).generation }
+        ensures none { length self.now.seats.items ≤ slot → result ≡ 0 }
+    {
+        if slot >= self.seats.len() {
+            return 0;
+        }
+        self.seats[slot].generation
     }
 }

@@ -4,7 +4,9 @@ ghost use Rattle.std.specs.Prelude.{◌≡◌, ◌<◌, ℕ, List, length};
 ghost use Rattle.srt_types.specs.Terms.{Terms};
 ghost use Rattle.srt_types.specs.Items.{Item as TheItem};
 ghost use Rattle.srt_route.specs.Route.{after};
+ghost use Rattle.srt_route.specs.Sessions.{Session};
 ghost use Rattle.srt_route.specs.Stands.{stands};
+ghost use Rattle.srt_route.specs.Tables.{IsTable};
 ghost use Rattle.srt_route.specs.Ledgers.{ended_in, opened_in, refused_in, refused_of};
 ghost use Rattle.srt_route.specs.Totals.{AddUp, totals_of_ended, with_shown};
 ghost use Rattle.srt_route.specs.Viewing.{delay_of, latency_in, ShowsSlot, ShowsSession, TellsTraffic};
@@ -14,6 +16,7 @@ use crate::ledger::EndedSession;
 use crate::publisher_buffers::PublisherBuffers;
 use crate::refusals::RefusalCause;
 use crate::route::Route;
+use crate::stage::Stage;
 use crate::standby::{active_buffers, is_active_by};
 use crate::table::Table;
 use crate::totals::Totals;
@@ -95,7 +98,29 @@ fn traffic_of(role: Role, publisher: &Publisher, subscriber: &Subscriber) -> Tra
     }
 }
 
+/// Returns these totals with the counts of one slot's snapshot added.
+fn with_shown(totals: Totals, shown: Option<SessionView>) -> Totals
+    ensures { result ≡ with_shown shown totals }
+{
+    match shown {
+        Some(view) => totals.with(&view.traffic),
+        None => totals,
+    }
+}
+
 impl Table {
+    /// Returns these totals with the counts of the open sessions added.
+    fn add_to(&self, ended: Totals) -> Totals
+        ensures { (e : Terms) (index clock : ℕ) (sessions : List Session) →
+            IsTable e index clock self.now sessions → AddUp e index sessions e.sessions ended result }
+    {
+        let mut totals = ended;
+        for at in 0..self.seats.len() {
+            totals = with_shown(totals, self.look(at));
+        }
+        totals
+    }
+
     /// Returns a snapshot of the open session of a slot; None if none is open there, or if there is no such slot.
     pub fn look(&self, slot: usize) -> Option<SessionView>
         ensures { ShowsSlot slot self.now result }
@@ -134,16 +159,6 @@ impl Table {
     }
 }
 
-/// Returns these totals with the counts of one slot's snapshot added.
-fn with_shown(totals: Totals, shown: Option<SessionView>) -> Totals
-    ensures { result ≡ with_shown shown totals }
-{
-    match shown {
-        Some(view) => totals.with(&view.traffic),
-        None => totals,
-    }
-}
-
 impl Route {
     /// Returns a snapshot of the open session of a slot, from 0; None if none is open there, or if the slot isn't below
     /// the number of sessions that the route's terms allow. Allocates nothing. Linear in the seats, at most 17.
@@ -151,7 +166,10 @@ impl Route {
         ensures { (e : Terms) (index : ℕ) (items : List TheItem) →
             stands self.now e index items → ShowsSession e index slot (after e index items).sessions result }
     {
-        self.table.look(slot)
+        match &self.stage {
+            Stage::Open { table, .. } => table.look(slot),
+            Stage::Closed(_) => None,
+        }
     }
 
     /// Returns the session that ended last in a slot, from 0, with its cause and time; None if none ended there.
@@ -193,10 +211,9 @@ impl Route {
         ensures { (e : Terms) (index : ℕ) (items : List TheItem) →
             stands self.now e index items → AddUp e index (after e index items).sessions e.sessions (totals_of_ended self.now) result }
     {
-        let mut totals = self.ledger.totals;
-        for at in 0..self.table.seats.len() {
-            totals = with_shown(totals, self.table.look(at));
+        match &self.stage {
+            Stage::Open { table, .. } => table.add_to(self.ledger.totals),
+            Stage::Closed(_) => self.ledger.totals,
         }
-        totals
     }
 }

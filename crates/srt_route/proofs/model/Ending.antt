@@ -186,7 +186,7 @@ pub closed_ended : (e : Terms) (index : ℕ) (items : List Item) → (after e in
 closed_ended e index [] h = tt
 closed_ended e index (item ∷ items) h = let m = after e index items in more_ended e index item m m.is_closed (closed_ended e index items) h
 
-none_open : (at : ℕ) (ss : List Session) → Each HasEnded ss → find (is_open_in at) ss ≡ None
+pub none_open : (at : ℕ) (ss : List Session) → Each HasEnded ss → find (is_open_in at) ss ≡ None
 none_open at [] h = refl
 none_open at (s ∷ ss) h = rw (h.0) (none_open at ss h.1)
 

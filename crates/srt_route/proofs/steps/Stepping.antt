@@ -1,24 +1,21 @@
 -- One more item.
-use Rattle.std.proofs.Common.{◌≡◌, ℕ, ◌<◌, ◌≤◌, ◌^◌, true, false, ◌||◌, List, [], ◌∷◌, ◌++◌, length, map, max, sym, ap, subst, ◌∙◌, append_assoc, arith}
+use Rattle.std.proofs.Common.{◌≡◌, ℕ, ◌<◌, ◌≤◌, ◌^◌, ◌+◌, ◌*◌, false, List, [], ◌∷◌, ◌++◌, length, map, sym, ap, subst, ◌∙◌, append_assoc, arith}
 use Rattle.std.proofs.lemmas.List.{length-map, map-append}
 use Rattle.srt_types.specs.Terms.{Terms}
-use Rattle.srt_types.specs.Items.{Item, Datagram, moment_of}
-use Rattle.srt_route.specs.declared.route.Route.{Route as TheRoute}
+use Rattle.srt_types.specs.Items.{Item, Datagram}
 use Rattle.srt_route.specs.declared.reply_queue.ReplyQueue.{ReplyQueue}
 use Rattle.srt_route.specs.declared.table.Table.{Table}
 use Rattle.srt_route.specs.Written.{written}
 use Rattle.srt_route.specs.Sessions.{Session, speaks, advanced}
-use Rattle.srt_route.specs.Route.{Reply, idle_notified, sent, after, clock_after, taken, taken_by, passed_by}
-use Rattle.srt_route.specs.Route.{after_delivery, finished, is_file_over, packets_where, served, replies_at, sessions_at, closes, reply}
+use Rattle.srt_route.specs.Route.{Reply, Route, idle_notified, sent, clock_after, taken, taken_by, passed_by}
+use Rattle.srt_route.specs.Route.{after_delivery, finished, is_file_over, packets_where, served, replies_at, replies_to, sessions_at, reply, with_input}
 use Rattle.srt_route.specs.Tables.{IsTable}
-use Rattle.srt_route.specs.inside.Reports.{AreSaid, Queues}
+use Rattle.srt_route.specs.inside.Reports.{Queues}
 use Rattle.srt_route.specs.inside.Delivery.{changed, after_publisher}
 use Rattle.srt_route.specs.inside.Files.{FinishesSubscribers, ServesSubscribers}
 use Rattle.srt_route.specs.inside.Calls.{AdvancesTo, TakesItem, AnswersItem, TableBecomes, TellsIdle, Transmits}
-use Rattle.srt_route.specs.Stands.{IsRoute, waiting, places}
 use Rattle.srt_route.specs.Waits.{replies_of, places_of}
 use Rattle.srt_route.proofs.model.Counts.{replies_have_places}
-use Rattle.srt_route.proofs.model.Ending.{closed_ended, ended_table}
 use Rattle.srt_route.proofs.steps.Saying.{said_then, same_said}
 use Rattle.srt_route.proofs.steps.Serving.{all_finished, same_served}
 
@@ -89,75 +86,47 @@ before_subscribers e index before clock item sessions first aged_to second third
     (delivers e index (taken e index clock item (advanced e clock sessions)).sessions
     (takes e index (advanced e clock sessions) (ages e index before sessions body later early)))
 
--- after the six steps, a route that wasn't closed represents one more item
-pub stands_more : (e : Terms) (index : ℕ) (items : List Item) (item : Item) (old new : TheRoute) → IsRoute e index old (after e index items)
-    → old.closed ≡ false → new.clock ≡ max old.clock (moment_of item)
-    → IsTable e index new.clock new.table
-    (ended_at e new.clock
-    (after_delivery e new.clock (taken e index new.clock item (advanced e new.clock (after e index items).sessions)).sessions))
-    → places old ≤ places new → new.closed ≡ closes item
-    → IsRoute e index new (after e index (item ∷ items))
-stands_more e index items item old new h lives moment body more shut =
-    let m = after e index items in
-    let clock : new.clock ≡ clock_after item m = moment ∙ ap (λ (n : ℕ). max n (moment_of item)) h.clock_is in
-    let is_open : m.is_closed ≡ false = h.closed_is ∙ lives in
-    record {
-      clock_is = clock;
-      table_is =
-          subst (λ b. IsTable e index new.clock new.table (sessions_at b e index item m)) (sym is_open)
-          (subst
-          (λ (n : ℕ). IsTable e index new.clock new.table
-          (ended_at e n (after_delivery e n (taken e index n item (advanced e n m.sessions)).sessions)))
-          clock body);
-      room = omega (arith, h.room, more);
-      closed_is = ap (λ b. b || closes item) is_open ∙ sym shut;
-    }
+-- the sessions after an item on an open route
+pub passed_table : (e : Terms) (index clock : ℕ) (item : Item) (m : Route) (last : Table) → m.is_closed ≡ false → clock ≡ clock_after item m
+    → IsTable e index clock last
+    (ended_at e clock (after_delivery e clock (taken e index clock item (advanced e clock m.sessions)).sessions))
+    → IsTable e index clock last (with_input e index item m).sessions
+passed_table e index clock item m last is_open clock_is body =
+    subst (λ b. IsTable e index clock last (sessions_at b e index item m)) (sym is_open)
+    (subst
+    (λ (n : ℕ). IsTable e index clock last
+    (ended_at e n (after_delivery e n (taken e index n item (advanced e n m.sessions)).sessions)))
+    clock_is body)
 
--- in a closed route only the clock advances
-pub stays_closed : (e : Terms) (index : ℕ) (items : List Item) (item : Item) (old new : TheRoute)
-    → IsRoute e index old (after e index items) → old.closed ≡ true → new.clock ≡ max old.clock (moment_of item) → new.clock < 2 ^ 62
-    → new.table ≡ old.table → new.waiting ≡ old.waiting → new.closed ≡ old.closed
-    → IsRoute e index new (after e index (item ∷ items))
-stays_closed e index items item old new h shut moment early same queue still =
-    let m = after e index items in
-    let is_closed : m.is_closed ≡ true = h.closed_is ∙ shut in
-    record {
-      clock_is = moment ∙ ap (λ (n : ℕ). max n (moment_of item)) h.clock_is;
-      table_is =
-          subst (λ b. IsTable e index new.clock new.table (sessions_at b e index item m)) (sym is_closed)
-          (subst (λ (t : Table). IsTable e index new.clock t m.sessions) (sym same)
-          (ended_table e index old.clock new.clock old.table m.sessions h.table_is early (closed_ended e index items is_closed)));
-      room = omega (arith, h.room, ap (λ (q : ReplyQueue). places_of q) queue);
-      closed_is = ap (λ b. b || closes item) is_closed ∙ sym (still ∙ shut);
-    }
-
--- the replies are those of the definition
-pub replies_more : (e : Terms) (index : ℕ) (items : List Item) (item : Item) (old : TheRoute) (time : ℕ) (queue : ReplyQueue)
-    → IsRoute e index old (after e index items) → old.closed ≡ false → time ≡ max old.clock (moment_of item) → waiting old ≡ []
-    → AreSaid (replies_of old.waiting) (replies_of queue) (places old) (places_of queue)
-    (answered_at e index time item (after e index items).sessions
-    ++ said_at e time (taken e index time item (advanced e time (after e index items).sessions)).sessions)
-    → map written (replies_of queue) ≡ reply e index (item ∷ items)
-replies_more e index items item old time queue h lives moment none both =
-    let m = after e index items in
-    let clock : time ≡ clock_after item m = moment ∙ ap (λ (n : ℕ). max n (moment_of item)) h.clock_is in
+-- the replies to an item on an open route
+pub queued_replies : (e : Terms) (index clock : ℕ) (item : Item) (m : Route) (before after : ReplyQueue)
+    → m.is_closed ≡ false → clock ≡ clock_after item m
+    → Queues before after
+    (answered_at e index clock item m.sessions ++ said_at e clock (taken e index clock item (advanced e clock m.sessions)).sessions)
+    → Queues before after (map sent (replies_to e index item m))
+queued_replies e index clock item m before after is_open clock_is said =
     let answers = (taken_by e index item m).answers in
     let first = packets_where e (clock_after item m) speaks (passed_by e index item m) in
     let second = served e (clock_after item m) (is_file_over e (passed_by e index item m)) (passed_by e index item m) in
     let idle = idle_notified e (clock_after item m) m.sessions in
-    let all : map sent idle ++ map sent answers ++ map sent (first ++ second) ≡ reply e index (item ∷ items) =
+    let all : map sent idle ++ map sent answers ++ map sent (first ++ second) ≡ map sent (replies_to e index item m) =
     ap (λ (ds : List Datagram). ds ++ map sent (first ++ second)) (sym (map-append sent idle answers))
     ∙ sym (map-append sent (idle ++ answers) (first ++ second))
     ∙ ap (λ (rs : List Reply). map sent rs) (sym (append_assoc (idle ++ answers) first second))
-    ∙ ap (λ b. map sent (replies_at b e index item m)) (sym (h.closed_is ∙ lives)) in
-    let said : AreSaid (replies_of old.waiting) (replies_of queue) (places old) (places_of queue) (reply e index (item ∷ items)) =
+    ∙ ap (λ b. map sent (replies_at b e index item m)) (sym is_open) in
     same_said
     (ap
     (λ (n : ℕ). answered_at e index n item m.sessions
     ++ said_at e n (taken e index n item (advanced e n m.sessions)).sessions)
-    clock
+    clock_is
     ∙ all)
-    both in
-    let empty : length (replies_of old.waiting) ≡ 0 = sym (length-map (replies_of old.waiting) written) ∙ ap length none in
-    said.waiting (omega (arith, empty, replies_have_places e index (item ∷ items), h.room))
+    said
+
+-- the replies wait in a queue that was empty
+pub replies_wait : (e : Terms) (index : ℕ) (items : List Item) (item : Item) (before later : ReplyQueue)
+    → 4 + 66 * e.sessions ≤ places_of before → map written (replies_of before) ≡ []
+    → Queues before later (reply e index (item ∷ items)) → map written (replies_of later) ≡ reply e index (item ∷ items)
+replies_wait e index items item before later room none said =
+    let empty : length (replies_of before) ≡ 0 = sym (length-map (replies_of before) written) ∙ ap length none in
+    said.waiting (omega (arith, empty, replies_have_places e index (item ∷ items), room))
     ∙ ap (λ (ds : List Datagram). ds ++ reply e index (item ∷ items)) none

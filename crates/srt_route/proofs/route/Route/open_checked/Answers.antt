@@ -6,7 +6,7 @@ use Rattle.srt_route.proofs.route.Route.open_checked.Goals as goal
 pub returns-clause-stands : goal.returns-clause-stands
 returns-clause-stands c items rests = record {
   clock_is = sym rests.clock_is;
-  table_is = c.in_ok-table.ensures.rests (after (terms_of c.args.entry.now) c.args.index items) c.args.clock c.requires.early rests;
+  stage_is = c.in_ok-table.ensures.rests (after (terms_of c.args.entry.now) c.args.index items) c.args.clock c.requires.early rests;
   room = omega (arith, c.in-Ok.ensures.room);
   closed_is = rests.not_closed;
 }

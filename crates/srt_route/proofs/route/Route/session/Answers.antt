@@ -1,5 +1,12 @@
 use Rattle.srt_route.specs.Route.{after}
+use Rattle.srt_route.proofs.steps.Closing.{all_ended, none_shown, table_of}
 use Rattle.srt_route.proofs.route.Route.session.Goals as goal
 
-pub returns : goal.returns
-returns c e index items h = c.look.ensures e index c.args.self.now.clock (after e index items).sessions h.table_is
+pub returns-in-Open : goal.returns-in-Open
+returns-in-Open c e index items h =
+    let m = after e index items in
+    c.look.ensures e index c.args.self.now.clock m.sessions (table_of e index c.args.self.now m c.in-Open.table _ h c.in-Open.is)
+
+pub returns-in-Closed : goal.returns-in-Closed
+returns-in-Closed c e index items h =
+    none_shown e index c.args.slot (after e index items).sessions (all_ended e index items c.args.self.now _ h c.in-Closed.is)

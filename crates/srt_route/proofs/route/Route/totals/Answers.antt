@@ -1,26 +1,13 @@
-use Rattle.std.proofs.Common.{◌≡◌, ℕ, suc, ◌+◌, refl, subst, arith}
 use Rattle.srt_route.specs.Route.{after}
-use Rattle.srt_route.specs.Totals.{AddUp}
+use Rattle.srt_route.proofs.steps.Closing.{all_ended, none_added, table_of}
 use Rattle.srt_route.proofs.route.Route.totals.Goals as goal
 
-pub loop-at-init : goal.loop-at-init
-loop-at-init c e index clock sessions is = refl
-
-pub loop-at-preserved : goal.loop-at-preserved
-loop-at-preserved c e index clock sessions is =
-    let next : suc c.loop-at.at ≡ c.loop-at.at + 1 = omega arith in
-    subst (λ (n : ℕ). AddUp e index sessions n c.args.self.now.ledger.totals c.with_shown-totals.result) next
-    (record {
-      before = c.loop-at.totals;
-      shown = c.look.result;
-      before_is = c.loop-at.invariant e index clock sessions is;
-      shows = c.look.ensures e index clock sessions is;
-      all_is = c.with_shown-totals.ensures;
-    })
-
-pub returns : goal.returns
-returns c e index items h =
+pub returns-in-Open : goal.returns-in-Open
+returns-in-Open c e index items h =
     let m = after e index items in
-    let all : c.loop-at.at ≡ e.sessions = omega (arith, c.loop-at-test.false, c.len-at-end.ensures, h.table_is.places_are) in
-    subst (λ (n : ℕ). AddUp e index m.sessions n c.args.self.now.ledger.totals c.loop-at.totals) all
-    (c.loop-at.invariant e index c.args.self.now.clock m.sessions h.table_is)
+    c.add_to.ensures e index c.args.self.now.clock m.sessions (table_of e index c.args.self.now m c.in-Open.table _ h c.in-Open.is)
+
+pub returns-in-Closed : goal.returns-in-Closed
+returns-in-Closed c e index items h =
+    none_added e index (after e index items).sessions e.sessions c.args.self.now.ledger.totals
+    (all_ended e index items c.args.self.now _ h c.in-Closed.is)
