@@ -19,6 +19,7 @@ use Rattle.srt_poller.specs.Plans.{never, texts_of, is_requested, waiting, close
 use Rattle.srt_poller.specs.Changes.{TookAddedRoutes, Requested, TookClosings, Took, TookChanges, Opens, BeganWith, BeganAfter, Started}
 use Rattle.srt_poller.proofs.Joined.{joined_none, joined_twice}
 use Rattle.srt_poller.proofs.ShownInRound.{texts_opened, texts_closed, as_many}
+use Rattle.srt_poller.specs.Told.{Observer}
 use Rattle.srt_poller.proofs.Beginning.{began_closing, began_quietly}
 use Rattle.srt_poller.proofs.Replanning.{agree_none, agree_append, agree_then, wait_later, agree_closed, many_updated, requested_more, requested_other}
 use Rattle.srt_poller.proofs.Replanning.{or_false, plans_later, plans_appended, plans_closed, settled_closing, settled_resting}
@@ -175,13 +176,13 @@ took_changes round reported reported' ps middle ps' ns ns' es es' known all_ends
     )
 
 -- the round begins
-module _ (round latest : ℕ) (added : List NewRoute) (requested : List ℕ) (ps ps' : List Schedule) (ns ns' : List RouteName) (es es' : List Ends)
-    (took : Took round added requested ps ps' ns ns' es es') where
+module _ (observer : Observer) (round latest : ℕ) (added : List NewRoute) (requested : List ℕ) (ps ps' : List Schedule) (ns ns' : List RouteName)
+    (es es' : List Ends) (took : Took round added requested ps ps' ns ns' es es') where
   pub began_to_close : (new : List RouteName) (after : List Ends) → AreClosed true latest round ps' ns' new es' after →
-      BeganWith true round latest added requested ps ps' ns new es after
+      BeganWith observer true round latest added requested ps ps' ns new es after
   began_to_close new after closing = record {
     agree = took.agree;
-    began = rw (sym took.named, sym took.ended) (began_closing true round latest ps' ns' ns' new es' after refl closing);
+    began = rw (sym took.named, sym took.ended) (began_closing observer true round latest ps' ns' ns' new es' after refl closing);
     texts = ap all_shown closing.1.names ∙ texts_closed closing.0 ns' ∙ ap all_shown took.named;
     planned = λ starts schedules before timely plans.
         rw (sym took.named) (settled_closing round ns' (texts_of ns') ps' starts schedules (before ++ requested) timely
@@ -190,10 +191,10 @@ module _ (round latest : ℕ) (added : List NewRoute) (requested : List ℕ) (ps
     all_ends = closing.1.ends.as_many ∙ took.all_ends ∙ sym (as_many new ns' (ap all_shown closing.1.names ∙ texts_closed closing.0 ns'));
   }
 
-  pub began_as_before : AreDistinct ns' → Rests round ps' ns' → BeganWith false round latest added requested ps ps' ns ns' es es'
+  pub began_as_before : AreDistinct ns' → Rests round ps' ns' → BeganWith observer false round latest added requested ps ps' ns ns' es es'
   began_as_before distinct rests = record {
     agree = took.agree;
-    began = rw (sym took.named, sym took.ended) (began_quietly round latest ps' ns' es' distinct rests);
+    began = rw (sym took.named, sym took.ended) (began_quietly observer round latest ps' ns' es' distinct rests);
     texts = ap all_shown took.named;
     planned = λ starts schedules before timely plans.
         rw (sym took.named) (settled_resting round (opened round ps' ns') (texts_of ns') ps' rests.2 starts schedules (before ++ requested) timely
@@ -203,13 +204,13 @@ module _ (round latest : ℕ) (added : List NewRoute) (requested : List ℕ) (ps
   }
 
   pub began_to_open : (ps'' : List Schedule) (middle new : List RouteName) (after : List Ends) → Opens round ps' ps'' ns' middle →
-      AreClosed false latest round ps'' middle new es' after → BeganWith false round latest added requested ps ps'' ns new es after
+      AreClosed false latest round ps'' middle new es' after → BeganWith observer false round latest added requested ps ps'' ns new es after
   began_to_open ps'' middle new after opens closing =
       let shown : all_shown new ≡ all_shown ns' =
       ap all_shown closing.1.names ∙ texts_closed closing.0 middle ∙ ap all_shown opens.named ∙ texts_opened round ps'' ns' in record {
         agree = subst (λ (l : List RouteName). AgreeBefore round ps ps'' l) (append-nil (names_in added))
             (agree_then round ps ps' ps'' (names_in added) [] took.agree opens.agree);
-        began = rw (sym took.named, sym took.ended) (began_closing false round latest ps'' ns' middle new es' after opens.named closing);
+        began = rw (sym took.named, sym took.ended) (began_closing observer false round latest ps'' ns' middle new es' after opens.named closing);
         texts = shown ∙ ap all_shown took.named;
         planned = λ starts schedules before timely plans.
             rw (sym took.named, sym opens.named) (opens.planned starts schedules (before ++ requested) timely
@@ -240,20 +241,20 @@ started_texts closes_all round due latest ps ps' ns ns' es es' (inr h) = by h.1
         ap all_shown q.2.1.names ∙ texts_closed q.2.0 q.0 ∙ ap all_shown q.1.named ∙ texts_opened round ps' ns
 
 -- a round began, its changes included
-pub began_after : (closes_all : Bool) (round due latest : ℕ) (reported reported' : RouteReports) (ps ps' ps'' : List Schedule)
+pub began_after : (observer : Observer) (closes_all : Bool) (round due latest : ℕ) (reported reported' : RouteReports) (ps ps' ps'' : List Schedule)
     (ns ns' ns'' : List RouteName) (es es' es'' : List Ends) → TookChanges round reported reported' ps ps' ns ns' es es' →
     (round < due → Rests round ps' ns') → Started closes_all round due latest ps' ps'' ns' ns'' es' es'' →
-    BeganAfter closes_all round latest reported reported' ps ps'' ns ns'' es es''
-began_after closes_all round due latest reported reported' ps ps' ps'' ns ns' ns'' es es' es'' took rests started =
+    BeganAfter observer closes_all round latest reported reported' ps ps'' ns ns'' es es''
+began_after observer closes_all round due latest reported reported' ps ps' ps'' ns ns' ns'' es es' es'' took rests started =
     (took.0, took.1, took.2, by started)
   where
     later : closes_all ≡ false → ((round < due) × (ps'' ≡ ps') × (ns'' ≡ ns') × (es'' ≡ es') × AreDistinct ns')
         ⊎ ((shown : List RouteName) × Opens round ps' ps'' ns' shown × AreClosed false latest round ps'' shown ns'' es' es'') →
-        BeganWith closes_all round latest took.0 took.1 ps ps'' ns ns'' es es''
+        BeganWith observer closes_all round latest took.0 took.1 ps ps'' ns ns'' es es''
     later is (inl q) =
-        rw (is, q.1, q.2, q.3) (began_as_before round latest took.0 took.1 ps ps' ns ns' es es' took.3 q.4 (rests q.0))
-    later is (inr q) = rw is (began_to_open round latest took.0 took.1 ps ps' ns ns' es es' took.3 ps'' q.0 ns'' es'' q.1 q.2)
+        rw (is, q.1, q.2, q.3) (began_as_before observer round latest took.0 took.1 ps ps' ns ns' es es' took.3 q.4 (rests q.0))
+    later is (inr q) = rw is (began_to_open observer round latest took.0 took.1 ps ps' ns ns' es es' took.3 ps'' q.0 ns'' es'' q.1 q.2)
 
-    by : Started closes_all round due latest ps' ps'' ns' ns'' es' es'' → BeganWith closes_all round latest took.0 took.1 ps ps'' ns ns'' es es''
-    by (inl h) = rw (h.0, h.1) (began_to_close round latest took.0 took.1 ps ps' ns ns' es es' took.3 ns'' es'' h.2)
+    by : Started closes_all round due latest ps' ps'' ns' ns'' es' es'' → BeganWith observer closes_all round latest took.0 took.1 ps ps'' ns ns'' es es''
+    by (inl h) = rw (h.0, h.1) (began_to_close observer round latest took.0 took.1 ps ps' ns ns' es es' took.3 ns'' es'' h.2)
     by (inr h) = later h.0 h.1

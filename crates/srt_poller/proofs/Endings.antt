@@ -15,23 +15,25 @@ use Rattle.srt_poller.specs.Pollers.{kept_in, round_state, world_of, Rounds}
 use Rattle.srt_poller.specs.Starts.{RoundStart, starts_in}
 use Rattle.srt_poller.specs.Openings.{NewRoute, names_in, RouteReports, route_reports_more}
 use Rattle.srt_poller.specs.Plans.{texts_of, ArePlans}
-use Rattle.srt_poller.specs.Changes.{with_routes, ChangedBy}
+use Rattle.srt_poller.specs.Changes.{with_routes, ToldChanging}
 use Rattle.srt_poller.specs.Pumped.{Before, After, PumpedUnder, before, after}
+use Rattle.srt_poller.specs.Told.{Observer, Setting, AreTold}
 use Rattle.srt_poller.proofs.Steps.{went_then, went_more, went_as, rounds_more}
 use Rattle.srt_poller.proofs.Sums.{all_summed}
 use Rattle.srt_poller.proofs.Tallies.{tallied}
 use Rattle.srt_poller.proofs.Origins.{have_origins, kept_is}
 
-pub ended : {goes closes : Type 0} (class : Sorting) (schedules : List Schedule) (names names' : List RouteName) (source source' : Heard)
+pub ended : {goes closes : Type 0} (setting : Setting) (schedules : List Schedule) (names names' : List RouteName) (source source' : Heard)
     (wire wire' : Carried) (ends ends' : List Ends) (latest : ℕ) (phase : Phase) (p : Poller) (made closing : ℕ) (starts : List RoundStart) (report : Report)
     →
     made ≤ 2 ^ 48 → IsOver phase → (closing ≡ made) ⊎ goes → (closing ≡ 0) ⊎ closes →
-    WentClosing class schedules closing starts (made * (259 + 64 * length ends)) made made (world source wire ends (at_first names) nothing)
+    WentClosing setting schedules closing starts (made * (259 + 64 * length ends)) made made (world source wire ends (at_first names) nothing)
     (world_of source' wire' ends' (round_state names' made latest) phase p)
     →
     report ≡ with_kept p.report (kept_in p)
-    → PumpedUnder goes closes class schedules made (before names source wire ends) (after names' source' wire' ends' report)
-ended {goes} {closes} class schedules names names' source source' wire wire' ends ends' latest phase p made closing starts report small over go close went is =
+    → PumpedUnder goes closes setting.class schedules made (before names source wire ends) (after names' source' wire' ends' report)
+ended {goes} {closes} setting schedules names names' source source' wire wire' ends ends' latest phase p made closing starts report small over go close
+    went is =
     let events = went.0 in
     let h = went.1 in
     let first : State = at_first names in
@@ -50,7 +52,7 @@ ended {goes} {closes} class schedules names names' source source' wire wire' end
         handed = h.handed;
         attempted = h.attempted;
         ends = h.ends;
-        origins = have_origins class schedules names events h.follow;
+        origins = have_origins setting.class schedules names events h.follow;
         report = report_is;
         sums = sums;
         tallies = λ routes. tallied events report (sums routes);
@@ -62,38 +64,46 @@ ended {goes} {closes} class schedules names names' source source' wire wire' end
       },
     )
 
--- the same, and its rounds started so
-pub ended_so : {goes closes : Type 0} (class : Sorting) (schedules : List Schedule) (names names' : List RouteName) (source source' : Heard)
+-- the same, its rounds started so, and its observer was told of each event
+pub ended_so : {goes closes : Type 0} (setting : Setting) (schedules : List Schedule) (names names' : List RouteName) (source source' : Heard)
     (wire wire' : Carried) (ends ends' : List Ends) (latest : ℕ) (phase : Phase) (p : Poller) (made closing : ℕ) (starts : List RoundStart) (report : Report)
     →
     made ≤ 2 ^ 48 → IsOver phase → (closing ≡ made) ⊎ goes → (closing ≡ 0) ⊎ closes →
-    WentClosing class schedules closing starts (made * (259 + 64 * length ends)) made made (world source wire ends (at_first names) nothing)
+    WentClosing setting schedules closing starts (made * (259 + 64 * length ends)) made made (world source wire ends (at_first names) nothing)
     (world_of source' wire' ends' (round_state names' made latest) phase p)
     →
     report ≡ with_kept p.report (kept_in p)
-    → (pumped : PumpedUnder goes closes class schedules made (before names source wire ends) (after names' source' wire' ends' report))
-    × (starts_in schedules (at_first names) pumped.0 ≡ starts)
+    → (pumped : PumpedUnder goes closes setting.class schedules made (before names source wire ends) (after names' source' wire' ends' report))
+    × (starts_in schedules (at_first names) pumped.0 ≡ starts) × AreTold setting.class setting.observer nothing pumped.0
 unfolding ended
-ended_so class schedules names names' source source' wire wire' ends ends' latest phase p made closing starts report small over go close went is = (
-  ended class schedules names names' source source' wire wire' ends ends' latest phase p made closing starts report small over go close went is,
+ended_so setting schedules names names' source source' wire wire' ends ends' latest phase p made closing starts report small over go close went is = (
+  ended setting schedules names names' source source' wire wire' ends ends' latest phase p made closing starts report small over go close went is,
   went.1.started,
+  went.1.told,
 )
 
--- what it did while routes were added and removed
-pub changed_so : {goes closes : Type 0} {class : Sorting} {schedules : List Schedule} {rounds : ℕ} {reported reported' : RouteReports} {old : Before}
-    {new : After} {added : List NewRoute} {requested : List ℕ} {later : List Schedule} (starts : List RoundStart)
+-- what it did while routes were added and removed, and what its observer was told
+pub told_so : {goes closes : Type 0} {class : Sorting} {schedules : List Schedule} {rounds : ℕ} {reported reported' : RouteReports}
+    {old : Before} {new : After} (observer : Observer) (added : List NewRoute) (requested : List ℕ) (later : List Schedule) (starts : List RoundStart)
     → reported' ≡ route_reports_more reported added requested
     → ArePlans rounds (λ r. ⊥) starts schedules (texts_of (old.names ++ names_in added)) requested later
     → ((pumped : PumpedUnder goes closes class later rounds (with_routes added old) new)
-    × (starts_in later (at_first (old.names ++ names_in added)) pumped.0 ≡ starts))
-    → ChangedBy goes closes class schedules rounds reported reported' old new added requested later
-changed_so {schedules = schedules} {rounds = rounds} {old = old} {added = added} {requested = requested} {later = later} starts reports planned pumped =
+    × (starts_in later (at_first (old.names ++ names_in added)) pumped.0 ≡ starts) × AreTold class observer nothing pumped.0)
+    → ToldChanging goes closes class observer schedules rounds reported reported' old new
+told_so {schedules = schedules} {rounds = rounds} {old = old} observer added requested later starts reports planned pumped = (
+  (
+    added,
+    requested,
+    later,
     record {
       reports = reports;
       pumped = pumped.0;
       planned =
           subst (λ (l : List RoundStart). ArePlans rounds (λ r. ⊥) l schedules (texts_of (old.names ++ names_in added)) requested later) (sym pumped.1) planned;
-    }
+    },
+  ),
+  pumped.2,
+)
 
 -- the number of rounds under another name
 pub as_reported : {goes closes : Type 0} {class : Sorting} {schedules : List Schedule} {made reported : ℕ} {x : Before} {y : After}
@@ -114,14 +124,14 @@ close_more closing false (inl e) g = inl (omega (arith, e))
 close_more closing false (inr x) g = inr x
 
 -- one round more, which began and was made to its end
-pub rounds_next : {goes closes : Type 0} (class : Sorting) (schedules : List Schedule) (starts : List RoundStart) (start : RoundStart) (made routes many : ℕ)
+pub rounds_next : {goes closes : Type 0} (setting : Setting) (schedules : List Schedule) (starts : List RoundStart) (start : RoundStart) (made routes many : ℕ)
     (closes_all : Bool) (old now new : Phase → World) (begun : World)
-    → Rounds goes closes class schedules starts made routes old now
-    → ((phase : Phase) → IsOver phase → WentClosing class schedules (if closes_all then 1 else 0) (start ∷ []) 1 0 0 (now phase) begun)
-    → (next : Phase) × IsOver next × Went class schedules (258 + 64 * many) 1 1 begun (new next)
+    → Rounds goes closes setting schedules starts made routes old now
+    → ((phase : Phase) → IsOver phase → WentClosing setting schedules (if closes_all then 1 else 0) (start ∷ []) 1 0 0 (now phase) begun)
+    → (next : Phase) × IsOver next × Went setting schedules (258 + 64 * many) 1 1 begun (new next)
     → many ≡ routes → (closes_all ≡ false → goes) → (closes_all ≡ true → closes)
-    → Rounds goes closes class schedules (starts ++ start ∷ []) (made + 1) routes old new
-rounds_next class schedules starts start made routes many closes_all old now new begun sofar began rest same go close phase over =
+    → Rounds goes closes setting schedules (starts ++ start ∷ []) (made + 1) routes old new
+rounds_next setting schedules starts start made routes many closes_all old now new begun sofar began rest same go close phase over =
     let b = sofar phase over in (
       rest.0,
       rest.1,

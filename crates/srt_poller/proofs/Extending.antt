@@ -6,11 +6,12 @@ use Rattle.std.proofs.lemmas.List.{length-append, get_or_append_left, get_or-app
 use Rattle.srt_types.specs.declared.shared.Schedule.{Schedule}
 use Rattle.srt_lobby.specs.Names.{RouteName}
 use Rattle.srt_poller.specs.declared.ends.Ends.{Ends}
-use Rattle.srt_poller.specs.History.{Sorting, Event, State, Phase, IsOver, accepted, drained}
+use Rattle.srt_poller.specs.History.{Event, State, Phase, IsOver, accepted, drained}
 use Rattle.srt_poller.specs.Rounds.{World, world, IsLater, AreLater, WentClosing}
 use Rattle.srt_poller.specs.Pollers.{Rounds}
 use Rattle.srt_poller.specs.Beforehand.{AgreeBefore, AreIgnored, with_more}
 use Rattle.srt_poller.specs.Starts.{RoundStart}
+use Rattle.srt_poller.specs.Told.{Setting}
 use Rattle.srt_poller.proofs.Starting.{starts_more}
 use Rattle.srt_poller.proofs.Beforehand.{earlier_rounds_are_same, earlier_starts_are_same}
 use Rattle.srt_poller.proofs.Steps.{later_none, went_more}
@@ -46,18 +47,18 @@ are_later_more events x y more h = record {
         rw (get_or_append_left x more e r within, get_or_append_left y more e r there) (h.each r e within)
     by r e (inr past) = beyond r (r - length x) e (omega (arith, past))
 
-module _ (class : Sorting) (limit : ℕ) (schedules later : List Schedule) (more : List RouteName) (ends : List Ends)
-    (agree : AgreeBefore limit schedules later more) (ignores : AreIgnored class more) where
+module _ (setting : Setting) (limit : ℕ) (schedules later : List Schedule) (more : List RouteName) (ends : List Ends)
+    (agree : AgreeBefore limit schedules later more) (ignores : AreIgnored setting.class more) where
   went_extended : {closing most waits reads : ℕ} {starts : List RoundStart} (x y : World) → length schedules ≡ length x.state.names → IsOver y.state.phase →
-      y.state.round ≤ limit → WentClosing class schedules closing starts most waits reads x y →
-      WentClosing class later closing (starts_more more starts) most waits reads (extended more ends x) (extended more ends y)
+      y.state.round ≤ limit → WentClosing setting schedules closing starts most waits reads x y →
+      WentClosing setting later closing (starts_more more starts) most waits reads (extended more ends x) (extended more ends y)
   went_extended x y many over early went =
       let events = went.0 in
       let h = went.1 in
       let ended = subst (λ (s : State). IsOver s.phase) h.state over in
       let last = subst (λ (s : State). s.round ≤ limit) h.state early in
-      let same = earlier_rounds_are_same class limit schedules later more agree ignores events x.state many h.follow ended last in
-      let starts_are = earlier_starts_are_same class limit schedules later more agree ignores events x.state many h.follow ended last in (
+      let same = earlier_rounds_are_same setting.class limit schedules later more agree ignores events x.state many h.follow ended last in
+      let starts_are = earlier_starts_are_same setting.class limit schedules later more agree ignores events x.state many h.follow ended last in (
         events,
         record {
           follow = same.0;
@@ -68,6 +69,7 @@ module _ (class : Sorting) (limit : ℕ) (schedules later : List Schedule) (more
           ends = are_later_more events x.ends y.ends ends h.ends;
           state = ap (with_more more) h.state ∙ sym same.1;
           report = h.report;
+          told = h.told;
           closed = h.closed;
           started = starts_are ∙ ap (starts_more more) h.started;
           few = h.few;
@@ -80,8 +82,8 @@ module _ (class : Sorting) (limit : ℕ) (schedules later : List Schedule) (more
   pub rounds_extended : {goes closes : Type 0} (starts : List RoundStart) (made routes many : ℕ) (old new : Phase → World)
       → ((phase : Phase) → length schedules ≡ length (old phase).state.names)
       → ((phase : Phase) → (new phase).state.phase ≡ phase) → ((phase : Phase) → (new phase).state.round ≤ limit)
-      → routes ≤ many → Rounds goes closes class schedules starts made routes old new
-      → Rounds goes closes class later (starts_more more starts) made many (λ phase. extended more ends (old phase)) (λ phase. extended more ends (new phase))
+      → routes ≤ many → Rounds goes closes setting schedules starts made routes old new
+      → Rounds goes closes setting later (starts_more more starts) made many (λ phase. extended more ends (old phase)) (λ phase. extended more ends (new phase))
   rounds_extended starts made routes many old new known is early few sofar phase over =
       let b = sofar phase over in (
         b.0,

@@ -2,6 +2,7 @@ pub mod Joined
 pub mod Steps
 pub mod Origins
 pub mod Sums
+pub mod Growing
 pub mod Tallies
 pub mod Endings
 pub mod Scripted

@@ -18,14 +18,16 @@ use Rattle.srt_poller.specs.declared.devices.Sent.TheVariants.{Taken, Later, Fai
 use Rattle.srt_poller.specs.Devices.{Arrival, Heard, heard, Carried, Call, heard_more, handed_by_send, joined}
 use Rattle.srt_poller.specs.Pollers.{RoundState, IsUpTo, Replies, ClosedAs}
 use Rattle.srt_poller.specs.Schedules.{CloseOffer, offered}
-use Rattle.srt_poller.specs.History.{Sorting, Event, State, Fits, Follow, state_by, state_after, Begins, closing_by, closings, given_by}
+use Rattle.srt_poller.specs.History.{Event, State, Fits, Follow, state_by, state_after, Begins, closing_by, closings, given_by}
 use Rattle.srt_poller.specs.History.{given, calls_by, calls, attempts_by, attempts, Phase, Reading, Sending, reading, sent_on, IsOver}
 use Rattle.srt_poller.specs.History.{MaySend, Handed, handed_by, handed, datagrams, accepted_by, accepted, drained_by, drained, at_route}
 use Rattle.srt_poller.specs.History.{closes_all_by, waits_by, ready_by, reads_by, Waits, WaitFails, ReadsNothing, ReadFails, Answers}
 use Rattle.srt_poller.specs.History.{Accepts, Overflows, Refuses, Drops, Sends, Resends}
+use Rattle.srt_supervision.specs.declared.report.Report.{Report}
 use Rattle.srt_poller.specs.Reports.{counted_by, counted}
 use Rattle.srt_poller.specs.Rounds.{World, IsLater, AreLater, Happened, WentClosing, Went}
 use Rattle.srt_poller.specs.Starts.{RoundStart, starts_by, starts_in}
+use Rattle.srt_poller.specs.Told.{Observer, Setting, IsTold, AreTold}
 use Rattle.srt_poller.proofs.Joined.{joined_none, joined_twice}
 
 -- ends
@@ -71,11 +73,11 @@ starts_then schedules s (u ∷ us) vs =
     ap (λ (l : List RoundStart). starts_by schedules s u ++ l) (starts_then schedules (state_by schedules s u) us vs)
     ∙ sym (append_assoc (starts_by schedules s u) (starts_in schedules (state_by schedules s u) us) _)
 
-pub happened_then : {class : Sorting} {schedules : List Schedule} {b c m n w v r s : ℕ} {p q : List RoundStart} (us vs : List Event) (x y z : World)
-    → Happened class schedules b p m w r us x y → Happened class schedules c q n v s vs y z
-    → Happened class schedules (b + c) (p ++ q) (m + n) (w + v) (r + s) (us ++ vs) x z
-happened_then {class} {schedules} {b} {c} {m} {n} {w} {v} {r} {s} {p} {q} us vs x y z h k = record {
-  follow = follow_then x.state us (subst (λ (o : State). Follow class schedules o vs) h.state k.follow) h.follow;
+pub happened_then : {setting : Setting} {schedules : List Schedule} {b c m n w v r s : ℕ} {p q : List RoundStart} (us vs : List Event) (x y z : World)
+    → Happened setting schedules b p m w r us x y → Happened setting schedules c q n v s vs y z
+    → Happened setting schedules (b + c) (p ++ q) (m + n) (w + v) (r + s) (us ++ vs) x z
+happened_then {setting} {schedules} {b} {c} {m} {n} {w} {v} {r} {s} {p} {q} us vs x y z h k = record {
+  follow = follow_then x.state us (subst (λ (o : State). Follow setting.class schedules o vs) h.state k.follow) h.follow;
   gave = k.gave ∙ ap (λ o. joined o (given vs)) h.gave ∙ joined_twice x.source.gave (given us) (given vs)
       ∙ ap (joined x.source.gave) (sym (flat_map-append given_by us vs));
   called = k.called ∙ ap (λ o. joined o (calls vs)) h.called ∙ joined_twice x.source.calls (calls us) (calls vs)
@@ -87,6 +89,7 @@ happened_then {class} {schedules} {b} {c} {m} {n} {w} {v} {r} {s} {p} {q} us vs 
   ends = are_later_then us vs x.ends y.ends z.ends h.ends k.ends;
   state = k.state ∙ ap (λ o. state_after schedules o vs) h.state ∙ sym (fold-append (state_by schedules) x.state us vs);
   report = k.report ∙ ap (λ c. counted c vs) h.report ∙ sym (fold-append counted_by x.report us vs);
+  told = told_then x.report us (subst (λ (n : Report). AreTold setting.class setting.observer n vs) h.report k.told) h.told;
   closed = let a = h.closed in let b = k.closed in omega (arith, sum_by-append closes_all_by us vs);
   started = starts_then schedules x.state us vs
       ∙ ap (λ (l : List RoundStart). l ++ starts_in schedules (state_after schedules x.state us) vs) h.started
@@ -97,12 +100,17 @@ happened_then {class} {schedules} {b} {c} {m} {n} {w} {v} {r} {s} {p} {q} us vs 
 }
   where
     follow_then : (o : State) (es : List Event)
-        → Follow class schedules (state_after schedules o es) vs → Follow class schedules o es → Follow class schedules o (es ++ vs)
+        → Follow setting.class schedules (state_after schedules o es) vs → Follow setting.class schedules o es → Follow setting.class schedules o (es ++ vs)
     follow_then o [] f g = f
     follow_then o (e ∷ es) f g = (g.0, follow_then (state_by schedules o e) es f g.1)
 
-pub went_none : (class : Sorting) (schedules : List Schedule) (most : ℕ) (x : World) → Went class schedules most 0 0 x x
-went_none class schedules most x = (
+    told_then : (n : Report) (es : List Event) → AreTold setting.class setting.observer (counted n es) vs
+        → AreTold setting.class setting.observer n es → AreTold setting.class setting.observer n (es ++ vs)
+    told_then n [] f g = f
+    told_then n (e ∷ es) f g = (g.0, told_then (counted_by n e) es f g.1)
+
+pub went_none : (setting : Setting) (schedules : List Schedule) (most : ℕ) (x : World) → Went setting schedules most 0 0 x x
+went_none setting schedules most x = (
   [],
   record {
     follow = tt;
@@ -113,6 +121,7 @@ went_none class schedules most x = (
     ends = are_later_none [] x.ends (λ r. refl) (λ r. refl);
     state = refl;
     report = refl;
+    told = tt;
     closed = refl;
     started = refl;
     few = omega arith;
@@ -121,13 +130,13 @@ went_none class schedules most x = (
   },
 )
 
-pub went_then : {class : Sorting} {schedules : List Schedule} {b c m n w v r s : ℕ} {p q : List RoundStart} {x y z : World}
-    → WentClosing class schedules b p m w r x y → WentClosing class schedules c q n v s y z
-    → WentClosing class schedules (b + c) (p ++ q) (m + n) (w + v) (r + s) x z
-went_then {class} {schedules} {b} {c} {m} {n} {w} {v} {r} {s} {p} {q} {x} {y} {z} h k = (h.0 ++ k.0, happened_then h.0 k.0 x y z h.1 k.1)
+pub went_then : {setting : Setting} {schedules : List Schedule} {b c m n w v r s : ℕ} {p q : List RoundStart} {x y z : World}
+    → WentClosing setting schedules b p m w r x y → WentClosing setting schedules c q n v s y z
+    → WentClosing setting schedules (b + c) (p ++ q) (m + n) (w + v) (r + s) x z
+went_then {setting} {schedules} {b} {c} {m} {n} {w} {v} {r} {s} {p} {q} {x} {y} {z} h k = (h.0 ++ k.0, happened_then h.0 k.0 x y z h.1 k.1)
 
-pub went_more : {class : Sorting} {schedules : List Schedule} {b m n w r s : ℕ} {p : List RoundStart} {x y : World}
-    → m ≤ n → s ≤ r → WentClosing class schedules b p m w r x y → WentClosing class schedules b p n w s x y
+pub went_more : {setting : Setting} {schedules : List Schedule} {b m n w r s : ℕ} {p : List RoundStart} {x y : World}
+    → m ≤ n → s ≤ r → WentClosing setting schedules b p m w r x y → WentClosing setting schedules b p n w s x y
 went_more le less h = (
   h.0,
   record {
@@ -139,6 +148,7 @@ went_more le less h = (
     ends = h.1.ends;
     state = h.1.state;
     report = h.1.report;
+    told = h.1.told;
     closed = h.1.closed;
     started = h.1.started;
     few = let a = h.1.few in omega arith;
@@ -148,9 +158,9 @@ went_more le less h = (
 )
 
 -- the number of rounds that close all, said otherwise
-pub went_as : {class : Sorting} {schedules : List Schedule} {b c m w r : ℕ} {p : List RoundStart} {x y : World}
-    → b ≡ c → WentClosing class schedules b p m w r x y → WentClosing class schedules c p m w r x y
-went_as {class} {schedules} {b} {c} {m} {w} {r} {p} {x} {y} same h = subst (λ (n : ℕ). WentClosing class schedules n p m w r x y) same h
+pub went_as : {setting : Setting} {schedules : List Schedule} {b c m w r : ℕ} {p : List RoundStart} {x y : World}
+    → b ≡ c → WentClosing setting schedules b p m w r x y → WentClosing setting schedules c p m w r x y
+went_as {setting} {schedules} {b} {c} {m} {w} {r} {p} {x} {y} same h = subst (λ (n : ℕ). WentClosing setting schedules n p m w r x y) same h
 
 -- what one event makes of the records of the devices
 pub record HasRecorded (event : Event) (source source' : Heard) (wire wire' : Carried) : Type 0 where
@@ -159,12 +169,13 @@ pub record HasRecorded (event : Event) (source source' : Heard) (wire wire' : Ca
   pub handed : wire'.handed ≡ joined wire.handed (datagrams (handed_by event))
   pub attempted : wire'.attempts ≡ joined wire.attempts (attempts_by event)
 
-pub went_once : (class : Sorting) (schedules : List Schedule) (event : Event) (w r : ℕ) (x y : World)
+pub went_once : (setting : Setting) (schedules : List Schedule) (event : Event) (w r : ℕ) (x y : World)
     → waits_by event ≡ w → ready_by event + r ≤ reads_by event + w →
-    Fits class schedules x.state event → HasRecorded event x.source y.source x.wire y.wire → AreLater (event ∷ []) x.ends y.ends
+    Fits setting.class schedules x.state event → HasRecorded event x.source y.source x.wire y.wire → AreLater (event ∷ []) x.ends y.ends
     → y.state ≡ state_by schedules x.state event → y.report ≡ counted_by x.report event
-    → WentClosing class schedules (closes_all_by event) (starts_by schedules x.state event) 1 w r x y
-went_once class schedules event w r x y waits reads fits recorded ends state report = (
+    → IsTold setting.class setting.observer x.report event
+    → WentClosing setting schedules (closes_all_by event) (starts_by schedules x.state event) 1 w r x y
+went_once setting schedules event w r x y waits reads fits recorded ends state report told = (
   event ∷ [],
   record {
     follow = (fits, tt);
@@ -175,6 +186,7 @@ went_once class schedules event w r x y waits reads fits recorded ends state rep
     ends = ends;
     state = state;
     report = report;
+    told = (told, tt);
     closed = omega arith;
     started = append-nil (starts_by schedules x.state event);
     few = omega arith;
@@ -183,12 +195,12 @@ went_once class schedules event w r x y waits reads fits recorded ends state rep
   },
 )
 
-pub went_one : (class : Sorting) (schedules : List Schedule) (event : Event) (x y : World) → Fits class schedules x.state event
+pub went_one : (setting : Setting) (schedules : List Schedule) (event : Event) (x y : World) → Fits setting.class schedules x.state event
     → HasRecorded event x.source y.source x.wire y.wire → AreLater (event ∷ []) x.ends y.ends → y.state ≡ state_by schedules x.state event
-    → y.report ≡ counted_by x.report event
-    → WentClosing class schedules (closes_all_by event) (starts_by schedules x.state event) 1 (waits_by event) (reads_by event) x y
-went_one class schedules event x y fits recorded ends state report =
-    went_once class schedules event (waits_by event) (reads_by event) x y refl (owed event) fits recorded ends state report
+    → y.report ≡ counted_by x.report event → IsTold setting.class setting.observer x.report event
+    → WentClosing setting schedules (closes_all_by event) (starts_by schedules x.state event) 1 (waits_by event) (reads_by event) x y
+went_one setting schedules event x y fits recorded ends state report told =
+    went_once setting schedules event (waits_by event) (reads_by event) x y refl (owed event) fits recorded ends state report told
   where
     owed : (e : Event) → ready_by e + reads_by e ≤ reads_by e + waits_by e
     owed (Begins b m os) = omega arith
@@ -267,20 +279,21 @@ up_to_sent {r} {n} up = (r, (if up.0 == r then up.1 + 1 else 1), ap (sent_on r) 
     by_test false e k = omega arith
 
 -- replies after others
-pub replies_then : {a b c d e f m n : ℕ} {x y z : RoundState → Phase → Heard → World}
-    → Replies a b c d m x y → Replies c d e f n y z → Replies a b e f (m + n) x z
+pub replies_then : {o : Observer} {a b c d e f m n : ℕ} {x y z : RoundState → Phase → Heard → World}
+    → Replies o a b c d m x y → Replies o c d e f n y z → Replies o a b e f (m + n) x z
 replies_then h k class schedules t phase source up =
     let first = h class schedules t phase source up in
     let second = k class schedules t first.0 source first.1 in
     (second.0, second.1, went_then first.2 second.2)
 
-pub replies_more : {a b c d e f m n : ℕ} {x y : RoundState → Phase → Heard → World}
-    → c ≤ e → (c ≡ e → d ≤ f) → m ≤ n → Replies a b c d m x y → Replies a b e f n x y
+pub replies_more : {o : Observer} {a b c d e f m n : ℕ} {x y : RoundState → Phase → Heard → World}
+    → c ≤ e → (c ≡ e → d ≤ f) → m ≤ n → Replies o a b c d m x y → Replies o a b e f n x y
 replies_more le more few h class schedules t phase source up =
     let done = h class schedules t phase source up in
     (done.0, up_to_more le more done.1, went_more few (omega arith) done.2)
 
-pub replies_from : {a b c d e f m : ℕ} {x y : RoundState → Phase → Heard → World} → a ≤ c → (a ≡ c → b ≤ d) → Replies c d e f m x y → Replies a b e f m x y
+pub replies_from : {o : Observer} {a b c d e f m : ℕ} {x y : RoundState → Phase → Heard → World}
+    → a ≤ c → (a ≡ c → b ≤ d) → Replies o c d e f m x y → Replies o a b e f m x y
 replies_from le more h class schedules t phase source up = h class schedules t phase source (up_to_more le more up)
 
 -- if one element of a list of ends changed

@@ -43,19 +43,19 @@ pub record HasRoom (n : Report) (room : ℕ) : Type 0 where
   pub faults : n.faults + room < 2 ^ 64
 
 -- which counts an event makes greater, by one
-record Raised : Type 0 where
-  read : Bool
-  answered : Bool
-  accepted : Bool
-  full : Bool
-  dropped : Bool
-  not_allowed : Bool
-  memory : Bool
-  sent : Bool
-  lost : Bool
-  faults : Bool
+pub record Raised : Type 0 where
+  pub read : Bool
+  pub answered : Bool
+  pub accepted : Bool
+  pub full : Bool
+  pub dropped : Bool
+  pub not_allowed : Bool
+  pub memory : Bool
+  pub sent : Bool
+  pub lost : Bool
+  pub faults : Bool
 
-abbrev none : Raised
+abbrev pub none : Raised
 none = record {
   read = false;
   answered = false;
@@ -69,7 +69,7 @@ none = record {
   faults = false;
 }
 
-abbrev raised_by : Event → Raised
+abbrev pub raised_by : Event → Raised
 raised_by (Begins b m os) = none
 raised_by Waits = none
 raised_by WaitFails = record none { faults = true }
@@ -89,7 +89,7 @@ raised_by (Resends r d Taken) = record none { sent = true }
 raised_by (Resends r d Later) = none
 raised_by (Resends r d Failed) = record none { lost = true; faults = true }
 
-abbrev with_raised : Report → Raised → Report
+abbrev pub with_raised : Report → Raised → Report
 with_raised n b =
     report (one_more_if b.read n.read) (one_more_if b.answered n.answered) (one_more_if b.accepted n.accepted) (one_more_if b.full n.full)
     (one_more_if b.dropped n.dropped) (one_more_if b.not_allowed n.not_allowed) (one_more_if b.memory n.memory)
@@ -100,7 +100,7 @@ raised_alone b =
     report (one_if b.read) (one_if b.answered) (one_if b.accepted) (one_if b.full) (one_if b.dropped) (one_if b.not_allowed)
     (one_if b.memory) (one_if b.sent) (one_if b.lost) (one_if b.faults)
 
-counted_is : (n : Report) (event : Event) → counted_by n event ≡ with_raised n (raised_by event)
+pub counted_is : (n : Report) (event : Event) → counted_by n event ≡ with_raised n (raised_by event)
 counted_is n (Begins b m os) = refl
 counted_is n Waits = refl
 counted_is n WaitFails = refl
@@ -188,11 +188,11 @@ plus_assoc a b c =
     (add_assoc a.memory b.memory c.memory) (add_assoc a.sent b.sent c.sent) (add_assoc a.lost b.lost c.lost) (add_assoc a.faults b.faults c.faults)
 
 -- a reply that is kept raises the count of those that are lost
-abbrev kept_raises : Option Kept → Raised
+abbrev pub kept_raises : Option Kept → Raised
 kept_raises None = none
 kept_raises (Some k) = record none { lost = true }
 
-kept_is : (n : Report) (k : Option Kept) → with_kept n k ≡ with_raised n (kept_raises k)
+pub kept_is : (n : Report) (k : Option Kept) → with_kept n k ≡ with_raised n (kept_raises k)
 kept_is n None = refl
 kept_is n (Some k) = refl
 

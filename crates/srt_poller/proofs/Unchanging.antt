@@ -6,7 +6,8 @@ use Rattle.std.proofs.lemmas.Slice.Eq.{bytes_eq-Decides}
 use Rattle.srt_types.specs.declared.shared.Schedule.{Schedule}
 use Rattle.srt_lobby.specs.Names.{RouteName, as_shown, has_name_at}
 use Rattle.srt_poller.specs.declared.ends.Ends.{Ends}
-use Rattle.srt_poller.specs.History.{Sorting, Phase, Between}
+use Rattle.srt_poller.specs.History.{Phase, Between}
+use Rattle.srt_poller.specs.Told.{Setting}
 use Rattle.srt_poller.specs.Rounds.{World}
 use Rattle.srt_poller.specs.Schedules.{AllDiffer}
 use Rattle.srt_poller.specs.Pollers.{Rounds}
@@ -54,19 +55,19 @@ plans_unchanged round waits starts schedules later names free known plans =
     same_lists later schedules (plans.as_many ∙ length-map names (λ (n : RouteName). n.text) ∙ sym known) (λ r t s there here.
     became_same round (waits r) starts r s t (free r s.open_round) (rw here at (plans.each r t there)))
 
-module _ {goes closes : Type 0} (class : Sorting) (rounds : ℕ) (schedules : List Schedule) (names : List RouteName) (ends : List Ends)
+module _ {goes closes : Type 0} (setting : Setting) (rounds : ℕ) (schedules : List Schedule) (names : List RouteName) (ends : List Ends)
     (old : List RouteName → List Ends → Phase → World) (new : Phase → World) (named : (ns : List RouteName) (es : List Ends) (phase : Phase) →
     (old ns es phase).state.names ≡ ns) (differ : AllDiffer names) (known : length schedules ≡ length names) where
   unchanged_with : (added : List NewRoute) (requested : List ℕ) (later : List Schedule) (starts : List RoundStart) →
-      RoundsWith goes closes class 0 rounds schedules no_reports no_reports names ends old new added requested later starts →
-      Rounds goes closes class schedules starts rounds (length ends) (old names ends) new
+      RoundsWith goes closes setting 0 rounds schedules no_reports no_reports names ends old new added requested later starts →
+      Rounds goes closes setting schedules starts rounds (length ends) (old names ends) new
   unchanged_with (n ∷ added) requested later starts h =
       let bad : Some [] ≡ Some (reported_route n ∷ map reported_route added) = ap (λ (r : RouteReports). r.added) h.reports in cc
   unchanged_with [] (r ∷ requested) later starts h =
       let bad : Some [] ≡ Some (r ∷ requested) = ap (λ (r : RouteReports). r.requested) h.reports in cc
   unchanged_with [] [] later starts h =
       let none : length ends + 0 ≡ length ends = omega arith in
-      let went : Rounds goes closes class later starts rounds (length ends) (old names ends) new = rw (append-nil names, append-nil ends, none) at h.went in
+      let went : Rounds goes closes setting later starts rounds (length ends) (old names ends) new = rw (append-nil names, append-nil ends, none) at h.went in
       let one = went Between tt in
       let first = (old names ends Between).state in
       let alone : (r : ℕ) → IsAlone (texts_of first.names) r =
@@ -78,6 +79,6 @@ module _ {goes closes : Type 0} (class : Sorting) (rounds : ℕ) (schedules : Li
       rw same at went
 
   -- what was made is what the schedules state
-  pub rounds_unchanged : (made : RoundsChanging goes closes class 0 rounds schedules no_reports no_reports names ends old new) →
-      Rounds goes closes class schedules made.3 rounds (length ends) (old names ends) new
+  pub rounds_unchanged : (made : RoundsChanging goes closes setting 0 rounds schedules no_reports no_reports names ends old new) →
+      Rounds goes closes setting schedules made.3 rounds (length ends) (old names ends) new
   rounds_unchanged made = unchanged_with made.0 made.1 made.2 made.3 made.4

@@ -11,6 +11,7 @@ use Rattle.srt_poller.specs.Plans.{may_open}
 use Rattle.srt_poller.specs.History.{Sorting, Phase, IsOver, Begins}
 use Rattle.srt_poller.specs.Pollers.{round_state, begun_phase, world_of}
 use Rattle.srt_poller.specs.Rounds.{AreLater, WentClosing}
+use Rattle.srt_poller.specs.Told.{Observer, setting_of}
 
 -- the names as if all routes became visible
 abbrev pub all_shown : List RouteName → List RouteName
@@ -51,9 +52,10 @@ AreClosed closes_all moment round schedules old new before after =
     (offers : List CloseOffer) × ClosedBy closes_all moment round schedules offers old new before after
 
 -- the round began, the one before being over
-abbrev pub Began : (closes_all : Bool) (round latest : ℕ) → List Schedule → (old new : List RouteName) → (before after : List Ends) → Type 0
-Began closes_all round latest schedules old new before after =
-    (class : Sorting) (source : Heard) (wire : Carried) (p : Poller) (phase : Phase) → IsOver phase →
-    WentClosing class schedules (if closes_all then 1 else 0) (round_start round closes_all (opened_if closes_all round schedules old) ∷ []) 1 0 0
+abbrev pub Began : Observer → (closes_all : Bool) (round latest : ℕ) → List Schedule → (old new : List RouteName) → (before after : List Ends) → Type 0
+Began observer closes_all round latest schedules old new before after =
+    (class : Sorting) (source : Heard) (wire : Carried) (p : Poller) (phase : Phase) → IsOver phase → observer.counts p.report →
+    WentClosing (setting_of class observer) schedules (if closes_all then 1 else 0)
+    (round_start round closes_all (opened_if closes_all round schedules old) ∷ []) 1 0 0
     (world_of source wire before (round_state old round latest) phase p)
     (world_of source wire after (round_state new round latest) (begun_phase p) p)

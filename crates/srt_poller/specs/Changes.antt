@@ -10,6 +10,8 @@ use Rattle.srt_poller.specs.Devices.{joined}
 use Rattle.srt_poller.specs.Schedules.{opened, opened_if}
 use Rattle.srt_poller.specs.History.{Sorting, Phase, at_first}
 use Rattle.srt_poller.specs.Rounds.{World}
+use Rattle.srt_poller.specs.Reports.{nothing}
+use Rattle.srt_poller.specs.Told.{Observer, Setting, AreTold}
 use Rattle.srt_poller.specs.Pollers.{Rounds, RoundState, RoundMade}
 use Rattle.srt_poller.specs.Beginnings.{all_shown, AreClosed, Began}
 use Rattle.srt_poller.specs.Beforehand.{AgreeBefore}
@@ -86,17 +88,17 @@ Started closes_all round due latest plans plans' names names' ends ends' =
     ⊎ ((shown : List RouteName) × Opens round plans plans' names shown × AreClosed false latest round plans' shown names' ends ends')))
 
 -- a round began with these plans, after its changes, and was made to its end
-abbrev pub RoundWent : Sorting → (closes_all : Bool) → (round due : ℕ) → (plans plans' : List Schedule) → (names names' : List RouteName) →
+abbrev pub RoundWent : Setting → (closes_all : Bool) → (round due : ℕ) → (plans plans' : List Schedule) → (names names' : List RouteName) →
     (ends : List Ends) → (begun : Phase) → (old : List Ends → RoundState → Phase → World) → (new : RoundState → Phase → World) → (before after : ℕ) → Type 0
-RoundWent class closes_all round due plans plans' names names' ends begun old new before after =
+RoundWent setting closes_all round due plans plans' names names' ends begun old new before after =
     (middle : List Ends) × Started closes_all round due before plans plans' names names' ends middle
-    × RoundMade class names' (length middle) begun (old middle) new before after
+    × RoundMade setting names' (length middle) begun (old middle) new before after
 
 -- this round began, after these routes were added and these were requested to close
-pub record BeganWith (closes_all : Bool) (round latest : ℕ) (added : List NewRoute) (requested : List ℕ) (plans plans' : List Schedule)
+pub record BeganWith (observer : Observer) (closes_all : Bool) (round latest : ℕ) (added : List NewRoute) (requested : List ℕ) (plans plans' : List Schedule)
     (names names' : List RouteName) (ends ends' : List Ends) : Type 0 where
   pub agree : AgreeBefore round plans plans' (names_in added)
-  pub began : Began closes_all round latest plans' (names ++ names_in added) names' (ends ++ ends_in added) ends'
+  pub began : Began observer closes_all round latest plans' (names ++ names_in added) names' (ends ++ ends_in added) ends'
   pub texts : all_shown names' ≡ all_shown (names ++ names_in added)
   pub planned : (starts : List RoundStart) (schedules : List Schedule) (before : List ℕ) → AreTimely schedules
       → ArePlans round (λ r. ⊥) starts schedules (texts_of names) before plans
@@ -106,29 +108,29 @@ pub record BeganWith (closes_all : Bool) (round latest : ℕ) (added : List NewR
   pub all_ends : length ends' ≡ length names'
 
 -- the same, and that is what openings reported
-abbrev pub BeganAfter : (closes_all : Bool) (round latest : ℕ) → (reported reported' : RouteReports) → (plans plans' : List Schedule) →
+abbrev pub BeganAfter : Observer → (closes_all : Bool) (round latest : ℕ) → (reported reported' : RouteReports) → (plans plans' : List Schedule) →
     (names names' : List RouteName) →
     (ends ends' : List Ends) → Type 0
-BeganAfter closes_all round latest reported reported' plans plans' names names' ends ends' =
+BeganAfter observer closes_all round latest reported reported' plans plans' names names' ends ends' =
     (added : List NewRoute) × (requested : List ℕ) × (reported' ≡ route_reports_more reported added requested)
-    × BeganWith closes_all round latest added requested plans plans' names names' ends ends'
+    × BeganWith observer closes_all round latest added requested plans plans' names names' ends ends'
 
 -- Rounds were made, the first of which has this number, after these routes were added and these were requested to close: as if that had been written down
 -- in advance, as `later` states; the rounds started so
-pub record RoundsWith (goes closes : Type 0) (class : Sorting) (first rounds : ℕ) (schedules : List Schedule) (reported reported' : RouteReports)
+pub record RoundsWith (goes closes : Type 0) (setting : Setting) (first rounds : ℕ) (schedules : List Schedule) (reported reported' : RouteReports)
     (names : List RouteName)
     (ends : List Ends) (old : List RouteName → List Ends → Phase → World) (new : Phase → World) (added : List NewRoute) (requested : List ℕ)
     (later : List Schedule) (starts : List RoundStart) : Type 0 where
   pub reports : reported' ≡ route_reports_more reported added requested
   pub planned : ArePlans (first + rounds) (λ r. ⊥) starts schedules (texts_of (names ++ names_in added)) requested later
-  pub went : Rounds goes closes class later starts rounds (length ends + length added) (old (names ++ names_in added) (ends ++ ends_in added)) new
+  pub went : Rounds goes closes setting later starts rounds (length ends + length added) (old (names ++ names_in added) (ends ++ ends_in added)) new
 
-abbrev pub RoundsChanging : (goes closes : Type 0) → Sorting → (first rounds : ℕ) → List Schedule → (reported reported' : RouteReports) → List RouteName →
+abbrev pub RoundsChanging : (goes closes : Type 0) → Setting → (first rounds : ℕ) → List Schedule → (reported reported' : RouteReports) → List RouteName →
     List Ends →
     (old : List RouteName → List Ends → Phase → World) → (new : Phase → World) → Type 0
-RoundsChanging goes closes class first rounds schedules reported reported' names ends old new =
+RoundsChanging goes closes setting first rounds schedules reported reported' names ends old new =
     (added : List NewRoute) × (requested : List ℕ) × (later : List Schedule) × (starts : List RoundStart)
-    × RoundsWith goes closes class first rounds schedules reported reported' names ends old new added requested later starts
+    × RoundsWith goes closes setting first rounds schedules reported reported' names ends old new added requested later starts
 
 -- the same, had these routes been there from the beginning on, hidden, after the others
 abbrev pub with_routes : List NewRoute → Before → Before
@@ -150,3 +152,9 @@ abbrev pub PumpedChanging : (goes closes : Type 0) → Sorting → List Schedule
 PumpedChanging goes closes class schedules rounds reported reported' old new =
     (added : List NewRoute) × (requested : List ℕ) × (later : List Schedule)
     × ChangedBy goes closes class schedules rounds reported reported' old new added requested later
+
+-- the same, and its observer was told of each event
+abbrev pub ToldChanging : (goes closes : Type 0) → Sorting → Observer → List Schedule → (rounds : ℕ) → (reported reported' : RouteReports) → Before → After →
+    Type 0
+ToldChanging goes closes class observer schedules rounds reported reported' old new =
+    (changed : PumpedChanging goes closes class schedules rounds reported reported' old new) × AreTold class observer nothing changed.3.pumped.0

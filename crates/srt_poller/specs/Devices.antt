@@ -27,6 +27,12 @@ ReadsWell (Datagram peer len moment) a b = (len ≤ 2048) × (moment < 2 ^ 62)
 ReadsWell Empty a b = Unit {0}
 ReadsWell Failed a b = Grew a b
 
+-- this is known of the time of the datagram that a read returned, if any
+abbrev pub IsTimed : (known : ℕ → Type 0) → Read → Type 0
+IsTimed known (Datagram peer len moment) = known moment
+IsTimed known Empty = Unit {0}
+IsTimed known Failed = Unit {0}
+
 -- the datagram that a read returned, if any: it is at the front of the buffer
 abbrev pub given_by_read : Read → (buffer : List ℕ) → List Arrival
 given_by_read (Datagram peer len moment) buffer = arrival peer (take len buffer) moment ∷ []

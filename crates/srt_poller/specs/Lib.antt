@@ -7,6 +7,7 @@ pub mod Starts
 pub mod History
 pub mod Reports
 pub mod Tallies
+pub mod Told
 pub mod Rounds
 pub mod Buffers
 pub mod Pollers
@@ -14,5 +15,6 @@ pub mod Beginnings
 pub mod Pumped
 pub mod Notes
 pub mod Scripts
+pub mod Sockets
 pub mod Beforehand
 pub mod Changes

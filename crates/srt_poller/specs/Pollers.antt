@@ -23,13 +23,18 @@ use Rattle.srt_poller.specs.Devices.{Arrival, arrival, Heard, heard_more, Carrie
 use Rattle.srt_poller.specs.History.{Sorting, Kept, kept, Phase, Begun, Reading, Sending, IsOver, reading, state}
 use Rattle.srt_poller.specs.Rounds.{World, world, WentClosing, Went}
 use Rattle.srt_poller.specs.Starts.{RoundStart}
+use Rattle.srt_poller.specs.Told.{Observer, Setting, setting_of}
 
 -- the classes that the lobby of this secret assigns to datagrams
 abbrev pub sorting : Secret → Sorting
 sorting secret = class_of (secret_bytes secret)
 
-abbrev pub sorted_by : Classifier → Sorting
-sorted_by lobby = sorting lobby.secret.now
+-- events are judged by these classes, and by what is known of this observer
+abbrev pub lobby_setting : Secret → Observer → Setting
+lobby_setting secret observer = setting_of (sorting secret) observer
+
+abbrev pub setting_in : Classifier → Observer → Setting
+setting_in lobby observer = lobby_setting lobby.secret.now observer
 
 -- the names of the routes, in the order of their indexes
 abbrev pub named_in : Classifier → List RouteName
@@ -73,36 +78,37 @@ abbrev pub listening : Heard → Carried → List Ends → Poller → RoundState
 listening source wire ends p t phase = world_of source wire ends t phase p
 
 -- the source waited once, a read is owed, and it is read next
-abbrev pub Waited : (old new : RoundState → Phase → Carried → List Ends → World) → Type 0
-Waited old new =
+abbrev pub Waited : Observer → (old new : RoundState → Phase → Carried → List Ends → World) → Type 0
+Waited observer old new =
     (class : Sorting) (schedules : List Schedule) (names : List RouteName) (round latest : ℕ) (wire : Carried) (ends : List Ends) →
-    Went class schedules 1 1 0 (old (round_state names round latest) (Begun false) wire ends) (new (round_state names (suc round) latest) (Reading 0) wire ends)
+    Went (setting_of class observer) schedules 1 1 0 (old (round_state names round latest) (Begun false) wire ends)
+    (new (round_state names (suc round) latest) (Reading 0) wire ends)
 
 -- the source waited once, and the wait failed: nothing is read in this round
-abbrev pub WaitFailed : (old new : RoundState → Phase → Carried → List Ends → World) → Type 0
-WaitFailed old new =
+abbrev pub WaitFailed : Observer → (old new : RoundState → Phase → Carried → List Ends → World) → Type 0
+WaitFailed observer old new =
     (class : Sorting) (schedules : List Schedule) (names : List RouteName) (round latest : ℕ) (wire : Carried) (ends : List Ends) →
-    Went class schedules 1 1 1 (old (round_state names round latest) (Begun false) wire ends)
+    Went (setting_of class observer) schedules 1 1 1 (old (round_state names round latest) (Begun false) wire ends)
     (new (round_state names (suc round) latest) (Sending 0 0) wire ends)
 
 -- this datagram was read with these names in force, as the first of a round or a later one, and what happened to it is what its class defines
-abbrev pub Arrived : Sorting → List RouteName → Arrival → (old new : RoundState → Phase → Heard → World) → Type 0
-Arrived class names a old new =
+abbrev pub Arrived : Setting → List RouteName → Arrival → (old new : RoundState → Phase → Heard → World) → Type 0
+Arrived setting names a old new =
     (schedules : List Schedule) (round latest reads : ℕ) (source : Heard) →
-    Went class schedules 1 0 1 (old (round_state names round latest) (Reading reads) source)
+    Went setting schedules 1 0 1 (old (round_state names round latest) (Reading reads) source)
     (new (round_state names round (max latest a.moment)) (reading (reads + 1)) (heard_more source (a ∷ []) (ReadGave a)))
 
 -- a round waited and read with these names in force, with at most this many events
-abbrev pub Listened : Sorting → List RouteName → (most : ℕ) → (old new : RoundState → Phase → World) → (before after : ℕ) → Type 0
-Listened class names most old new before after =
+abbrev pub Listened : Setting → List RouteName → (most : ℕ) → (old new : RoundState → Phase → World) → (before after : ℕ) → Type 0
+Listened setting names most old new before after =
     (schedules : List Schedule) (round : ℕ)
-    → Went class schedules most 1 1 (old (round_state names round before) (Begun false)) (new (round_state names (suc round) after) (Sending 0 0))
+    → Went setting schedules most 1 1 (old (round_state names round before) (Begun false)) (new (round_state names (suc round) after) (Sending 0 0))
 
 -- the kept reply, if there was one, was sent again
-abbrev pub Resent : (owes : Phase) → (old new : RoundState → Phase → Heard → World) → Type 0
-Resent owes old new =
+abbrev pub Resent : Observer → (owes : Phase) → (old new : RoundState → Phase → Heard → World) → Type 0
+Resent observer owes old new =
     (class : Sorting) (schedules : List Schedule) (t : RoundState) (source : Heard) →
-    Went class schedules 1 0 0 (old t owes source) (new t (Begun false) source)
+    Went (setting_of class observer) schedules 1 0 0 (old t owes source) (new t (Begun false) source)
 
 -- nothing is read any more in this round, at most this many replies of this route were sent in it, and none of later routes
 abbrev pub IsUpTo : (route sends : ℕ) → Phase → Type 0
@@ -110,24 +116,24 @@ IsUpTo r n phase = (route : ℕ) × (sends : ℕ) × (phase ≡ Sending route se
 
 -- Replies were sent, with at most this many events, none of them a wait or a datagram that arrived. Before, at most `few` of route `first` and none of
 -- later routes had been sent in this round; afterwards at most `many` of route `last` and none of later ones
-abbrev pub Replies : (first few last many most : ℕ) → (old new : RoundState → Phase → Heard → World) → Type 0
-Replies first few last many most old new =
+abbrev pub Replies : Observer → (first few last many most : ℕ) → (old new : RoundState → Phase → Heard → World) → Type 0
+Replies observer first few last many most old new =
     (class : Sorting) (schedules : List Schedule) (t : RoundState) (phase : Phase) (source : Heard) → IsUpTo first few phase →
-    (next : Phase) × IsUpTo last many next × Went class schedules most 0 0 (old t phase source) (new t next source)
+    (next : Phase) × IsUpTo last many next × Went (setting_of class observer) schedules most 0 0 (old t phase source) (new t next source)
 
 -- A round that had begun with these names in force, of a poller with this many routes, was made to its end
-abbrev pub RoundMade : Sorting → List RouteName → (routes : ℕ) → (begun : Phase) → (old new : RoundState → Phase → World) → (before after : ℕ) → Type 0
-RoundMade class names routes begun old new before after =
+abbrev pub RoundMade : Setting → List RouteName → (routes : ℕ) → (begun : Phase) → (old new : RoundState → Phase → World) → (before after : ℕ) → Type 0
+RoundMade setting names routes begun old new before after =
     (schedules : List Schedule) (round : ℕ) →
     (next : Phase) × IsOver next
-    × Went class schedules (258 + 64 * routes) 1 1 (old (round_state names round before) begun) (new (round_state names (suc round) after) next)
+    × Went setting schedules (258 + 64 * routes) 1 1 (old (round_state names round before) begun) (new (round_state names (suc round) after) next)
 
 -- This many rounds were made of a poller with this many routes, the last of which may end here. They started so. Rounds that close all began only if `closes`
 -- is known, and others only if `goes` is
-abbrev pub Rounds : (goes closes : Type 0) → Sorting → List Schedule → (starts : List RoundStart) → (rounds routes : ℕ) → (old new : Phase → World) → Type 0
-Rounds goes closes class schedules starts rounds routes old new =
+abbrev pub Rounds : (goes closes : Type 0) → Setting → List Schedule → (starts : List RoundStart) → (rounds routes : ℕ) → (old new : Phase → World) → Type 0
+Rounds goes closes setting schedules starts rounds routes old new =
     (phase : Phase) → IsOver phase → (next : Phase) × IsOver next × (closing : ℕ) × ((closing ≡ rounds) ⊎ goes) × ((closing ≡ 0) ⊎ closes) ×
-    WentClosing class schedules closing starts (rounds * (259 + 64 * routes)) rounds rounds (old phase) (new next)
+    WentClosing setting schedules closing starts (rounds * (259 + 64 * routes)) rounds rounds (old phase) (new next)
 
 -- the inbox was full at some time, with these items of the poller's accepted
 abbrev pub WasFull : Producer → Type 0
@@ -138,13 +144,13 @@ abbrev pub IsOf : Producer → FoundFull → Type 0
 IsOf p full = (full.queue ≡ p.queue) × (full.polled ≡ p.offered)
 
 -- the poller's end before and after an offer of an arrival: the item is in the inbox; or nothing changed, and the inbox was full, or a copy of the
--- bytes after the first 16 allocates. No clause states that the allocation was tried and failed
+-- bytes after the first 16 allocates. That it was refused, the type of the evidence says
 abbrev pub OfferedAs : Offered → Arrival → Buffers → (body : List ℕ) → Producer → Producer → Type 0
 OfferedAs Accepted a buffers body old new =
     (new.queue ≡ old.queue) × (new.capacity ≡ old.capacity) ×
     (map input_of new.offered ≡ map input_of old.offered ++ Received a.datagram a.moment ∷ [])
 OfferedAs (Full full) a buffers body old new = (new ≡ old) × WasFull old × IsOf old full
-OfferedAs Refused a buffers body old new = (new ≡ old) × Allocates buffers body
+OfferedAs (Refused refused) a buffers body old new = (new ≡ old) × Allocates buffers body
 
 -- the same of an offer of Close: it is in the inbox; or nothing changed, and the inbox was full
 abbrev pub ClosedAs : (is_accepted : Bool) → (moment : ℕ) → Producer → Producer → Type 0

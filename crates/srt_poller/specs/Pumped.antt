@@ -10,6 +10,7 @@ use Rattle.srt_poller.specs.History.{datagrams, attempts, of_lobby, of_route, an
 use Rattle.srt_poller.specs.History.{reads_in}
 use Rattle.srt_poller.specs.Reports.{nothing, counted, with_kept, total}
 use Rattle.srt_poller.specs.Tallies.{TalliesWith}
+use Rattle.srt_poller.specs.Told.{Observer, AreTold}
 use Rattle.srt_poller.specs.Rounds.{AreLater}
 
 -- Of the datagrams that were sent, those of the lobby are its answers whose send didn't return Later. Those of a route, followed by the
@@ -70,6 +71,11 @@ pub record PumpedBy (goes closes : Type 0) (class : Sorting) (schedules : List S
 -- some events happened, and this is what they did
 abbrev pub PumpedUnder : (goes closes : Type 0) → Sorting → List Schedule → (rounds : ℕ) → Before → After → Type 0
 PumpedUnder goes closes class schedules rounds before after = (events : List Event) × PumpedBy goes closes class schedules rounds before after events
+
+-- the same, and its observer was told of each event
+abbrev pub ToldUnder : (goes closes : Type 0) → Sorting → Observer → List Schedule → (rounds : ℕ) → Before → After → Type 0
+ToldUnder goes closes class observer schedules rounds before after =
+    (pumped : PumpedUnder goes closes class schedules rounds before after) × AreTold class observer nothing pumped.0
 
 -- the same, and no round closed all
 abbrev pub Pumped : Sorting → List Schedule → (rounds : ℕ) → Before → After → Type 0

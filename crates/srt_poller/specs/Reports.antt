@@ -1,5 +1,5 @@
 -- The counts of a report.
-use Rattle.std.specs.Prelude.{ℕ, ◌+◌, ◌-◌, ◌^◌, min, Bool, true, false, Option, None, Some, List, [], ◌∷◌}
+use Rattle.std.specs.Prelude.{ℕ, ◌+◌, ◌-◌, ◌^◌, ◌≤◌, min, Bool, true, false, Option, None, Some, List, [], ◌∷◌, ◌++◌}
 use Rattle.std.specs.List.{fold}
 use Rattle.srt_lobby.specs.declared.classes.Cause.{Cause}
 use Rattle.srt_lobby.specs.declared.classes.Cause.TheVariants as causes
@@ -128,3 +128,22 @@ abbrev pub total : List Event → Option Kept → Report
 total [] None = nothing
 total [] (Some k) = record nothing { lost = 1 }
 total (event ∷ events) k = plus (part event) (total events k)
+
+-- no count of the first report is above that of the second
+pub record CountsGrow (old new : Report) : Type 0 where
+  pub read : old.read ≤ new.read
+  pub answered : old.answered ≤ new.answered
+  pub accepted : old.accepted ≤ new.accepted
+  pub full : old.full ≤ new.full
+  pub dropped : old.dropped ≤ new.dropped
+  pub not_allowed : old.not_allowed ≤ new.not_allowed
+  pub memory : old.memory ≤ new.memory
+  pub sent : old.sent ≤ new.sent
+  pub lost : old.lost ≤ new.lost
+  pub faults : old.faults ≤ new.faults
+
+-- of one run, no count at a time is above that at a later one, nor above that at the end, where a kept reply counts as lost
+abbrev pub CountsOnlyGrow : Type 0
+CountsOnlyGrow =
+    (events more : List Event) (k : Option Kept) → let last = counted nothing (events ++ more) in
+    CountsGrow (counted nothing events) last × CountsGrow last (with_kept last k)

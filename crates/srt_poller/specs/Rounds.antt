@@ -6,9 +6,10 @@ use Rattle.srt_route.specs.Written.{written}
 use Rattle.srt_poller.specs.declared.ends.Ends.{Ends}
 use Rattle.srt_supervision.specs.declared.report.Report.{Report}
 use Rattle.srt_poller.specs.Devices.{Heard, Carried, joined}
-use Rattle.srt_poller.specs.History.{Sorting, Event, State, Follow, state_after, given, calls, handed, datagrams, attempts, accepted}
+use Rattle.srt_poller.specs.History.{Event, State, Follow, state_after, given, calls, handed, datagrams, attempts, accepted}
 use Rattle.srt_poller.specs.History.{drained, closes_all_in, waits_in, ready_in, reads_in}
 use Rattle.srt_poller.specs.Reports.{counted}
+use Rattle.srt_poller.specs.Told.{Setting, AreTold}
 use Rattle.srt_poller.specs.Starts.{RoundStart, starts_in}
 
 -- what the source and the wire have recorded, the ends of all routes, what the next event depends on, and the report
@@ -38,10 +39,11 @@ pub record AreLater (events : List Event) (old new : List Ends) : Type 0 where
   pub others : (r : ℕ) → length old ≤ r → (accepted r events ≡ []) × (drained r events ≡ [])
 
 -- These events lead from the old world to the new one. They are at most `most`, `waits` of them are waits, `closing` of them begin a round
--- that closes all, and the rounds that began started so. The number of reads plus `waits` is at least the number of waits without a failure plus `reads`
-pub record Happened (class : Sorting) (schedules : List Schedule) (closing : ℕ) (starts : List RoundStart) (most waits reads : ℕ) (events : List Event)
+-- that closes all, the rounds that began started so, and the observer was told of each event.
+-- The number of reads plus `waits` is at least the number of waits without a failure plus `reads`
+pub record Happened (setting : Setting) (schedules : List Schedule) (closing : ℕ) (starts : List RoundStart) (most waits reads : ℕ) (events : List Event)
     (old new : World) : Type 0 where
-  pub follow : Follow class schedules old.state events
+  pub follow : Follow setting.class schedules old.state events
   pub gave : new.source.gave ≡ joined old.source.gave (given events)
   pub called : new.source.calls ≡ joined old.source.calls (calls events)
   pub handed : new.wire.handed ≡ joined old.wire.handed (datagrams (handed events))
@@ -49,6 +51,7 @@ pub record Happened (class : Sorting) (schedules : List Schedule) (closing : ℕ
   pub ends : AreLater events old.ends new.ends
   pub state : new.state ≡ state_after schedules old.state events
   pub report : new.report ≡ counted old.report events
+  pub told : AreTold setting.class setting.observer old.report events
   pub closed : closes_all_in events ≡ closing
   pub started : starts_in schedules old.state events ≡ starts
   pub few : length events ≤ most
@@ -56,10 +59,10 @@ pub record Happened (class : Sorting) (schedules : List Schedule) (closing : ℕ
   pub was_read : ready_in events + reads ≤ reads_in events + waits
 
 -- some events lead from the old world to the new one; rounds that began started so, and this many of them close all
-abbrev pub WentClosing : Sorting → List Schedule → (closing : ℕ) → (starts : List RoundStart) → (most waits reads : ℕ) → World → World → Type 0
-WentClosing class schedules closing starts most waits reads old new =
-    (events : List Event) × Happened class schedules closing starts most waits reads events old new
+abbrev pub WentClosing : Setting → List Schedule → (closing : ℕ) → (starts : List RoundStart) → (most waits reads : ℕ) → World → World → Type 0
+WentClosing setting schedules closing starts most waits reads old new =
+    (events : List Event) × Happened setting schedules closing starts most waits reads events old new
 
 -- the same, and no round began
-abbrev pub Went : Sorting → List Schedule → (most waits reads : ℕ) → World → World → Type 0
-Went class schedules most waits reads old new = WentClosing class schedules 0 [] most waits reads old new
+abbrev pub Went : Setting → List Schedule → (most waits reads : ℕ) → World → World → Type 0
+Went setting schedules most waits reads old new = WentClosing setting schedules 0 [] most waits reads old new

@@ -1,9 +1,10 @@
 //! The buffers of datagrams that routes have processed, which return with replies. They are filled again, so that the copies
 //! of a steady stream seldom allocate: what one thread allocates and another one frees costs both a lock.
 
-ghost use Rattle.std.specs.Prelude.{◌≡◌, IfSome, IfNone};
+ghost use Rattle.std.specs.Prelude.{◌≡◌, IfOk, OnErr};
 ghost use Rattle.srt_poller.specs.Buffers.{Allocates};
 
+use crate::memory::{MemoryRefused, append, buffer_with_room};
 use crate::tuning::SPARE_BUFFERS;
 use arrayvec::ArrayVec;
 use srt_mailbox::BUFFER_ROOM;
@@ -33,22 +34,22 @@ impl Buffers {
     }
 
     /// Returns a copy of these bytes. Allocates if there are any and no buffer is kept, or the one that was kept last has
-    /// less room; `None` if the allocation failed. A new buffer has room for any packet's bytes, so that it can be filled
-    /// again.
+    /// less room; an error is evidence that this was refused. A new buffer has room for any packet's bytes, so that it can be
+    /// filled again.
     #[inline(always)]
-    pub(crate) fn copy_of(&mut self, alloc: Global, bytes: &[u8]) -> Option<Vec<u8>>
-        ensures copied { IfSome result (λ buffer. buffer.items ≡ bytes.now) }
-        ensures refused { IfNone result (Allocates self.old bytes.now) }
+    pub(crate) fn copy_of(&mut self, alloc: Global, bytes: &[u8]) -> Result<Vec<u8>, MemoryRefused>
+        ensures copied { IfOk result (λ buffer. buffer.items ≡ bytes.now) }
+        ensures refused { OnErr result (Allocates self.old bytes.now) }
     {
         if bytes.is_empty() {
-            return Some(Vec::new(alloc));
+            return Ok(Vec::new(alloc));
         }
         let mut buffer = match self.kept.pop() {
             Some(buffer) => buffer,
-            None => Vec::with_capacity(alloc, BUFFER_ROOM).ok()?,
+            None => buffer_with_room(alloc, BUFFER_ROOM)?,
         };
         buffer.clear();
-        buffer.extend_from_slice(bytes).ok()?;
-        Some(buffer)
+        append(&mut buffer, bytes)?;
+        Ok(buffer)
     }
 }

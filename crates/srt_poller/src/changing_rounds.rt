@@ -7,7 +7,7 @@ ghost use Rattle.srt_poller.specs.Pollers.{sorting};
 ghost use Rattle.srt_poller.specs.Devices.{heard, carried};
 ghost use Rattle.srt_poller.specs.Pumped.{before, after};
 ghost use Rattle.srt_poller.specs.Openings.{route_reports};
-ghost use Rattle.srt_poller.specs.Changes.{PumpedChanging};
+ghost use Rattle.srt_poller.specs.Changes.{PumpedChanging, ToldChanging};
 
 use crate::context::PollerTask;
 use crate::devices::{Source, Wire};
@@ -45,6 +45,12 @@ pub fn pump_changing<R: Wait, S: Source, W: Wire, G: Signals, O: Openings>(
     requires few { task.now.rounds ≤ 2 ^ 48 }
     ensures pumped { PumpedChanging (G.goes task.now.signals.now) (G.closes task.now.signals.now) (sorting task.now.secret.now) task.now.schedules.now
         result.rounds
+        (route_reports (O.added openings.old) (O.requested openings.old)) (route_reports (O.added openings.new) (O.requested openings.new))
+        (before (names_of names.old) (heard (S.gave source.old) (S.calls source.old)) (carried (W.handed wire.old) (W.attempts wire.old)) ends.old.items)
+        (after (names_of names.new) (heard (S.gave source.new) (S.calls source.new)) (carried (W.handed wire.new) (W.attempts wire.new))
+        ends.new.items result.report) }
+    ensures told { ToldChanging (G.goes task.now.signals.now) (G.closes task.now.signals.now) (sorting task.now.secret.now) (G.knows task.now.signals.now)
+        task.now.schedules.now result.rounds
         (route_reports (O.added openings.old) (O.requested openings.old)) (route_reports (O.added openings.new) (O.requested openings.new))
         (before (names_of names.old) (heard (S.gave source.old) (S.calls source.old)) (carried (W.handed wire.old) (W.attempts wire.old)) ends.old.items)
         (after (names_of names.new) (heard (S.gave source.new) (S.calls source.new)) (carried (W.handed wire.new) (W.attempts wire.new))

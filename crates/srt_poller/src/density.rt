@@ -1,7 +1,7 @@
 //! How densely datagrams arrive.
 
 ghost use Rattle.std.specs.Prelude.{◌≡◌};
-ghost use Rattle.srt_poller.specs.inside.Pauses.{counted};
+ghost use Rattle.srt_poller.specs.inside.Pauses.{none_counted, counted};
 
 use crate::tuning::TOO_DENSE;
 
@@ -22,7 +22,7 @@ pub(crate) struct Density {
 impl Density {
     /// No datagram has arrived yet.
     pub(crate) fn new() -> Density
-        ensures { result.last ≡ 0 }
+        ensures { result ≡ none_counted }
     {
         Density {
             began: 0,

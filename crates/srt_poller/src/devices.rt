@@ -104,9 +104,13 @@ pub trait Wire {
 
 /// A clock.
 pub trait Clock {
-    ghost use Rattle.std.specs.Prelude.{◌<◌, ◌^◌};
+    ghost use Rattle.std.specs.Prelude.{ℕ, ◌<◌, ◌^◌};
+
+    /// What is known of a time that it returned, of itself before and after. By default nothing.
+    ghost returned: { Self → Self → (moment : ℕ) → Type 0 } = { λ _ _ _. Unit {0} };
 
     /// The time now, in microseconds, below 2^62.
     fn next(&mut self) -> u64
-        ensures { result < 2 ^ 62 };
+        ensures limit { result < 2 ^ 62 }
+        ensures returned { returned self.old self.new result };
 }

@@ -5,6 +5,7 @@ ghost use Rattle.std.specs.Prelude.{◌≡◌, ◌<◌, ◌≤◌, ◌^◌, true
 use crate::buffers::Buffers;
 use crate::context::RoundContext;
 use crate::latest::Latest;
+use crate::memory::MemoryRefused;
 use srt_mailbox::{Drain, InboxFull, Ingress};
 use srt_types::{Item, Peer};
 use std::sync::Wait;
@@ -25,8 +26,8 @@ pub(crate) enum Offered {
     Accepted,
     /// The inbox was full, by this evidence; the datagram is lost.
     Full(InboxFull),
-    /// The allocation of its copy failed; the datagram is lost.
-    Refused,
+    /// The allocation of its copy was refused, by this evidence; the datagram is lost.
+    Refused(MemoryRefused),
 }
 
 impl Ends {
@@ -51,8 +52,9 @@ impl Ends {
     {
         let mut head = [0; 16];
         head.copy_from_slice(&bytes[..16]);
-        let Some(body) = buffers.copy_of(context.alloc, &bytes[16..]) else {
-            return Offered::Refused;
+        let body = match buffers.copy_of(context.alloc, &bytes[16..]) {
+            Ok(body) => body,
+            Err(refused) => return Offered::Refused(refused),
         };
         match self
             .ingress

@@ -58,13 +58,15 @@ pub trait Openings {
 pub struct Unchanged;
 
 impl Openings for Unchanged {
-    ghost use Rattle.std.specs.Prelude.{Some, []};
+    ghost use Rattle.std.specs.Prelude.{Some, [], false};
 
     ghost added = { λ o. Some [] };
 
     ghost requested = { λ o. Some [] };
 
-    fn has_changes(&self) -> bool {
+    fn has_changes(&self) -> bool
+        ensures { result ≡ false }
+    {
         false
     }
 

@@ -1,7 +1,7 @@
 //! How a socket's source waits.
 
-ghost use Rattle.std.specs.Prelude.{◌≡◌, true, false};
-ghost use Rattle.srt_poller.specs.inside.Pauses.{pause, after_wait, after_datagram, after_end, after_put_off};
+ghost use Rattle.std.specs.Prelude.{◌≡◌};
+ghost use Rattle.srt_poller.specs.inside.Pauses.{at_first, pause, after_wait, after_datagram, after_end, after_put_off};
 
 use crate::density::Density;
 use crate::tuning::{DENSE, MANY_DATAGRAMS, SHORT_WAITS, TOO_DENSE};
@@ -34,8 +34,7 @@ pub(crate) struct Pace {
 impl Pace {
     /// The first wait is long.
     pub(crate) fn new() -> Pace
-        ensures more { result.more ≡ false }
-        ensures warm { result.warm ≡ 0 }
+        ensures { result ≡ at_first }
     {
         Pace {
             more: false,

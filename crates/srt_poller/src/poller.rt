@@ -1,9 +1,11 @@
 //! The steps of a poller's round after its beginning: `resend`, then `listen`, then `drain`.
 
-ghost use Rattle.std.specs.Prelude.{◌≡◌, ℕ, ◌<◌, ◌≤◌, ◌+◌, ◌*◌, ◌^◌, true, false, None, List, length};
+ghost use Rattle.std.specs.Prelude.{◌≡◌, ℕ, ◌<◌, ◌≤◌, ◌+◌, ◌*◌, ◌^◌, ◌%◌, ◌==◌, ◌||◌, true, false, None, List, length};
 ghost use Rattle.srt_lobby.specs.Names.{RouteName};
 ghost use Rattle.srt_poller.specs.Devices.{Carried, heard, carried};
+ghost use Rattle.srt_poller.specs.Devices.{datagram};
 ghost use Rattle.srt_poller.specs.History.{Sorting};
+ghost use Rattle.srt_poller.specs.Told.{setting_of, IsHandshake, IsToldSend};
 
 use crate::buffers::Buffers;
 use crate::context::{Classifier, RoundContext};
@@ -75,7 +77,9 @@ pub(crate) struct Poller {
 
 // Reports a send that failed.
 #[inline(always)]
-fn report_failure<G: PollerObserver>(signals: &G, sent: Sent) {
+fn report_failure<G: PollerObserver>(signals: &G, sent: Sent)
+    ensures { IsToldSend (G.knows signals.now) sent }
+{
     match sent {
         Sent::Failed => signals.failed(),
         Sent::Taken | Sent::Later => {}
@@ -92,7 +96,9 @@ fn serve_inline<G: InlineService>(signals: &G, datagrams: Option<u32>) {
 
 // Reports a reply that is a handshake.
 #[inline(always)]
-fn report_handshake<G: PollerObserver>(signals: &G, route: usize, peer: Peer, reply: &[u8]) {
+fn report_handshake<G: PollerObserver>(signals: &G, route: usize, peer: Peer, reply: &[u8])
+    ensures { IsHandshake reply.now → (G.knows signals.now).handshake route (datagram peer reply.now) }
+{
     if let [0x80, 0, 0, 0, ..] = reply {
         signals.replied(route, peer, reply);
     }
@@ -103,7 +109,7 @@ impl Poller {
     ghost use Rattle.srt_poller.specs.declared.ends.Ends.{Ends as TheEnds};
     ghost use Rattle.srt_poller.specs.declared.poller.Drained.TheVariants.{Empty, Gone};
     ghost use Rattle.srt_poller.specs.Reports.{nothing, with_kept};
-    ghost use Rattle.srt_poller.specs.Pollers.{sorted_by, named_in, arrival_in, kept_in, begun_phase, waiting, sending, listening, Waited, RoundMade};
+    ghost use Rattle.srt_poller.specs.Pollers.{setting_in, named_in, arrival_in, kept_in, begun_phase, waiting, sending, listening, Waited, RoundMade};
     ghost use Rattle.srt_poller.specs.Pollers.{WaitFailed, Arrived, Listened, Resent, Replies};
 
     /// A poller with no reply kept and all counts 0. Doesn't allocate.
@@ -122,13 +128,17 @@ impl Poller {
     }
 
     /// Whether the round with this number checks all outboxes, whatever their hints are.
-    pub(crate) fn checks_all(&self, round: u64) -> bool {
+    pub(crate) fn checks_all(&self, round: u64) -> bool
+        ensures { result ≡ (self.now.left || (round % 64 == 0)) }
+    {
         self.left | (round % ROUNDS_PER_FULL_CHECK == 0)
     }
 
     /// Reports the counts so far, without a reply that is kept.
     #[inline(always)]
-    pub(crate) fn report_counts<G: PollerObserver>(&self, signals: &G) {
+    pub(crate) fn report_counts<G: PollerObserver>(&self, signals: &G)
+        ensures { (G.knows signals.now).counts self.now.report }
+    {
         signals.reported(&self.report);
     }
 
@@ -136,7 +146,7 @@ impl Poller {
     #[inline(always)]
     pub(crate) fn resend<W: Wire, G: PollerObserver>(&mut self, signals: &G, wire: &mut W)
         ensures { (ends : List TheEnds) →
-            Resent (begun_phase self.old) (sending (carried (W.handed wire.old) (W.attempts wire.old)) ends self.old)
+            Resent (G.knows signals.now) (begun_phase self.old) (sending (carried (W.handed wire.old) (W.attempts wire.old)) ends self.old)
             (sending (carried (W.handed wire.new) (W.attempts wire.new)) ends self.new) }
     {
         let Some(kept) = self.kept else {
@@ -155,9 +165,11 @@ impl Poller {
     #[inline(always)]
     fn wait<S: Source, G: PollerObserver>(&mut self, signals: &G, source: &mut S) -> bool
         ensures ready { result ≡ true →
-            Waited (waiting (heard (S.gave source.old) (S.calls source.old)) self.old) (waiting (heard (S.gave source.new) (S.calls source.new)) self.new) }
+            Waited (G.knows signals.now) (waiting (heard (S.gave source.old) (S.calls source.old)) self.old)
+            (waiting (heard (S.gave source.new) (S.calls source.new)) self.new) }
         ensures failed { result ≡ false →
-            WaitFailed (waiting (heard (S.gave source.old) (S.calls source.old)) self.old) (waiting (heard (S.gave source.new) (S.calls source.new)) self.new) }
+            WaitFailed (G.knows signals.now) (waiting (heard (S.gave source.old) (S.calls source.old)) self.old)
+            (waiting (heard (S.gave source.new) (S.calls source.new)) self.new) }
     {
         match source.wait() {
             Polled::Ready => true,
@@ -171,7 +183,7 @@ impl Poller {
 
     /// Offers a datagram to its route, and counts the outcome.
     #[inline(always)]
-    fn offer<R: Wait, G: Hints>(
+    fn offer<R: Wait, G: Signals>(
         &mut self,
         context: &RoundContext<R, G>,
         ends: &mut [Ends],
@@ -182,7 +194,7 @@ impl Poller {
         requires route { route < length ends.old }
         ensures { (class : Sorting) (names : List RouteName) (wire : Carried) → let arrival = arrival_in incoming self.old in
             class names arrival.datagram arrival.moment ≡ Route route →
-            Arrived class names arrival (sending wire ends.old self.old) (sending wire ends.new self.new) }
+            Arrived (setting_of class (G.knows context.now.signals.now)) names arrival (sending wire ends.old self.old) (sending wire ends.new self.new) }
     {
         let bytes = &self.datagram[..incoming.len];
         let Incoming { peer, moment, .. } = incoming;
@@ -192,7 +204,7 @@ impl Poller {
                 context.signals.polled(route);
             }
             Offered::Full(_) => count_full(&mut self.report),
-            Offered::Refused => count_refused(&mut self.report),
+            Offered::Refused(refused) => count_refused(&mut self.report, refused),
         }
     }
 
@@ -206,7 +218,7 @@ impl Poller {
         incoming: Incoming,
     )
         requires { length ends.old ≡ length (named_in context.now.lobby) }
-        ensures { Arrived (sorted_by context.now.lobby) (named_in context.now.lobby) (arrival_in incoming self.old)
+        ensures { Arrived (setting_in context.now.lobby (G.knows context.now.signals.now)) (named_in context.now.lobby) (arrival_in incoming self.old)
             (sending (carried (W.handed wire.old) (W.attempts wire.old)) ends.old self.old)
             (sending (carried (W.handed wire.new) (W.attempts wire.new)) ends.new self.new) }
     {
@@ -238,7 +250,7 @@ impl Poller {
         latest: &mut Latest,
     ) -> Option<u32>
         requires { length ends.old ≡ length (named_in context.now.lobby) }
-        ensures { Listened (sorted_by context.now.lobby) (named_in context.now.lobby) 257
+        ensures { Listened (setting_in context.now.lobby (G.knows context.now.signals.now)) (named_in context.now.lobby) 257
             (listening (heard (S.gave source.old) (S.calls source.old)) (carried (W.handed wire.old) (W.attempts wire.old)) ends.old self.old)
             (listening (heard (S.gave source.new) (S.calls source.new)) (carried (W.handed wire.new) (W.attempts wire.new)) ends.new self.new)
             latest.old.moment latest.new.moment }
@@ -275,7 +287,7 @@ impl Poller {
     ) -> Drained
         requires route { route < length ends.old }
         requires kept { self.old.kept ≡ None }
-        ensures went { (sends : ℕ) → sends < 64 → Replies route sends route (sends + 1) 1
+        ensures went { (sends : ℕ) → sends < 64 → Replies (G.knows context.now.signals.now) route sends route (sends + 1) 1
             (sending (carried (W.handed wire.old) (W.attempts wire.old)) ends.old self.old)
             (sending (carried (W.handed wire.new) (W.attempts wire.new)) ends.new self.new) }
         ensures more { result ≡ Gone → self.new.kept ≡ None }
@@ -288,8 +300,9 @@ impl Poller {
         self.buffers.keep(end.drain.take_buffer());
         let reply = end.drain.reply();
         let peer = reply.peer;
-        let sent = wire.send(peer, reply.packet.bytes());
-        report_handshake(context.signals, route, peer, reply.packet.bytes());
+        let bytes = reply.packet.bytes();
+        let sent = wire.send(peer, bytes);
+        report_handshake(context.signals, route, peer, bytes);
         report_failure(context.signals, sent);
         count_reply(&mut self.report, sent);
         match sent {
@@ -314,7 +327,7 @@ impl Poller {
     ) -> bool
         requires route { route < length ends.old }
         requires kept { self.old.kept ≡ None }
-        ensures went { Replies route 0 route 64 64
+        ensures went { Replies (G.knows context.now.signals.now) route 0 route 64 64
             (sending (carried (W.handed wire.old) (W.attempts wire.old)) ends.old self.old)
             (sending (carried (W.handed wire.new) (W.attempts wire.new)) ends.new self.new) }
         ensures none { result ≡ true → self.new.kept ≡ None }
@@ -363,7 +376,7 @@ impl Poller {
         wire: &mut W,
         ends: &mut [Ends],
     )
-        ensures { Replies 0 0 (length ends.old) 0 (64 * length ends.old)
+        ensures { Replies (G.knows context.now.signals.now) 0 0 (length ends.old) 0 (64 * length ends.old)
             (sending (carried (W.handed wire.old) (W.attempts wire.old)) ends.old self.old)
             (sending (carried (W.handed wire.new) (W.attempts wire.new)) ends.new self.new) }
     {
@@ -397,7 +410,8 @@ impl Poller {
         latest: &mut Latest,
     )
         requires { length ends.old ≡ length (named_in context.now.lobby) }
-        ensures { RoundMade (sorted_by context.now.lobby) (named_in context.now.lobby) (length ends.old) (begun_phase self.old)
+        ensures { RoundMade (setting_in context.now.lobby (G.knows context.now.signals.now)) (named_in context.now.lobby)
+            (length ends.old) (begun_phase self.old)
             (listening (heard (S.gave source.old) (S.calls source.old)) (carried (W.handed wire.old) (W.attempts wire.old)) ends.old self.old)
             (listening (heard (S.gave source.new) (S.calls source.new)) (carried (W.handed wire.new) (W.attempts wire.new)) ends.new self.new)
             latest.old.moment latest.new.moment }

@@ -5,7 +5,7 @@ ghost use Rattle.srt_lobby.specs.Names.{names_of};
 ghost use Rattle.srt_poller.specs.Schedules.{AllDiffer};
 ghost use Rattle.srt_poller.specs.Pollers.{sorting};
 ghost use Rattle.srt_poller.specs.Devices.{heard, carried};
-ghost use Rattle.srt_poller.specs.Pumped.{Pumped, PumpedUnder, before, after};
+ghost use Rattle.srt_poller.specs.Pumped.{Pumped, PumpedUnder, ToldUnder, before, after};
 
 use crate::context::PollerTask;
 use crate::devices::{Source, Wire};
@@ -92,6 +92,11 @@ pub fn pump_under<R: Wait, S: Source, W: Wire, G: Signals>(
     requires few { task.now.rounds ≤ 2 ^ 48 }
     ensures pumped { PumpedUnder (G.goes task.now.signals.now) (G.closes task.now.signals.now) (sorting task.now.secret.now) task.now.schedules.now
         result.rounds
+        (before (names_of names.old) (heard (S.gave source.old) (S.calls source.old)) (carried (W.handed wire.old) (W.attempts wire.old)) ends.old)
+        (after (names_of names.new) (heard (S.gave source.new) (S.calls source.new)) (carried (W.handed wire.new) (W.attempts wire.new))
+        ends.new result.report) }
+    ensures told { ToldUnder (G.goes task.now.signals.now) (G.closes task.now.signals.now) (sorting task.now.secret.now) (G.knows task.now.signals.now)
+        task.now.schedules.now result.rounds
         (before (names_of names.old) (heard (S.gave source.old) (S.calls source.old)) (carried (W.handed wire.old) (W.attempts wire.old)) ends.old)
         (after (names_of names.new) (heard (S.gave source.new) (S.calls source.new)) (carried (W.handed wire.new) (W.attempts wire.new))
         ends.new result.report) }

@@ -5,6 +5,7 @@ ghost use Rattle.srt_poller.specs.declared.devices.Sent.{Sent as TheSent};
 ghost use Rattle.srt_poller.specs.Reports.{with_fault, with_answer, with_reply, with_accepted, with_full, with_refused, with_dropped};
 
 use crate::devices::Sent;
+use crate::memory::MemoryRefused;
 use srt_lobby::Cause;
 use srt_supervision::Report;
 
@@ -63,8 +64,8 @@ pub(crate) fn count_full(report: &mut Report)
     report.full = report.full.saturating_add(1);
 }
 
-/// A datagram was read, and the memory for its copy was refused.
-pub(crate) fn count_refused(report: &mut Report)
+/// A datagram was read, and the memory for its copy was refused, by this evidence.
+pub(crate) fn count_refused(report: &mut Report, _refused: MemoryRefused)
     ensures { report.new ≡ with_refused report.old }
 {
     report.read = report.read.saturating_add(1);

@@ -2,7 +2,7 @@
 
 ghost use Rattle.std.specs.Prelude.{◌≡◌, ◌+◌, ◌^◌, ◌<◌, ◌≤◌, ◌⊎◌, None, IfSome, IfNone, true, false, length};
 ghost use Rattle.srt_lobby.specs.Names.{names_of};
-ghost use Rattle.srt_poller.specs.Pollers.{sorting, round_state, listening, begun_phase};
+ghost use Rattle.srt_poller.specs.Pollers.{lobby_setting, round_state, listening, begun_phase};
 ghost use Rattle.srt_poller.specs.Devices.{heard, carried};
 ghost use Rattle.srt_poller.specs.Reports.{nothing};
 ghost use Rattle.srt_poller.specs.Beginnings.{RestBetween};
@@ -81,8 +81,8 @@ impl PollerRounds {
         requires ends { length ends.old ≡ length (names_of names.old) }
         requires rest { RestBetween self.old.next self.old.plans.due (plans_in self.old.plans) (names_of names.old) }
         requires fits { self.old.next < never }
-        ensures went { RoundWent (sorting task.now.secret.now) closes_all self.old.next self.old.plans.due (plans_in self.old.plans)
-            (plans_in self.new.plans) (names_of names.old) (names_of names.new) ends.old (begun_phase self.old.poller)
+        ensures went { RoundWent (lobby_setting task.now.secret.now (G.knows task.now.signals.now)) closes_all self.old.next self.old.plans.due
+            (plans_in self.old.plans) (plans_in self.new.plans) (names_of names.old) (names_of names.new) ends.old (begun_phase self.old.poller)
             (λ es. listening (heard (S.gave source.old) (S.calls source.old)) (carried (W.handed wire.old) (W.attempts wire.old)) es self.old.poller)
             (listening (heard (S.gave source.new) (S.calls source.new)) (carried (W.handed wire.new) (W.attempts wire.new)) ends.new self.new.poller)
             self.old.plans.latest.moment self.new.plans.latest.moment }
@@ -122,7 +122,8 @@ impl PollerRounds {
         requires room { E.room table.old }
         requires rest { RestBetween self.old.next self.old.plans.due (plans_in self.old.plans) (names_of names.old) }
         requires fits { self.old.next + task.now.rounds < 2 ^ 64 }
-        ensures made { RoundsChanging (G.goes task.now.signals.now) (G.closes task.now.signals.now) (sorting task.now.secret.now) self.old.next result
+        ensures made { RoundsChanging (G.goes task.now.signals.now) (G.closes task.now.signals.now)
+            (lobby_setting task.now.secret.now (G.knows task.now.signals.now)) self.old.next result
             (plans_in self.old.plans) (E.reports table.old) (E.reports table.new) (names_of names.old) (E.list table.old)
             (λ ns es. listening (heard (S.gave source.old) (S.calls source.old)) (carried (W.handed wire.old) (W.attempts wire.old)) es self.old.poller
             (round_state ns self.old.next self.old.plans.latest.moment))

@@ -357,6 +357,7 @@ impl Clock for ClockScript {
 
     fn next(&mut self) -> u64
         ensures limit { result < 2 ^ 62 }
+        ensures returned { ⟦<ClockScript as Clock>⟧.returned self.old self.new result }
         ensures does { result ≡ moment_at (moments_of self.old) (moments_given self.old) }
         ensures moments { moments_of self.new ≡ moments_of self.old }
     {

@@ -42,22 +42,34 @@ pub trait Hints {
     fn next_outbox_ready(&self, route: usize) -> usize;
 }
 
-/// Gets reports of a poller. No contract depends on it. Calls come from the poller's thread.
+/// Gets reports of a poller. Calls come from the poller's thread. A poller knows nothing of its observer but what `knows`
+/// says, so only by a call can it show that the observer was told.
 pub trait PollerObserver {
+    ghost use Rattle.srt_lobby.specs.Names.{names_of};
+    ghost use Rattle.srt_poller.specs.Devices.{datagram as datagram_of};
+    ghost use Rattle.srt_poller.specs.Told.{Observer, knows_nothing};
+
+    /// What is known once it was told something: for the observer to choose, and by default nothing.
+    ghost knows: { Self → Observer } = { λ _. knows_nothing };
+
     /// The counters so far; called each time before `Orders::order`. A reply that is kept counts neither as sent nor as
     /// lost.
-    fn reported(&self, report: &Report);
+    fn reported(&self, report: &Report)
+        ensures { (knows self.now).counts report.now };
 
     /// The lobby, which has these names, answered this datagram of this peer, and the answer was handed to the wire or
     /// lost. Called for every answer.
-    fn answered(&self, names: &Names, peer: Peer, datagram: &[u8], answer: &[u8]);
+    fn answered(&self, names: &Names, peer: Peer, datagram: &[u8], answer: &[u8])
+        ensures { (knows self.now).answer (names_of names.now) (datagram_of peer datagram.now) answer.now };
 
     /// A handshake, whose first word is 0x80000000, was taken from the outbox of the route with this index, for this
     /// peer, and was handed to the wire, lost or kept.
-    fn replied(&self, route: usize, peer: Peer, handshake: &[u8]);
+    fn replied(&self, route: usize, peer: Peer, handshake: &[u8])
+        ensures { (knows self.now).handshake route (datagram_of peer handshake.now) };
 
     /// A wait, a read or a send failed: what the report counts as a fault.
-    fn failed(&self);
+    fn failed(&self)
+        ensures { (knows self.now).fault };
 }
 
 /// Serves routes in the polling thread, between the reads and the sends of a round. No contract depends on it: a route's
@@ -89,13 +101,19 @@ impl Orders for Unsignalled {
 }
 
 impl Hints for Unsignalled {
+    ghost use Rattle.std.specs.Prelude.{true};
+
     fn polled(&self, _route: usize) {}
 
-    fn take_outbox_ready(&self, _route: usize) -> bool {
+    fn take_outbox_ready(&self, _route: usize) -> bool
+        ensures { result ≡ true }
+    {
         true
     }
 
-    fn next_outbox_ready(&self, route: usize) -> usize {
+    fn next_outbox_ready(&self, route: usize) -> usize
+        ensures { result ≡ route }
+    {
         route
     }
 }

@@ -1,11 +1,14 @@
 //! A source and a wire over one UDP socket: of IPv4, or of IPv6 and then with the callers over IPv4 too.
 
 ghost use Rattle.std.specs.Prelude.{◌≡◌, ◌++◌, ◌∷◌, ◌==◌, [], ℕ, IfOk, IfSome, IfNone, length};
+ghost use Rattle.std.specs.Prelude.{option_map};
+ghost use Rattle.std.specs.Duration.{as_nanos};
 ghost use Rattle.std.specs.Net.Addr.{ipv4_octets};
 ghost use Rattle.srt_types.specs.declared.shared.Peer.{Peer as ThePeer};
 ghost use Rattle.srt_poller.specs.declared.devices.Read.TheVariants.{Datagram};
 ghost use Rattle.srt_poller.specs.declared.sockets.Family.TheVariants.{V4 as OfIpv4};
-ghost use Rattle.srt_poller.specs.inside.Sockets.{mapped, HasAddress, HasIpv4, HasIpv6, IsTarget};
+ghost use Rattle.srt_poller.specs.inside.Sockets.{mapped, family_of, HasAddress, HasIpv4, HasIpv6, IsTarget};
+ghost use Rattle.srt_poller.specs.inside.Pauses.{limit};
 
 use crate::devices::{Clock, Polled, Read, Sent, Source, Wire};
 use crate::pace::{Pace, Pause};
@@ -52,7 +55,6 @@ pub(crate) enum Family {
 #[derive(Drop)]
 struct Shared {
     socket: UdpSocket,
-    family: Family,
     // A send returned Later since the source last waited.
     put_off: AtomicBool,
     // The number of datagrams sent since the source last waited, modulo 2^32. A hint: sends by another thread than the
@@ -75,7 +77,16 @@ pub struct MioSource<C: Clock> {
 #[derive(Drop)]
 pub struct MioWire {
     shared: Arc<Shared>,
+    // at which the socket was to be bound
+    bound: SocketAddr,
     failures: u64,
+}
+
+/// A socket, and the address at which it was to be bound.
+#[derive(Drop)]
+struct BoundSocket {
+    socket: UdpSocket,
+    bound: SocketAddr,
 }
 
 /// Asks for a larger receive buffer. The system may give less; that isn't checked.
@@ -188,16 +199,11 @@ fn is_whole(taken: usize, bytes: &[u8]) -> bool
 }
 
 impl Shared {
-    fn share(
-        alloc: Global,
-        socket: UdpSocket,
-        family: Family,
-    ) -> Result<(Arc<Shared>, Arc<Shared>), AllocError> {
+    fn share(alloc: Global, socket: UdpSocket) -> Result<(Arc<Shared>, Arc<Shared>), AllocError> {
         let ours = Arc::new(
             alloc,
             Shared {
                 socket,
-                family,
                 put_off: AtomicBool::new(false),
                 sent: AtomicU32::new(0),
             },
@@ -220,7 +226,9 @@ impl Shared {
 }
 
 /// The family of an address.
-fn family_of(addr: SocketAddr) -> Family {
+fn family_of(addr: SocketAddr) -> Family
+    ensures { result ≡ family_of addr }
+{
     match addr {
         SocketAddr::V4(_) => Family::V4,
         SocketAddr::V6(_) => Family::V6,
@@ -228,22 +236,39 @@ fn family_of(addr: SocketAddr) -> Family {
 }
 
 /// Binds a UDP socket at this address.
-fn socket_at<N: Net>(net: &N, addr: SocketAddr) -> Result<UdpSocket, BindFault> {
-    match addr {
+fn socket_at<N: Net>(net: &N, addr: SocketAddr) -> Result<BoundSocket, BindFault>
+    ensures { IfOk result (λ socket. socket.bound ≡ addr) }
+{
+    let socket = match addr {
         SocketAddr::V4(_) => match UdpSocket::bind(net, addr) {
-            Ok(socket) => Ok(socket),
-            Err(error) => Err(BindFault::Socket(error.raw_os_error())),
+            Ok(socket) => socket,
+            Err(error) => return Err(BindFault::Socket(error.raw_os_error())),
         },
         SocketAddr::V6(addr) => match ipv6::bind(addr) {
-            Ok(socket) => Ok(socket),
-            Err(number) => Err(BindFault::Socket(Some(number))),
+            Ok(socket) => socket,
+            Err(number) => return Err(BindFault::Socket(Some(number))),
         },
+    };
+    Ok(BoundSocket {
+        socket,
+        bound: addr,
+    })
+}
+
+/// How long a wait lasts at most. `None` for a nap.
+fn limit_of(pause: Pause) -> Option<Duration>
+    ensures { option_map as_nanos result ≡ limit pause }
+{
+    match pause {
+        Pause::Nap => None,
+        Pause::Poll(millis) => Some(Duration::from_millis(millis)),
     }
 }
 
 impl<C: Clock> MioSource<C> {
     ghost use Rattle.srt_mailbox.specs.Counts.{Grew};
     ghost use Rattle.srt_poller.specs.declared.devices.Polled.TheVariants.{Failed as PollFailed};
+    ghost use Rattle.srt_poller.specs.Sockets.{bound_at};
 
     /// Binds a UDP socket at this address and returns a source and a wire over it. With port 0 the system chooses the
     /// port. A socket at `::` also has callers over IPv4, whose addresses are `::ffff:a.b.c.d`, whatever the system's
@@ -259,8 +284,9 @@ impl<C: Clock> MioSource<C> {
         C: Drop,
         ensures source { IfOk result (λ r. ⟦<MioSource<C> as Source>⟧.failures r.0 ≡ 0) }
         ensures wire { IfOk result (λ r. ⟦<MioWire as Wire>⟧.failures r.1 ≡ 0) }
+        ensures bound { IfOk result (λ r. bound_at r.1 ≡ addr) }
     {
-        let mut socket = socket_at(net, addr)?;
+        let BoundSocket { mut socket, bound } = socket_at(net, addr)?;
         ask_for_room(&socket);
         let poll = match Poll::new(net) {
             Ok(poll) => poll,
@@ -273,7 +299,7 @@ impl<C: Clock> MioSource<C> {
         let Ok(events) = Events::with_capacity(alloc, 4) else {
             return Err(BindFault::OutOfMemory);
         };
-        let Ok((ours, theirs)) = Shared::share(alloc, socket, family_of(addr)) else {
+        let Ok((ours, theirs)) = Shared::share(alloc, socket) else {
             return Err(BindFault::OutOfMemory);
         };
         let source = MioSource {
@@ -286,6 +312,7 @@ impl<C: Clock> MioSource<C> {
         };
         let wire = MioWire {
             shared: theirs,
+            bound,
             failures: 0,
         };
         Ok((source, wire))
@@ -312,6 +339,7 @@ impl<C: Clock> MioSource<C> {
 
 impl<C: Clock> Source for MioSource<C> {
     ghost use Rattle.std.specs.Prelude.{None};
+    ghost use Rattle.srt_poller.specs.Devices.{ReadsWell, IsTimed, given_by_read, call_of_read, joined};
 
     ghost failures = { λ s. s.failures };
 
@@ -324,16 +352,23 @@ impl<C: Clock> Source for MioSource<C> {
         if self.shared.put_off.swap(false, Ordering::SeqCst) {
             self.pace.put_off();
         }
-        match self.pace.wait(self.shared.take_sent()) {
-            Pause::Nap => {
+        match limit_of(self.pace.wait(self.shared.take_sent())) {
+            None => {
                 nap();
                 Polled::Ready
             }
-            Pause::Poll(millis) => self.poll(Duration::from_millis(millis)),
+            Some(most) => self.poll(most),
         }
     }
 
-    fn next(&mut self, buffer: &mut [u8; 2048]) -> Read {
+    fn next(&mut self, buffer: &mut [u8; 2048]) -> Read
+        ensures well { ReadsWell result (⟦<MioSource<C> as Source>⟧.failures self.old) (⟦<MioSource<C> as Source>⟧.failures self.new) }
+        ensures records { ⟦<MioSource<C> as Source>⟧.gave self.new ≡
+            joined (⟦<MioSource<C> as Source>⟧.gave self.old) (given_by_read result buffer.new) }
+        ensures called { ⟦<MioSource<C> as Source>⟧.calls self.new ≡
+            joined (⟦<MioSource<C> as Source>⟧.calls self.old) (call_of_read result buffer.new ∷ []) }
+        ensures timed { IsTimed (C.returned self.old.clock self.new.clock) result }
+    {
         match self.shared.socket.recv_from(buffer.as_mut_slice()) {
             Ok(received) => {
                 let moment = self.clock.next();
@@ -380,7 +415,7 @@ impl Wire for MioWire {
 
     /// Also fails if the peer has no address of the socket's family, or if the socket took fewer bytes.
     fn send(&mut self, to: Peer, bytes: &[u8]) -> Sent {
-        let Some((target, whole)) = outgoing(self.shared.family, to, bytes) else {
+        let Some((target, whole)) = outgoing(family_of(self.bound), to, bytes) else {
             return self.fail();
         };
         match self.shared.socket.send_to(whole, target) {

@@ -20,7 +20,7 @@ pub(crate) trait RouteTable {
     ghost use Rattle.srt_lobby.specs.Names.{names_of};
     ghost use Rattle.srt_poller.specs.declared.ends.Ends.{Ends as TheEnds};
     ghost use Rattle.srt_poller.specs.Devices.{heard, carried};
-    ghost use Rattle.srt_poller.specs.Pollers.{sorting, listening, begun_phase};
+    ghost use Rattle.srt_poller.specs.Pollers.{lobby_setting, listening, begun_phase};
     ghost use Rattle.srt_poller.specs.Beginnings.{RestBetween};
     ghost use Rattle.srt_poller.specs.Openings.{RouteReports};
     ghost use Rattle.srt_poller.specs.Plans.{never};
@@ -66,7 +66,8 @@ pub(crate) trait RouteTable {
         requires room { room self.old }
         requires rest { RestBetween rounds.old.next rounds.old.plans.due (plans_in rounds.old.plans) (names_of names.old) }
         requires fits { rounds.old.next < never }
-        ensures went { RoundWent (sorting task.now.secret.now) closes_all rounds.old.next rounds.old.plans.due (plans_in rounds.old.plans)
+        ensures went { RoundWent (lobby_setting task.now.secret.now (G.knows task.now.signals.now)) closes_all rounds.old.next rounds.old.plans.due
+            (plans_in rounds.old.plans)
             (plans_in rounds.new.plans) (names_of names.old) (names_of names.new) (list self.old) (begun_phase rounds.old.poller)
             (λ es. listening (heard (S.gave source.old) (S.calls source.old)) (carried (W.handed wire.old) (W.attempts wire.old)) es rounds.old.poller)
             (listening (heard (S.gave source.new) (S.calls source.new)) (carried (W.handed wire.new) (W.attempts wire.new)) (list self.new)

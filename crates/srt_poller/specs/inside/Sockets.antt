@@ -8,6 +8,7 @@ use Rattle.std.specs.declared.net.ipv6_addr.Ipv6Addr.{Ipv6Addr}
 use Rattle.std.specs.declared.net.ip_addr.IpAddr.{IpAddr}
 use Rattle.std.specs.declared.net.ip_addr.IpAddr.TheVariants.{V4, V6}
 use Rattle.std.specs.declared.net.socket_addr.SocketAddr.{SocketAddr}
+use Rattle.std.specs.declared.net.socket_addr.SocketAddr.TheVariants as own
 use Rattle.srt_types.specs.declared.shared.Peer.{Peer}
 use Rattle.srt_poller.specs.declared.sockets.Family.{Family}
 use Rattle.srt_poller.specs.declared.sockets.Family.TheVariants as families
@@ -40,6 +41,11 @@ pub record HasIpv4 (peer : Peer) (address : SocketAddr) : Type 0 where
   pub ip : Ipv4Addr
   pub is_ipv4 : socket_ip address ≡ V4 ip
   pub has : HasAddress peer address
+
+-- the family of a socket's own address
+abbrev pub family_of : SocketAddr → Family
+family_of (own.V4 address) = families.V4
+family_of (own.V6 address) = families.V6
 
 -- the address that a socket of this family sends to, for this peer
 abbrev pub IsTarget : Family → Peer → SocketAddr → Type 0

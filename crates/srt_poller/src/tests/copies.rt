@@ -23,7 +23,7 @@ fn assert_copied(
     bytes: &[u8],
     is_large: bool,
 ) -> Result<(), Fail> {
-    let Some(copy) = buffers.copy_of(rt.alloc(), bytes) else {
+    let Ok(copy) = buffers.copy_of(rt.alloc(), bytes) else {
         return Err(Fail::from("memory"));
     };
     assert_eq!(rt; copy.as_slice(), bytes);
@@ -44,7 +44,7 @@ fn a_copy_fills_a_returned_buffer(rt: HostRuntime) -> Result<(), Fail> {
 #[test]
 fn a_new_buffer_has_room_for_any_packet(rt: HostRuntime) -> Result<(), Fail> {
     let mut buffers = Buffers::new(rt.alloc());
-    let Some(copy) = buffers.copy_of(rt.alloc(), b"short") else {
+    let Ok(copy) = buffers.copy_of(rt.alloc(), b"short") else {
         return Err(Fail::from("memory"));
     };
     assert!(rt; copy.capacity() >= BUFFER_ROOM);

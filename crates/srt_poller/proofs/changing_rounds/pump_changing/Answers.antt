@@ -2,7 +2,7 @@ use Rattle.std.proofs.Common.{rules, ◌≡◌, ◌∙◌, ◌≤◌, ◌^◌, �
 use Rattle.std.proofs.lemmas.List.{length-append, length-map}
 use Rattle.srt_poller.specs.History.{Between}
 use Rattle.srt_poller.specs.Openings.{NewRoute, ends_in}
-use Rattle.srt_poller.proofs.Endings.{ended_so, changed_so}
+use Rattle.srt_poller.proofs.Endings.{ended_so, told_so}
 use Rattle.srt_poller.proofs.changing_rounds.pump_changing.Goals as goal
 
 pub make-made-requires : goal.make-made-requires
@@ -15,8 +15,8 @@ make-made-requires g c = record {
   fits = omega (arith, c.new-rounds.ensures.next, c.requires.few);
 }
 
-pub returns-clause-pumped : goal.returns-clause-pumped
-returns-clause-pumped g c =
+pub returns-clause-told : goal.returns-clause-told
+returns-clause-told g c =
     let small : c.make-made.result ≤ 2 ^ 48 = omega (arith, c.make-made.ensures.rounds, c.requires.few) in
     let start : 0 + c.make-made.result ≡ c.make-made.result = omega arith in
     let made = rw (c.new-rounds.ensures.next, c.new-rounds.ensures.plans) at c.make-made.ensures.made in
@@ -32,11 +32,10 @@ returns-clause-pumped g c =
       c.new-rounds.ensures.latest,
       start,
       many,
-    ) at (h.went Between tt) in (
-      added,
-      made.1,
-      made.2,
-      changed_so made.3 (rw last_openings h.reports) (rw (sym start) h.planned)
-          (rw last_ends (ended_so _ _ _ _ _ _ _ _ _ _ _ _ c.make-made.new.self.poller c.make-made.result went.2 _ _ small went.1 went.3 went.4 went.5
-          c.report-counts.ensures)),
-    )
+    ) at (h.went Between tt) in
+    told_so (g.G.PollerObserver.knows c.args.task.now.signals.now) added made.1 made.2 made.3 (rw last_openings h.reports) (rw (sym start) h.planned)
+    (rw last_ends (ended_so _ _ _ _ _ _ _ _ _ _ _ _ c.make-made.new.self.poller c.make-made.result went.2 _ _ small went.1 went.3 went.4 went.5
+    c.report-counts.ensures))
+
+pub returns-clause-pumped : goal.returns-clause-pumped
+returns-clause-pumped g c = (returns-clause-told g c).0

@@ -3,7 +3,7 @@ use Rattle.std.proofs.lemmas.List.{length-take}
 use Rattle.srt_lobby.proofs.Kept.{inside}
 use Rattle.srt_poller.specs.Devices.{joined}
 use Rattle.srt_poller.specs.History.{Answers, Drops, FromLobby, from}
-use Rattle.srt_poller.specs.Pollers.{arrival_in}
+use Rattle.srt_poller.specs.Pollers.{named_in, arrival_in}
 use Rattle.srt_poller.proofs.Steps.{sent_as, unsent, are_later_none, went_one}
 use Rattle.srt_poller.proofs.poller.Poller.arrive.Goals as goal
 
@@ -27,13 +27,16 @@ returns-in-Answer g c schedules round latest reads source =
           (sent_as c.send-sent.result (from FromLobby (record { peer = c.args.incoming.peer; bytes = c.in-Answer.answer })));
       attempted = c.send-sent.ensures.attempted;
     })
-    (are_later_none _ _ (λ r. refl) (λ r. refl)) refl c.count_answer.ensures
+    (are_later_none _ _ (λ r. refl) (λ r. refl)) refl c.count_answer.ensures (
+      (named_in c.args.context.now.lobby, sym c.classify.ensures.class ∙ c.in-Answer.is, c.answered.ensures),
+      c.report_failure.ensures,
+    )
 
 pub returns-in-Dropped : goal.returns-in-Dropped
 returns-in-Dropped g c schedules round latest reads source =
     let a = arrival_in c.args.incoming c.args.self.now in
     went_one _ schedules (Drops a c.in-Dropped.cause) _ _ (tt, sym c.classify.ensures.class ∙ c.in-Dropped.is)
-    (unsent _ _ _ _ refl refl refl refl) (are_later_none _ _ (λ r. refl) (λ r. refl)) refl c.count_dropped.ensures
+    (unsent _ _ _ _ refl refl refl refl) (are_later_none _ _ (λ r. refl) (λ r. refl)) refl c.count_dropped.ensures tt
 
 pub returns-in-Route : goal.returns-in-Route
 returns-in-Route g c schedules round latest gave = c.offer.ensures _ _ _ (sym c.classify.ensures.class ∙ c.in-Route.is) schedules round latest gave

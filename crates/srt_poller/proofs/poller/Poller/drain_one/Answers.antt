@@ -13,20 +13,20 @@ pub returns-in_default-clause-went : goal.returns-in_default-clause-went
 returns-in_default-clause-went g c sends below class schedules t phase source up = (
   phase,
   up_to_more (omega arith) (λ same. omega arith) up,
-  rw (unchanged_here c.args.ends.now c.args.route _ c.take.new.self c.in_default.ensures.none.0) (went_none class schedules 1 _),
+  rw (unchanged_here c.args.ends.now c.args.route _ c.take.new.self c.in_default.ensures.none.0) (went_none _ schedules 1 _),
 )
 
 pub returns-in-Taken : goal.returns-in-Taken
 returns-in-Taken g c = record {
   went = λ sends below class schedules t phase source up.
-      let reply : Datagram = record { peer = c.reply-reply.result.now.peer; bytes = c.bytes.result.now } in
+      let reply : Datagram = record { peer = c.reply-reply.result.now.peer; bytes = c.bytes-bytes.result.now } in
       let here : written c.take.new.self.hand ≡ reply =
       ap written (sym (c.reply-reply.ensures ∙ ap (λ (d : DrainEnd). d.hand) c.take_buffer.ensures))
-      ∙ ap (λ (bytes : List ℕ). record { peer = c.reply-reply.result.now.peer; bytes = bytes }) (sym c.bytes.ensures.value) in
+      ∙ ap (λ (bytes : List ℕ). record { peer = c.reply-reply.result.now.peer; bytes = bytes }) (sym c.bytes-bytes.ensures.value) in
       let gone : None ≡ kept_if c.send-sent.result (kept c.args.route reply) = elim c.in-Taken.is [ inl e ↦ rw e refl | inr e ↦ rw e refl ] in (
         sent_on c.args.route phase,
         up_to_sent up,
-        went_one class schedules (Sends c.args.route reply c.send-sent.result) _ _ (
+        went_one _ schedules (Sends c.args.route reply c.send-sent.result) _ _ (
           up_to_sends below up,
           ap (option_map (λ (k : KeptReply). kept k.route (record { peer = k.peer; bytes = take k.len c.args.self.now.reply_bytes })))
               c.requires.kept,
@@ -41,7 +41,7 @@ returns-in-Taken g c = record {
             (ap (option_map (λ (k : KeptReply). kept k.route (record { peer = k.peer; bytes = take k.len c.args.self.now.reply_bytes })))
             c.requires.kept
             ∙ gone))
-            c.count_reply.ensures,
+            c.count_reply.ensures (c.report_handshake.ensures, c.report_failure.ensures),
       );
   more = λ same. c.requires.kept;
   none = λ same. c.requires.kept;
@@ -49,15 +49,15 @@ returns-in-Taken g c = record {
 
 pub returns-in-Later-clause-went : goal.returns-in-Later-clause-went
 returns-in-Later-clause-went g c sends below class schedules t phase source up =
-    let reply : Datagram = record { peer = c.reply-reply.result.now.peer; bytes = c.bytes.result.now } in
+    let reply : Datagram = record { peer = c.reply-reply.result.now.peer; bytes = c.bytes-bytes.result.now } in
     let here : written c.take.new.self.hand ≡ reply =
     ap written (sym (c.reply-reply.ensures ∙ ap (λ (d : DrainEnd). d.hand) c.take_buffer.ensures))
-    ∙ ap (λ (bytes : List ℕ). record { peer = c.reply-reply.result.now.peer; bytes = bytes }) (sym c.bytes.ensures.value) in
-    let copied : take c.copy_to-len.result c.copy_to-len.new.out ≡ c.bytes.result.now = c.copy_to-len.ensures.written ∙ sym c.bytes.ensures.value in
+    ∙ ap (λ (bytes : List ℕ). record { peer = c.reply-reply.result.now.peer; bytes = bytes }) (sym c.bytes-bytes.ensures.value) in
+    let copied : take c.copy_to-len.result c.copy_to-len.new.out ≡ c.bytes-bytes.result.now = c.copy_to-len.ensures.written ∙ sym c.bytes-bytes.ensures.value in
     let there : Some (kept c.args.route reply) ≡ kept_if c.send-sent.result (kept c.args.route reply) = rw c.in-Later.is refl in (
       sent_on c.args.route phase,
       up_to_sent up,
-      went_one class schedules (Sends c.args.route reply c.send-sent.result) _ _ (
+      went_one _ schedules (Sends c.args.route reply c.send-sent.result) _ _ (
         up_to_sends below up,
         ap (option_map (λ (k : KeptReply). kept k.route (record { peer = k.peer; bytes = take k.len c.args.self.now.reply_bytes })))
             c.requires.kept,
@@ -71,5 +71,5 @@ returns-in-Later-clause-went g c sends below class schedules t phase source up =
           (ap (λ (o : Option Kept). state t.names o t.round (sent_on c.args.route phase) t.latest)
           (ap (λ (bytes : List ℕ). Some (kept c.args.route (record { peer = c.reply-reply.result.now.peer; bytes = bytes }))) copied
           ∙ there))
-          c.count_reply.ensures,
+          c.count_reply.ensures (c.report_handshake.ensures, c.report_failure.ensures),
     )

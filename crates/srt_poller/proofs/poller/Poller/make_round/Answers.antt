@@ -1,13 +1,13 @@
 use Rattle.std.proofs.Common.{suc, refl, inr, arith}
 use Rattle.srt_poller.specs.Devices.{heard}
 use Rattle.srt_poller.specs.History.{Sending}
-use Rattle.srt_poller.specs.Pollers.{sorted_by, named_in, round_state}
+use Rattle.srt_poller.specs.Pollers.{sorting, named_in, round_state}
 use Rattle.srt_poller.proofs.Steps.{went_then, went_as, went_more, up_to_over}
 use Rattle.srt_poller.proofs.poller.Poller.make_round.Goals as goal
 
 pub returns : goal.returns
 returns g c schedules round =
-    let class = sorted_by c.args.context.now.lobby in
+    let class = sorting c.args.context.now.lobby.secret.now in
     let names = named_in c.args.context.now.lobby in
     let source = heard (g.S.Source.gave c.args.source.now) (g.S.Source.calls c.args.source.now) in
     let heard_then = heard (g.S.Source.gave c.listen.new.source) (g.S.Source.calls c.listen.new.source) in

@@ -10,18 +10,18 @@ returns g c class names wire is schedules round latest reads source =
     let a = arrival_in c.args.incoming c.args.self.now in
     elim c.match-offer.branch [
       | in-Accepted w ↦
-          rw w.self-is (went_one class schedules (Accepts a c.args.route) _ _ (tt, is) (unsent _ _ _ _ refl refl refl refl)
+          rw w.self-is (went_one _ schedules (Accepts a c.args.route) _ _ (tt, is) (unsent _ _ _ _ refl refl refl refl)
           (accepted_here a c.args.route c.args.ends.now _ _ c.requires.route
           (accepted_now a _ _ w.in-Accepted.ensures.offered w.in-Accepted.ensures.drain))
-          refl w.count_accepted.ensures)
+          refl w.count_accepted.ensures tt)
       | in-Full w ↦
-          rw w.self-is (went_one class schedules (Overflows a c.args.route) _ _ (tt, is) (unsent _ _ _ _ refl refl refl refl)
+          rw w.self-is (went_one _ schedules (Overflows a c.args.route) _ _ (tt, is) (unsent _ _ _ _ refl refl refl refl)
           (nothing_here _ c.args.route c.args.ends.now _ _ c.requires.route (λ r. refl) (λ r. refl) w.in-Full.ensures.offered.0
           w.in-Full.ensures.drain)
-          refl w.count_full.ensures)
+          refl w.count_full.ensures tt)
       | in-Refused w ↦
-          rw w.self-is (went_one class schedules (Refuses a c.args.route) _ _ (tt, is) (unsent _ _ _ _ refl refl refl refl)
+          rw w.self-is (went_one _ schedules (Refuses a c.args.route) _ _ (tt, is) (unsent _ _ _ _ refl refl refl refl)
           (nothing_here _ c.args.route c.args.ends.now _ _ c.requires.route (λ r. refl) (λ r. refl) w.in-Refused.ensures.offered.0
           w.in-Refused.ensures.drain)
-          refl w.count_refused.ensures)
+          refl w.count_refused.ensures tt)
     ]

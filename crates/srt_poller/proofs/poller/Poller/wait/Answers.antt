@@ -7,14 +7,14 @@ use Rattle.srt_poller.proofs.poller.Poller.wait.Goals as goal
 
 pub returns-in-Ready-clause-ready : goal.returns-in-Ready-clause-ready
 returns-in-Ready-clause-ready g c is class schedules names round latest wire ends =
-    went_one class schedules Waits _ _ refl
+    went_one _ schedules Waits _ _ refl
     (unsent _ _ _ _ refl refl (c.wait.ensures.records ∙ sym (joined_none _))
     (c.wait.ensures.called ∙ ap (λ p. joined (g.S.Source.calls c.args.source.now) (call_of_wait p ∷ [])) c.in-Ready.is))
-    (are_later_none _ _ (λ r. refl) (λ r. refl)) refl refl
+    (are_later_none _ _ (λ r. refl) (λ r. refl)) refl refl tt
 
 pub returns-in-Failed-clause-failed : goal.returns-in-Failed-clause-failed
 returns-in-Failed-clause-failed g c is class schedules names round latest wire ends =
-    went_once class schedules WaitFails 1 1 _ _ refl (omega arith) refl
+    went_once _ schedules WaitFails 1 1 _ _ refl (omega arith) refl
     (unsent _ _ _ _ refl refl (c.wait.ensures.records ∙ sym (joined_none _))
     (c.wait.ensures.called ∙ ap (λ p. joined (g.S.Source.calls c.args.source.now) (call_of_wait p ∷ [])) c.in-Failed.is))
-    (are_later_none _ _ (λ r. refl) (λ r. refl)) refl c.count_fault.ensures
+    (are_later_none _ _ (λ r. refl) (λ r. refl)) refl c.count_fault.ensures c.failed.ensures

@@ -11,7 +11,8 @@ use Rattle.srt_poller.proofs.rounds.PollerRounds.make.Goals as goal
 pub loop-made-init : goal.loop-made-init
 loop-made-init g c =
     let same : c.args.self.now.next + 0 ≡ c.args.self.now.next = omega arith in (
-      rw same (made_none c.args.task.now.secret.now c.args.self.now.next (plans_in c.args.self.now.plans) (g.E.RouteTable.reports c.args.table.now)
+      rw same (made_none c.args.task.now.secret.now (g.G.PollerObserver.knows c.args.task.now.signals.now) c.args.self.now.next
+          (plans_in c.args.self.now.plans) (g.E.RouteTable.reports c.args.table.now)
           (names_of c.args.names.now) (g.E.RouteTable.list c.args.table.now)
           (λ ns es phase. world_of (heard (g.S.Source.gave c.args.source.now) (g.S.Source.calls c.args.source.now))
           (carried (g.W.Wire.handed c.args.wire.now) (g.W.Wire.attempts c.args.wire.now)) es
@@ -54,7 +55,8 @@ loop-made-preserved g c =
     let reports = g.E.RouteTable.reports in
     let next : now.next ≡ first + (made + 1) = omega (arith, c.round.ensures.next, c.loop-made.invariant.4) in
     let latest : taken.plans.latest.moment ≡ was.plans.latest.moment = ap (λ (l : Latest). l.moment) c.take_changes.ensures.latest in
-    let m = made_round c.args.task.now.secret.now first made taken.plans.due c.args.self.now.plans.latest.moment was.plans.latest.moment
+    let m = made_round c.args.task.now.secret.now (g.G.PollerObserver.knows c.args.task.now.signals.now)
+    first made taken.plans.due c.args.self.now.plans.latest.moment was.plans.latest.moment
     now.plans.latest.moment (plans_in c.args.self.now.plans) (plans_in was.plans) (plans_in taken.plans) (plans_in now.plans)
     (reports c.args.table.now) (reports c.loop-made.table) (reports taken.self) (names_of c.args.names.now) (names_of c.loop-made.names)
     (names_of taken.names) (names_of c.round.new.names) (list c.args.table.now) (list c.loop-made.table) (list taken.self) (list c.round.new.self)
@@ -66,7 +68,7 @@ loop-made-preserved g c =
     (carried (g.W.Wire.handed c.round.new.wire) (g.W.Wire.attempts c.round.new.wire)) c.args.self.now.poller was.poller now.poller
     c.in-Some.closes_all c.loop-made.invariant.0 (rw c.loop-made.invariant.4 at c.take_changes.ensures.took)
     (rw c.loop-made.invariant.4 at c.take_changes.ensures.rest) (rw (latest, c.loop-made.invariant.4) at c.round.ensures.went) c.requires.timely
-    c.loop-made.invariant.2 c.requires.ends c.in-Some.ensures.round.0 c.in-Some.ensures.round.1 in (
+    c.loop-made.invariant.2 c.requires.ends c.in-Some.ensures.round.0 c.in-Some.ensures.round.1 c.report_counts.ensures in (
       rw c.round.ensures.reports m.0,
       subst (λ (n : ℕ). RestBetween n now.plans.due (plans_in now.plans) (names_of c.round.new.names)) next c.round.ensures.rest,
       m.1,

@@ -9,7 +9,8 @@ use Rattle.srt_poller.proofs.rounds.PollerRounds.make.Given as goal
 
 abbrev pub invariant-loop-made : goal.invariant-loop-made
 invariant-loop-made g l =
-    AreMade (g.G.Orders.goes l.task.signals.now) (g.G.Orders.closes l.task.signals.now) l.task.secret.now l.fn.self.next l.made
+    AreMade (g.G.Orders.goes l.task.signals.now) (g.G.Orders.closes l.task.signals.now) l.task.secret.now (g.G.PollerObserver.knows l.task.signals.now)
+    l.fn.self.next l.made
     (plans_in l.fn.self.plans) (plans_in l.self.plans) (g.E.RouteTable.reports l.fn.table) (g.E.RouteTable.reports l.table)
     (names_of l.fn.names) (names_of l.names) (g.E.RouteTable.list l.fn.table)
     (λ ns es phase. world_of (heard (g.S.Source.gave l.fn.source) (g.S.Source.calls l.fn.source))
