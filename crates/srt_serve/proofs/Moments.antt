@@ -1,6 +1,7 @@
 -- Ends that were ticked, and ticked again.
-use Rattle.std.proofs.Common.{◌≡◌, ◌⊎◌, inl, inr, ℕ, zero, suc, ◌+◌, ◌≤◌, Option, List, [], ◌∷◌, ◌++◌, map, length, take, drop, slice_set}
+use Rattle.std.proofs.Common.{◌≡◌, inl, ℕ, zero, suc, ◌+◌, ◌≤◌, Option, List, [], ◌∷◌, ◌++◌, map, length, take, drop, slice_set}
 use Rattle.std.proofs.Common.{slice_index_or, None, refl, sym, ap, subst, ◌∙◌, append_assoc, append-nil, arith}
+use Rattle.std.specs.Prelude.{Result, Ok, Err, OnOk, IfErr}
 use Rattle.std.proofs.lemmas.List.{map-append}
 use Rattle.std.proofs.Math.Seq.{take-append_seam}
 use Rattle.srt_mailbox.specs.Ends.{Producer, producer}
@@ -34,10 +35,12 @@ module _ {E : Type 0} (inbox : E → Producer) (tried : E → Option (List ℕ))
   pub was_same : (a b : E) → b ≡ a → WasTicked inbox tried [] a b
   was_same a b h = subst (λ (x : E). WasTicked inbox tried [] a x) (sym h) (was_not a)
 
-  pub was_one : (m : ℕ) (a b : E)
-      → (inbox b ≡ inbox a) ⊎ (inbox b ≡ accepts m (inbox a)) → tried b ≡ joined (tried a) (m ∷ []) → WasTicked inbox tried (m ∷ []) a b
-  was_one m a b (inl h) reported = (reported, [], tt, h ∙ accepts_none (inbox a))
-  was_one m a b (inr h) reported = (reported, m ∷ [], inl (refl, tt), h)
+  -- a tick was offered: the inbox accepted it, or was full
+  pub was_offered : {F : Type 0} (m : ℕ) (a b : E) (result : Result (Unit {0}) F)
+      → OnOk result (inbox b ≡ accepts m (inbox a)) → IfErr result (λ _. inbox b ≡ inbox a) → tried b ≡ joined (tried a) (m ∷ [])
+      → WasTicked inbox tried (m ∷ []) a b
+  was_offered m a b (Ok u) h k reported = (reported, m ∷ [], inl (refl, tt), h)
+  was_offered m a b (Err f) h k reported = (reported, [], tt, k ∙ accepts_none (inbox a))
 
   pub were_not : (was : List E) → WereTicked inbox tried [] was was
   were_not [] = tt

@@ -2,3 +2,5 @@
 pub mod Polled
 pub mod Arrived
 pub mod Requests
+pub mod Changing
+pub mod Watched

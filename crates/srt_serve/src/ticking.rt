@@ -3,7 +3,7 @@
 ghost use Rattle.std.specs.Prelude.{◌≡◌, ◌<◌, ◌^◌, List, [], ◌∷◌, ◌++◌};
 ghost use Rattle.srt_serve.specs.Ticks.{WereTicked, Ticked};
 
-use srt_mailbox::ClockEnd;
+use srt_mailbox::{ClockEnd, InboxFull};
 use srt_types::Item;
 use srt_wakeups::Wakeups;
 use std::sync::Wait;
@@ -26,7 +26,7 @@ pub trait Ticker {
 
 /// The clock's end of an inbox, to which ticks are offered.
 pub trait TickEnd {
-    ghost use Rattle.std.specs.Prelude.{◌≡◌, ◌⊎◌, ◌<◌, ◌^◌, ℕ, Option, List, [], ◌∷◌};
+    ghost use Rattle.std.specs.Prelude.{◌≡◌, ◌<◌, ◌^◌, ℕ, Option, List, [], ◌∷◌, OnOk, IfErr};
     ghost use Rattle.srt_mailbox.specs.Ends.{Producer};
     ghost use Rattle.srt_poller.specs.Devices.{joined};
     ghost use Rattle.srt_serve.specs.Ticks.{accepts};
@@ -37,10 +37,11 @@ pub trait TickEnd {
     /// The moments of all ticks that were offered, the oldest first, or `None` for an end that doesn't record them.
     ghost tried: { Self → Option (List ℕ) };
 
-    /// Offers a tick, at a time in microseconds, below 2^62. A full inbox discards it.
-    fn offer_tick<R: Wait>(&mut self, rt: &R, moment: u64)
+    /// Offers a tick, at a time in microseconds, below 2^62. A full inbox discards it; the error is evidence of that.
+    fn offer_tick<R: Wait>(&mut self, rt: &R, moment: u64) -> Result<(), InboxFull>
         requires timely { moment < 2 ^ 62 }
-        ensures accepted { (inbox self.new ≡ inbox self.old) ⊎ (inbox self.new ≡ accepts moment (inbox self.old)) }
+        ensures accepted { OnOk result (inbox self.new ≡ accepts moment (inbox self.old)) }
+        ensures full { IfErr result (λ _. inbox self.new ≡ inbox self.old) }
         ensures records { tried self.new ≡ joined (tried self.old) (moment ∷ []) };
 
     /// Reads what `offer_tick` will read, so that the processor has it in its caches then. Changes nothing.
@@ -55,8 +56,11 @@ impl TickEnd for ClockEnd {
 
     ghost tried = { λ end. None };
 
-    fn offer_tick<R: Wait>(&mut self, rt: &R, moment: u64) {
-        let _ = self.offer(rt, Item::Tick { moment });
+    fn offer_tick<R: Wait>(&mut self, rt: &R, moment: u64) -> Result<(), InboxFull> {
+        match self.offer(rt, Item::Tick { moment }) {
+            Ok(()) => Ok(()),
+            Err(fault) => Err(fault.evidence),
+        }
     }
 
     fn touch(&mut self) {
@@ -146,7 +150,7 @@ fn tick_each<R: Wait, E: TickEnd>(rt: &R, ends: &mut [E], moment: u64)
     ensures { WereTicked E.inbox E.tried (moment ∷ []) ends.old ends.new }
 {
     for end in ends.iter_mut() {
-        end.offer_tick(rt, moment);
+        let _ = end.offer_tick(rt, moment);
     }
 }
 

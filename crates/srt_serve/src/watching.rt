@@ -1,6 +1,12 @@
 //! The watching thread of a run: it shows the routes to a watcher, reports refusals to it, passes its orders to the poller,
 //! and makes its changes of the routes.
 
+ghost use Rattle.std.specs.Prelude.{◌≡◌, ◌↔◌, ◌≤◌, ◌-◌, true, IfOk, IfErr, length, map, min, take};
+ghost use Rattle.srt_types.specs.Terms.{terms_of};
+ghost use Rattle.srt_serve.specs.Opened.{terms_in};
+ghost use Rattle.srt_mailbox.specs.Identities.{identity_in};
+ghost use Rattle.srt_serve.specs.inside.Changing.{IsChangeFault};
+ghost use Rattle.srt_serve.specs.inside.Watched.{known_first, known_with, known_checked};
 ghost use Rattle.srt_supervision.specs.Answers.{Answer};
 
 use crate::arrivals::{NameAttachment, RouteHost, RouteNotices, seat_route};
@@ -39,14 +45,19 @@ pub struct Changer<'a, C, A: Answers> {
 
 impl<C: RouteHost, A: Answers> Changer<'_, C, A> {
     // Opens all routes of a change, without a place.
-    fn open_all(&self, entries: &[Entry]) -> Result<Vec<Seat<NameAttachment>>, ChangeFault> {
+    fn open_all(&self, entries: &[Entry]) -> Result<Vec<Seat<NameAttachment>>, ChangeFault>
+        ensures terms { IfOk result (λ seats. terms_in (map (λ s. identity_in s.cell) seats.items) ≡ map terms_of entries.now) }
+        ensures fault { IfErr result (λ fault. IsChangeFault (length self.now.places.now - self.now.routes) (length entries.now) fault) }
+    {
         let left = self.places.len().saturating_sub(self.routes);
         if entries.len() > left {
             return Err(ChangeFault::NoIndexLeft(left));
         }
         let mut seats = Vec::new(self.alloc);
-        for (at, entry) in entries.iter().enumerate() {
-            let Ok(seat) = seat_route(self.alloc, entry, self.routes.wrapping_add(at)) else {
+        for entry in entries {
+            let at = seats.len();
+            let index = self.routes.wrapping_add(at);
+            let Ok(seat) = seat_route(self.alloc, entry, index) else {
                 return Err(ChangeFault::OutOfMemory(at));
             };
             let Ok(()) = seats.push(seat) else {
@@ -67,7 +78,9 @@ impl<C: RouteHost, A: Answers> Changer<'_, C, A> {
     }
 
     // The places that are taken.
-    fn taken(&self) -> &[C] {
+    fn taken(&self) -> &[C]
+        ensures { result.now ≡ take (min self.now.routes (length self.now.places.now)) self.now.places.now }
+    {
         let taken = self.routes.min(self.places.len());
         &self.places[..taken]
     }
@@ -165,16 +178,53 @@ struct Known {
 }
 
 impl Known {
-    // Takes the counts that were left since, if there are any.
-    fn take<A: Answers>(&mut self, channel: &WatcherChannel<A>) {
-        if let Some(counts) = channel.report.take() {
-            self.counts = counts;
-            self.reports = self.reports.saturating_add(1);
+    // Nothing was reported, and nothing checked.
+    const fn new() -> Known
+        ensures { result ≡ known_first }
+    {
+        Known {
+            counts: Report::NOTHING,
+            reports: 0,
+            quiet: 0,
+        }
+    }
+
+    // The same with the counts that were left since, if there are any.
+    fn with_counts(self, left: Option<Report>) -> Known
+        ensures { result ≡ known_with left self }
+    {
+        match left {
+            Some(counts) => Known {
+                counts,
+                reports: self.reports.saturating_add(1),
+                quiet: self.quiet,
+            },
+            None => self,
+        }
+    }
+
+    // The same after a check that found all quiet or not.
+    fn checked(self, is_quiet: bool) -> Known
+        ensures { result ≡ known_checked is_quiet self }
+    {
+        let quiet = if is_quiet {
+            self.quiet.saturating_add(1)
+        } else {
+            0
+        };
+        Known {
+            counts: self.counts,
+            reports: self.reports,
+            quiet,
         }
     }
 
     // Returns what the watcher gets before its next rest.
-    fn status<A: Answers>(&self, channel: &WatcherChannel<A>) -> RunStatus {
+    fn status<A: Answers>(&self, channel: &WatcherChannel<A>) -> RunStatus
+        ensures quiet { (result.is_quiet ≡ true) ↔ (2 ≤ self.now.quiet) }
+        ensures counts { result.counts ≡ self.now.counts }
+        ensures reports { result.reports ≡ self.now.reports }
+    {
         RunStatus {
             is_quiet: self.quiet >= QUIET_CHECKS,
             faults: channel.faults(),
@@ -196,7 +246,7 @@ fn watch_once<R: Wait, C: Serve + RouteHost, A: Answers, T: Watch>(
 )
     requires { (a : Answer) → T.answered a → A.answered a }
 {
-    known.take(channel);
+    *known = known.with_counts(channel.report.take());
     let order = watch.next(known.status(channel));
     channel.set_order(order);
     report_refusals(rt, channel, watch);
@@ -206,11 +256,7 @@ fn watch_once<R: Wait, C: Serve + RouteHost, A: Answers, T: Watch>(
         watch.change_routes(changer);
     }
     let is_quiet = (looks || closes) && show_all(rt, changer.taken(), watch, looks);
-    known.quiet = if is_quiet && closes && !wakeups.any_outbox_ready() {
-        known.quiet.saturating_add(1)
-    } else {
-        0
-    };
+    *known = known.checked(is_quiet && closes && !wakeups.any_outbox_ready());
 }
 
 /// Watches until the run has ended. After each rest of the watcher the poller gets its order, the refusals that wait are
@@ -226,11 +272,7 @@ pub fn watch_routes<R: Wait, C: Serve + RouteHost, A: Answers, T: Watch>(
     requires { (a : Answer) → T.answered a → A.answered a }
 {
     wakeups.arrive();
-    let mut known = Known {
-        counts: Report::NOTHING,
-        reports: 0,
-        quiet: 0,
-    };
+    let mut known = Known::new();
     for _ in rt.forever() {
         if wakeups.is_done() {
             return;

@@ -1,0 +1,16 @@
+use Rattle.std.proofs.Common.{arith, ap, ◌∙◌, [], ◌∷◌, length, map}
+use Rattle.std.proofs.lemmas.List.{map-append, length-append}
+use Rattle.srt_mailbox.specs.Identities.{identity_in}
+use Rattle.srt_serve.proofs.Openings.{terms_grow}
+use Rattle.srt_serve.proofs.watching.Changer.open_all.Goals as goal
+
+pub loop-entry-preserved : goal.loop-entry-preserved
+loop-entry-preserved g c = record {
+  terms =
+      terms_grow c.args.entries.now c.loop-entry.entry-index c.entry-item.result _ _ (identity_in c.in-Ok.seat.cell) c.loop-entry-test.true c.entry-item.is
+      c.in-Ok.ensures.0
+      (ap (λ seats. map (λ s. identity_in s.cell) seats) c.in-Ok-push.ensures.items
+      ∙ map-append (λ s. identity_in s.cell) c.loop-entry.seats.items (c.in-Ok.seat ∷ []))
+      c.loop-entry.invariant.terms;
+  many = omega (arith, c.loop-entry.invariant.many, ap length c.in-Ok-push.ensures.items, length-append c.loop-entry.seats.items (c.in-Ok.seat ∷ []));
+}

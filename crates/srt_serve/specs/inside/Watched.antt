@@ -1,0 +1,35 @@
+-- What is known between two rests of a watcher.
+use Rattle.std.specs.Prelude.{Bool, true, false, ◌+◌, ◌-◌, ◌^◌, min, Option, None, Some}
+use Rattle.srt_supervision.specs.declared.report.Report.{Report}
+use Rattle.srt_serve.specs.declared.watching.Known.{Known}
+
+-- before the first report
+abbrev pub known_first : Known
+known_first =
+    record {
+      counts =
+          record {
+            read = 0;
+            answered = 0;
+            accepted = 0;
+            full = 0;
+            dropped = 0;
+            not_allowed = 0;
+            memory = 0;
+            sent = 0;
+            lost = 0;
+            faults = 0;
+          };
+      reports = 0;
+      quiet = 0;
+    }
+
+-- with the counts that were left since, if there are any: one report more
+abbrev pub known_with : Option Report → Known → Known
+known_with None known = known
+known_with (Some counts) known = record { counts = counts; reports = min (known.reports + 1) (2 ^ 64 - 1); quiet = known.quiet }
+
+-- after a check that found all quiet, or not
+abbrev pub known_checked : (is_quiet : Bool) → Known → Known
+known_checked true known = record { counts = known.counts; reports = known.reports; quiet = min (known.quiet + 1) (2 ^ 32 - 1) }
+known_checked false known = record { counts = known.counts; reports = known.reports; quiet = 0 }
