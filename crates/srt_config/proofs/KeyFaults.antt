@@ -14,7 +14,7 @@ use Rattle.srt_types.specs.declared.shared.Callers.{Callers as TheCallers}
 use Rattle.srt_types.specs.declared.shared.Callers.TheVariants as callers
 use Rattle.srt_lobby.specs.Opening.{is_taken}
 use Rattle.srt_config.specs.declared.config.table.Key.{Key}
-use Rattle.srt_config.specs.declared.config.table.Key.TheVariants.{Secret, Bind, Workers, Status, Route, Name, Mode, LatencyMs, Buffer}
+use Rattle.srt_config.specs.declared.config.table.Key.TheVariants.{Secret, Bind, Workers, Status, Defaults, Route, Name, Mode, LatencyMs, Buffer}
 use Rattle.srt_config.specs.declared.config.table.Key.TheVariants.{Sessions, Inbox, Outbox, OpenRound, CloseRound, Callers}
 use Rattle.srt_config.specs.declared.config.table.Key.TheVariants.{PublishFrom, RequestFrom, PublishKey, RequestKey, Reserved}
 use Rattle.srt_config.specs.declared.config.table.Key.TheVariants.{SessionsPerAddress, TakeoverMs, ResendPercent}
@@ -29,10 +29,14 @@ use Rattle.srt_config.specs.Keys.{number_value, number_at, optional_number_at, g
 use Rattle.srt_config.specs.Routes.{route_keys, name_in, mode_in, name_at, mode_at, Numbers, numbers_at, schedule_of, schedule_at}
 use Rattle.srt_config.specs.Routes.{terms_with, with_access, with_rules, Planned, planned, route_at, Routes, no_routes, with_route, are_tables, count}
 use Rattle.srt_config.specs.Routes.{routes_from, routes_in, routes_at}
-use Rattle.srt_config.specs.Config.{decoded, secret_in, secret_at, addressed, address_value, address_at, optional_address_at, top_keys, settings_at}
+use Rattle.srt_config.specs.Defaults.{default_keys, mode_value, optional_mode_at, numbers_right, limits_right, defaults_right, defaults_at}
+use Rattle.srt_config.specs.Defaults.{right_if_given}
+use Rattle.srt_config.specs.Config.{decoded, secret_in, secret_at, addressed, address_value, address_at, optional_address_at, top_keys, Settings}
+use Rattle.srt_config.specs.Config.{settings_at}
 use Rattle.srt_config.specs.KeyFaults.{Faulty, HasNone, ◌⊳◌, Unknown, AtKey, AtOptional, NoSecret, NoAddress, Outside, NoName, NoMode}
 use Rattle.srt_config.specs.KeyFaults.{InNumbers, number_or_0, opening_in, InSchedule, is_network, are_networks, NoNetworks, NoKeyText}
 use Rattle.srt_config.specs.KeyFaults.{InAccess, NoCallers, sessions_in, InRules, InRoute, InRoutes, NoRoutes, NoRoutesOrIn, InTable}
+use Rattle.srt_config.specs.KeyFaults.{InOptionalNumbers, InLimits, InDefaults}
 use Rattle.srt_config.specs.KeyFaults.{IsFirstFault}
 use Rattle.srt_config.proofs.Sound.{passed}
 
@@ -564,6 +568,68 @@ routes_at_tells : (table : Members) → Tells (routes_at table) (AtKey Route as_
 unfolding routes_at value_at
 routes_at_tells table = at_key Route as_array routes_in NoRoutesOrIn table items_tells
 
+-- the defaults
+optional_mode_tells : (table : Members) → Tells (optional_mode_at table) (AtOptional Mode as_str NoMode table)
+unfolding optional_mode_at mode_value mode_in text_value
+optional_mode_tells table =
+    at_optional Mode as_str mode_in NoMode table (λ text. mode_own text (bytes_eq text (codes "live")) (bytes_eq text (codes "buffer")) refl refl)
+
+optional_numbers_tell : (table : Members) → Tells (numbers_right table) (InOptionalNumbers table)
+unfolding numbers_right
+optional_numbers_tell table =
+    on (optional_number_at LatencyMs 20 8000 table) _ _ _ (optional_number_tells LatencyMs 20 8000 table) (λ latency_ms e.
+    on (optional_number_at Buffer 32 8192 table) _ _ _ (optional_number_tells Buffer 32 8192 table) (λ buffer e.
+    on (optional_number_at Sessions 1 17 table) _ _ _ (optional_number_tells Sessions 1 17 table) (λ sessions e.
+    on (optional_number_at Inbox 16 4096 table) _ _ _ (optional_number_tells Inbox 16 4096 table) (λ inbox e.
+    on (optional_number_at Outbox 16 4096 table) _ _ _ (optional_number_tells Outbox 16 4096 table) (λ outbox e.
+    on (optional_number_at OpenRound 0 1_000_000_000 table) _ _ _ (optional_number_tells OpenRound 0 1_000_000_000 table) (λ opens e.
+    last (optional_number_at CloseRound 1 1_000_000_000 table) (λ closes. tt) _ (optional_number_tells CloseRound 1 1_000_000_000 table)))))))
+
+limits_tell : (table : Members) → Tells (limits_right table) (InLimits table)
+unfolding limits_right
+limits_tell table =
+    on (optional_number_at Reserved 0 2 table) _ _ _ (optional_number_tells Reserved 0 2 table) (λ reserved e.
+    on (optional_number_at SessionsPerAddress 1 17 table) _ _ _ (optional_number_tells SessionsPerAddress 1 17 table) (λ per_address e.
+    on (optional_number_at TakeoverMs 100 5000 table) _ _ _ (optional_number_tells TakeoverMs 100 5000 table) (λ takeover_ms e.
+    last (optional_number_at ResendPercent 5 1000 table) (λ percent. tt) _ (optional_number_tells ResendPercent 5 1000 table))))
+
+pub defaults_tell : (table : Members) → Tells (defaults_right table) (InDefaults table)
+unfolding defaults_right
+defaults_tell table =
+    on (known default_keys table) _ _ _ (known_tells default_keys table) (λ u e.
+    on (optional_mode_at table) _ _ _ (optional_mode_tells table) (λ mode e.
+    on (numbers_right table) _ _ _ (optional_numbers_tell table) (λ numbers e.
+    on (callers_at table) _ _ _ (callers_tells table) (λ callers e.
+    on (access_at table) _ _ _ (access_tells table) (λ access e. limits_tell table)))))
+
+-- the table of defaults is read, and then checked
+check_is : (o : Option Data) → (optional (λ value. of_kind Defaults (as_table value)) o >>= right_if_given)
+    ≡ (optional (λ value. of_kind Defaults (as_table value) >>= defaults_right) o >>= λ x. Ok tt)
+check_is None = refl
+check_is (Some value) = of (as_table value)
+  where
+    by : (r : Result (Unit {0}) Fault) → r ≡ ((r >>= λ y. Ok (Some y)) >>= λ x. Ok tt)
+    by (Ok tt) = refl
+    by (Err fault) = refl
+
+    of : (k : Option Members) → ((of_kind Defaults k >>= λ t. Ok (Some t)) >>= right_if_given)
+        ≡ (((of_kind Defaults k >>= defaults_right) >>= λ y. Ok (Some y)) >>= λ x. Ok tt)
+    of None = refl
+    of (Some table) = by (defaults_right table)
+
+check_tells : (table : Members) → Tells (defaults_at table >>= right_if_given) (AtOptional Defaults as_table InDefaults table)
+unfolding defaults_at
+check_tells table =
+    same (defaults_at table >>= right_if_given)
+    (optional (λ value. of_kind Defaults (as_table value) >>= defaults_right) (get_member (key_name Defaults) table) >>= λ x. Ok tt)
+    (AtOptional Defaults as_table InDefaults table) (check_is (get_member (key_name Defaults) table))
+    (last (optional (λ value. of_kind Defaults (as_table value) >>= defaults_right) (get_member (key_name Defaults) table)) (λ x. tt) _
+    (at_optional Defaults as_table defaults_right InDefaults table defaults_tell))
+
+abbrev settings_with : (secret : List ℕ) (bind : Address) (workers : ℕ) (status : Option Address) → Routes → Settings
+settings_with secret bind workers status routes =
+    record { secret = secret; bind = bind; workers = workers; status = status; routes = routes.terms; schedules = routes.schedules }
+
 table_tells : (table : Members) → Tells (settings_at table) (InTable table)
 unfolding settings_at
 table_tells table =
@@ -572,10 +638,17 @@ table_tells table =
     on (address_at Bind table) _ _ _ (address_tells Bind table) (λ bind e.
     on (number_at Workers 1 16 table) _ _ _ (number_tells Workers 1 16 table) (λ workers e.
     on (optional_address_at Status table) _ _ _ (optional_address_tells Status table) (λ status e.
-    last (routes_at table)
-    (λ routes.
-    record { secret = secret; bind = bind; workers = workers; status = status; routes = routes.terms; schedules = routes.schedules })
-    _ (routes_at_tells table))))))
+    behind secret bind workers status)))))
+  where
+    behind : (secret : List ℕ) (bind : Address) (workers : ℕ) (status : Option Address) →
+        Tells (defaults_at table >>= λ defaults. right_if_given defaults >>= λ _. routes_at table >>= λ routes.
+        Ok (settings_with secret bind workers status routes))
+        ((AtOptional Defaults as_table InDefaults table) ⊳ (AtKey Route as_array NoRoutesOrIn table))
+    behind secret bind workers status =
+        same _ ((defaults_at table >>= right_if_given) >>= λ _. routes_at table >>= λ routes. Ok (settings_with secret bind workers status routes)) _
+        (sym (assoc (defaults_at table) right_if_given (λ _. routes_at table >>= λ routes. Ok (settings_with secret bind workers status routes))))
+        (on (defaults_at table >>= right_if_given) _ _ _ (check_tells table) (λ u e.
+        last (routes_at table) (settings_with secret bind workers status) _ (routes_at_tells table)))
 
 pub first_fault : IsFirstFault
 first_fault table fault = table_tells table fault

@@ -9,4 +9,5 @@ pub mod SameFile
 pub mod Compared
 pub mod Changed
 pub mod Placed
+pub mod Completed
 pub mod Groups

@@ -18,6 +18,7 @@ use Rattle.srt_lobby.specs.Opening.{is_taken, is_fresh, are_names, fault_of}
 use Rattle.srt_config.specs.declared.config.table.Key.{Key}
 use Rattle.srt_config.specs.declared.config.table.Key.TheVariants.{Route, Name, LatencyMs, Buffer, Sessions, Inbox, Outbox, OpenRound, CloseRound}
 use Rattle.srt_config.specs.declared.config.table.Key.TheVariants.{Reserved, SessionsPerAddress, TakeoverMs, ResendPercent}
+use Rattle.srt_config.specs.declared.config.placed.Place.{Place}
 use Rattle.srt_config.specs.declared.config.placed.PlacedFault.{PlacedFault}
 use Rattle.srt_config.specs.declared.config.routes.ReadRoutes.{ReadRoutes}
 use Rattle.srt_config.specs.Access.{access_at}
@@ -291,7 +292,7 @@ at_sound table all h =
     let i = passed (of_kind Route (as_array v.0)) _ all v.2 in
     in_sound i.0 all i.2
 
-pub sound_of : (table : Members) (place : Option ℕ) (r : Result ReadRoutes PlacedFault)
+pub sound_of : (table : Members) (place : Place) (r : Result ReadRoutes PlacedFault)
     → GivesAt routes_seen r (routes_at table) place → IfOk r (λ routes. ReadSoundly (routes_seen routes))
 sound_of table place (Ok routes) (inl m) = absurd cc
 sound_of table place (Ok routes) (inr h) = at_sound table (routes_seen routes) (sym h.0)

@@ -8,13 +8,14 @@ use Rattle.srt_types.specs.Terms.{Terms, terms_of}
 use Rattle.srt_types.specs.declared.shared.Schedule.{Schedule}
 use Rattle.srt_config.specs.declared.config.Config.{Config}
 use Rattle.srt_config.specs.declared.config.table.Key.{Key}
-use Rattle.srt_config.specs.declared.config.table.Key.TheVariants.{Secret, Bind, Workers, Status, Route}
+use Rattle.srt_config.specs.declared.config.table.Key.TheVariants.{Secret, Bind, Workers, Status, Defaults, Route}
 use Rattle.srt_config.specs.Address.{Address, address_in}
 use Rattle.srt_config.specs.AddressParts.{address_of}
 use Rattle.srt_config.specs.KeyTable.{key_name}
 use Rattle.srt_config.specs.FirstFault.{Fault, Toml, BadSecret, BadAddress, ◌>>=◌}
 use Rattle.srt_config.specs.Keys.{known, value_at, text_value, text_at, key_number_at, optional}
 use Rattle.srt_config.specs.Routes.{routes_at}
+use Rattle.srt_config.specs.Defaults.{defaults_at, right_if_given, with_defaults}
 
 abbrev pub decoded : Result (List ℕ) FromHexError → Result (List ℕ) Fault
 decoded (Ok bytes) = Ok bytes
@@ -54,9 +55,9 @@ pub record Settings : Type 0 where
 
 -- the keys of the table
 abbrev pub top_keys : List Key
-top_keys = Secret ∷ Bind ∷ Workers ∷ Status ∷ Route ∷ []
+top_keys = Secret ∷ Bind ∷ Workers ∷ Status ∷ Defaults ∷ Route ∷ []
 
--- the configuration in a table, or its first fault
+-- the configuration in a table whose routes have the defaults that they lack, or its first fault
 unfoldable pub settings_at : Members → Result Settings Fault
 settings_at table =
     known top_keys table >>= λ _.
@@ -64,12 +65,14 @@ settings_at table =
     address_at Bind table >>= λ bind.
     key_number_at Workers table >>= λ workers.
     optional_address_at Status table >>= λ status.
+    defaults_at table >>= λ defaults.
+    right_if_given defaults >>= λ _.
     routes_at table >>= λ routes.
     Ok (record { secret = secret; bind = bind; workers = workers; status = status; routes = routes.terms; schedules = routes.schedules })
 
--- the same of a text: its table, or None if it isn't TOML
+-- the configuration in a text with this table: that of the table in which each route has the defaults that it lacks; None if it isn't TOML
 abbrev pub config_in : Option Members → Result Settings Fault
-config_in (Some table) = settings_at table
+config_in (Some table) = settings_at (with_defaults table)
 config_in None = Err Toml
 
 abbrev pub settings_of : Config → Settings

@@ -8,7 +8,7 @@ use Rattle.srt_types.specs.Entries.{is_between, is_name}
 use Rattle.srt_types.specs.Terms.{Terms}
 use Rattle.srt_lobby.specs.Opening.{is_taken}
 use Rattle.srt_config.specs.declared.config.table.Key.{Key}
-use Rattle.srt_config.specs.declared.config.table.Key.TheVariants.{Secret, Bind, Workers, Status, Route, Name, Mode, LatencyMs, Buffer}
+use Rattle.srt_config.specs.declared.config.table.Key.TheVariants.{Secret, Bind, Workers, Status, Defaults, Route, Name, Mode, LatencyMs, Buffer}
 use Rattle.srt_config.specs.declared.config.table.Key.TheVariants.{Sessions, Inbox, Outbox, OpenRound, CloseRound, Callers}
 use Rattle.srt_config.specs.declared.config.table.Key.TheVariants.{PublishFrom, RequestFrom, PublishKey, RequestKey, Reserved}
 use Rattle.srt_config.specs.declared.config.table.Key.TheVariants.{SessionsPerAddress, TakeoverMs, ResendPercent}
@@ -19,6 +19,7 @@ use Rattle.srt_config.specs.FirstFault.{Fault, UnknownKey, Missing, WrongKind, O
 use Rattle.srt_config.specs.Address.{address_in}
 use Rattle.srt_config.specs.Keys.{least_unknown}
 use Rattle.srt_config.specs.Routes.{route_keys, Planned, route_at, are_tables, count}
+use Rattle.srt_config.specs.Defaults.{default_keys}
 use Rattle.srt_config.specs.Config.{top_keys, settings_at}
 
 -- a set of faults
@@ -78,6 +79,17 @@ InNumbers table =
     AtKey Sessions as_integer (Outside Sessions 1 17) table ⊳
     AtKey Inbox as_integer (Outside Inbox 16 4096) table ⊳
     AtKey Outbox as_integer (Outside Outbox 16 4096) table
+
+-- the same keys and those of a schedule, where they may be missing
+abbrev pub InOptionalNumbers : Members → Faulty
+InOptionalNumbers table =
+    AtOptional LatencyMs as_integer (Outside LatencyMs 20 8000) table ⊳
+    AtOptional Buffer as_integer (Outside Buffer 32 8192) table ⊳
+    AtOptional Sessions as_integer (Outside Sessions 1 17) table ⊳
+    AtOptional Inbox as_integer (Outside Inbox 16 4096) table ⊳
+    AtOptional Outbox as_integer (Outside Outbox 16 4096) table ⊳
+    AtOptional OpenRound as_integer (Outside OpenRound 0 1_000_000_000) table ⊳
+    AtOptional CloseRound as_integer (Outside CloseRound 1 1_000_000_000) table
 
 -- a number at a key, 0 if the key is missing
 abbrev pub number_or_0 : Option ℤ → ℕ
@@ -139,6 +151,14 @@ InRules table =
     AtOptional TakeoverMs as_integer (Outside TakeoverMs 100 5000) table ⊳
     AtOptional ResendPercent as_integer (Outside ResendPercent 5 1000) table
 
+-- the same keys by themselves
+abbrev pub InLimits : Members → Faulty
+InLimits table =
+    AtOptional Reserved as_integer (Outside Reserved 0 2) table ⊳
+    AtOptional SessionsPerAddress as_integer (Outside SessionsPerAddress 1 17) table ⊳
+    AtOptional TakeoverMs as_integer (Outside TakeoverMs 100 5000) table ⊳
+    AtOptional ResendPercent as_integer (Outside ResendPercent 5 1000) table
+
 -- the keys of one route, in their order, after these routes
 abbrev pub InRoute : (before : List Terms) → Members → Faulty
 InRoute before table =
@@ -167,6 +187,16 @@ NoRoutes items fault =
 abbrev pub NoRoutesOrIn : Items → Faulty
 NoRoutesOrIn items = NoRoutes items ⊳ InRoutes [] items
 
+-- the keys of the table of defaults, in the order of a route's, each by itself
+abbrev pub InDefaults : Members → Faulty
+InDefaults table =
+    Unknown default_keys table ⊳
+    AtOptional Mode as_str NoMode table ⊳
+    InOptionalNumbers table ⊳
+    AtOptional Callers as_str NoCallers table ⊳
+    InAccess table ⊳
+    InLimits table
+
 -- the keys of the whole table, in their order
 abbrev pub InTable : Members → Faulty
 InTable table =
@@ -175,6 +205,7 @@ InTable table =
     AtKey Bind as_str (NoAddress Bind) table ⊳
     AtKey Workers as_integer (Outside Workers 1 16) table ⊳
     AtOptional Status as_str (NoAddress Status) table ⊳
+    AtOptional Defaults as_table InDefaults table ⊳
     AtKey Route as_array NoRoutesOrIn table
 
 -- the fault that is returned is that of the first key that has one

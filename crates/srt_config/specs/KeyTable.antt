@@ -1,12 +1,12 @@
 -- The table of keys: how each key of a configuration is written, and which values it may have (our choice).
 use Rattle.std.specs.Prelude.{ℕ, Bool, true, false, List, Option, None, Some, codes}
 use Rattle.srt_config.specs.declared.config.table.Key.{Key}
-use Rattle.srt_config.specs.declared.config.table.Key.TheVariants.{Secret, Bind, Workers, Status, Route, Name, Mode, LatencyMs, Buffer}
+use Rattle.srt_config.specs.declared.config.table.Key.TheVariants.{Secret, Bind, Workers, Status, Defaults, Route, Name, Mode, LatencyMs, Buffer}
 use Rattle.srt_config.specs.declared.config.table.Key.TheVariants.{Sessions, Inbox, Outbox, OpenRound, CloseRound, Callers, PublishFrom, RequestFrom}
 use Rattle.srt_config.specs.declared.config.table.Key.TheVariants.{PublishKey, RequestKey, Reserved, SessionsPerAddress, TakeoverMs}
 use Rattle.srt_config.specs.declared.config.table.Key.TheVariants.{ResendPercent}
 use Rattle.srt_config.specs.declared.config.table.ValueKind.{ValueKind}
-use Rattle.srt_config.specs.declared.config.table.ValueKind.TheVariants.{Text, Number, Networks, Tables}
+use Rattle.srt_config.specs.declared.config.table.ValueKind.TheVariants.{Text, Number, Networks, Table, Tables}
 use Rattle.srt_config.specs.declared.config.table.Limits.{Limits}
 use Rattle.srt_config.specs.declared.config.table.Choices.{Choices}
 
@@ -15,6 +15,7 @@ key_name Secret = codes "secret"
 key_name Bind = codes "bind"
 key_name Workers = codes "workers"
 key_name Status = codes "status"
+key_name Defaults = codes "defaults"
 key_name Route = codes "route"
 key_name Name = codes "name"
 key_name Mode = codes "mode"
@@ -41,6 +42,7 @@ kind_of Secret = Text
 kind_of Bind = Text
 kind_of Workers = Number
 kind_of Status = Text
+kind_of Defaults = Table
 kind_of Route = Tables
 kind_of Name = Text
 kind_of Mode = Text
@@ -65,12 +67,13 @@ abbrev pub between : (least most : ℕ) → Limits
 between least most = record { least = least; most = most }
 
 -- the limits of a key's value: of a number its value, of a text its bytes, of a list its members. An address or one of two texts
--- has no limit but its form
+-- has no limit but its form, and the table of defaults none
 abbrev pub limits_of : Key → Limits
 limits_of Secret = between 64 64
 limits_of Bind = between 0 4_294_967_295
 limits_of Workers = between 1 16
 limits_of Status = between 0 4_294_967_295
+limits_of Defaults = between 0 4_294_967_295
 limits_of Route = between 1 511
 limits_of Name = between 1 64
 limits_of Mode = between 0 4_294_967_295
@@ -100,6 +103,7 @@ choices_of Secret = None
 choices_of Bind = None
 choices_of Workers = None
 choices_of Status = None
+choices_of Defaults = None
 choices_of Route = None
 choices_of Name = None
 choices_of Mode = Some (codes "live", codes "buffer")
@@ -120,12 +124,13 @@ choices_of SessionsPerAddress = None
 choices_of TakeoverMs = None
 choices_of ResendPercent = None
 
--- the values of the secret and of the keys of roles are printed nowhere
+-- the values of the secret, of the keys of roles and of the defaults, which may have such keys, are printed nowhere
 abbrev pub is_private : Key → Bool
 is_private Secret = true
 is_private Bind = false
 is_private Workers = false
 is_private Status = false
+is_private Defaults = true
 is_private Route = false
 is_private Name = false
 is_private Mode = false

@@ -9,8 +9,10 @@ pub mod AddressParts
 pub mod Access
 pub mod Rules
 pub mod Routes
+pub mod Defaults
 pub mod RouteNumbers
 pub mod Config
+pub mod DefaultLaws
 pub mod SameKeys
 pub mod Changes
 pub mod ChangeLaws

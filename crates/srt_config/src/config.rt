@@ -9,6 +9,7 @@ ghost use Rattle.srt_config.specs.Routes.{closes_later};
 
 mod access;
 mod address;
+mod defaults;
 mod faults;
 mod keys;
 mod placed;
@@ -20,13 +21,14 @@ mod values;
 
 pub use access::{is_key_text, read_network};
 pub use address::BindAddress;
+pub use defaults::{has_defaults, with_defaults};
 pub use faults::ConfigFault;
-pub use placed::PlacedFault;
+pub use placed::{Place, PlacedFault};
 pub use reading::{read_config, read_table};
 pub use routes::RouteNumbers;
 use srt_cookie::Secret;
 use srt_types::{Entry, Schedule};
-pub use table::{Choices, Key, Limits, ROUTE_KEYS, TOP_KEYS, ValueKind};
+pub use table::{Choices, DEFAULT_KEYS, Key, Limits, ROUTE_KEYS, TOP_KEYS, ValueKind};
 
 /// A configuration of a gateway.
 #[derive(Drop)]

@@ -1,18 +1,30 @@
 //! Laws of the definitions.
 
 ghost use Rattle.srt_config.specs.KeyFaults.{IsFirstFault};
-ghost use Rattle.srt_config.specs.PlaceLaws.{PlacesTheFault};
+ghost use Rattle.srt_config.specs.PlaceLaws.{PlacesTheFault, PlacesTheDefaults};
+ghost use Rattle.srt_config.specs.DefaultLaws.{OwnBeforeDefault, NoneWithoutDefaults, WrittenOutStays};
 ghost use Rattle.srt_config.specs.ChangeLaws.{SameKeysDecide, SameRequestsNothing, ChangesAreMeant, RunsTheFile};
 
 /// The fault of a configuration is that of the first key that has one, in this order: the least unknown key of the
-/// table, `secret`, `bind`, `workers` and `route`; then for each route its least unknown key and its keys.
+/// table, `secret`, `bind`, `workers`, `status`, the keys of `defaults`, and `route`; then for each route its least unknown key
+/// and its keys.
 pub fn configurations()
     ensures { IsFirstFault }
 {}
 
-/// A fault with a route's number is one of the route of this number, and all routes before it are without a fault.
+/// A fault with a route's number is one of the route of this number, and all routes before it are without a fault. A fault of
+/// the defaults is one of their keys.
 pub fn places()
-    ensures { PlacesTheFault }
+    ensures routes { PlacesTheFault }
+    ensures defaults { PlacesTheDefaults }
+{}
+
+/// A route has its own value at each key of its table, whatever the defaults are, and the default at each key that it lacks. A
+/// configuration without defaults is read as it is, and so is a route that has every key of the defaults.
+pub fn defaults()
+    ensures own { OwnBeforeDefault }
+    ensures none { NoneWithoutDefaults }
+    ensures written { WrittenOutStays }
 {}
 
 /// Two routes of configurations are compared exactly: the test says that their keys are the same if, and only if, all of

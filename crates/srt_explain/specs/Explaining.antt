@@ -1,5 +1,5 @@
 -- What an explanation of a configuration has to do with its reading (our choice).
-use Rattle.std.specs.Prelude.{◌≡◌, ℕ, ◌⊎◌, Bool, true, false, [], map, Option, Some, option_map, Result, Ok, Err, IfErr}
+use Rattle.std.specs.Prelude.{◌≡◌, ◌⊎◌, Bool, true, false, [], map, Option, Some, Result, Ok, Err, IfErr}
 use Rattle.std.specs.Fmt.InlineText.{inline_text}
 use Rattle.toml.specs.Data.{Members}
 use Rattle.srt_types.specs.Terms.{terms_of}
@@ -7,11 +7,14 @@ use Rattle.srt_config.specs.declared.config.Config.{Config}
 use Rattle.srt_config.specs.declared.config.faults.ConfigFault.{ConfigFault}
 use Rattle.srt_config.specs.declared.config.faults.ConfigFault.TheVariants.{Toml, UnknownKey, Missing, WrongKind, OutOfRange, BadName}
 use Rattle.srt_config.specs.declared.config.faults.ConfigFault.TheVariants.{RepeatedName, BadSecret, BadAddress, OutOfMemory}
+use Rattle.srt_config.specs.declared.config.placed.Place.{Place}
+use Rattle.srt_config.specs.declared.config.placed.Place.TheVariants as place
 use Rattle.srt_config.specs.KeyTable.{is_private}
-use Rattle.srt_config.specs.FaultPlace.{document_place}
+use Rattle.srt_config.specs.Defaults.{with_defaults}
 use Rattle.srt_explain.specs.declared.explaining.Explained.{Explained}
 use Rattle.srt_explain.specs.declared.explanation.Explanation.{Explanation}
-use Rattle.srt_explain.specs.declared.explanation.RouteAt.{RouteAt}
+use Rattle.srt_explain.specs.declared.explanation.Part.{Part}
+use Rattle.srt_explain.specs.declared.explanation.Part.TheVariants as parts
 use Rattle.srt_explain.specs.declared.explanation.Hint.{Hint}
 use Rattle.srt_explain.specs.declared.explanation.Hint.TheVariants as hints
 use Rattle.srt_explain.specs.Warnings.{warnings_of}
@@ -21,13 +24,15 @@ abbrev pub plain : Result Explained Explanation → Result Config ConfigFault
 plain (Ok explained) = Ok explained.config
 plain (Err explanation) = Err explanation.fault
 
-abbrev pub number_of : RouteAt → ℕ
-number_of route = route.number
+-- the place of the part that is named
+abbrev pub place_of : Part → Place
+place_of parts.Above = place.Above
+place_of parts.Defaults = place.Defaults
+place_of (parts.Route route) = place.Route route.number
 
--- the route that is named is the one that has the fault, unless an allocation failed
-abbrev pub HasPlace : Option Members → Result Explained Explanation → Type 0
-HasPlace document answer =
-    IfErr answer (λ explanation. (explanation.fault ≡ OutOfMemory) ⊎ (option_map number_of explanation.route ≡ document_place document))
+-- the part that is named is the one that has the fault, unless an allocation failed
+abbrev pub HasPlace : Place → Result Explained Explanation → Type 0
+HasPlace at answer = IfErr answer (λ explanation. (explanation.fault ≡ OutOfMemory) ⊎ (place_of explanation.part ≡ at))
 
 -- the value at the key with this fault is printed nowhere: it is private, or the key is unknown and may be a misspelled private one
 abbrev pub is_fault_private : ConfigFault → Bool
@@ -78,8 +83,10 @@ abbrev pub IsPrivate : Explanation → Type 0
 IsPrivate explanation =
     is_fault_private explanation.fault ≡ true → (inline_text explanation.value ≡ []) × (is_hint_private explanation.hint ≡ true)
 
--- the warnings are those of the table that the text is, and of the status page and the routes that were read from it
+-- the warnings are those of this table, and of the status page and the routes that were read from it
+abbrev pub WarnsOf : Members → Explained → Type 0
+WarnsOf table explained = explained.warnings.items ≡ warnings_of table explained.config.status (map terms_of explained.config.entries.items)
+
+-- the same of the table that the text is, with the defaults in each route
 abbrev pub HasWarnings : Option Members → Explained → Type 0
-HasWarnings document explained =
-    (table : Members) × (document ≡ Some table) ×
-    (explained.warnings.items ≡ warnings_of table explained.config.status (map terms_of explained.config.entries.items))
+HasWarnings document explained = (table : Members) × (document ≡ Some table) × WarnsOf (with_defaults table) explained

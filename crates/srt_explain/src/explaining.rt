@@ -1,23 +1,25 @@
 //! Reads a configuration and explains the result.
 
-ghost use Rattle.std.specs.Prelude.{◌≡◌, IfOk, IfErr, IsUtf8, Err, Some, None, true, [], map, option_map};
+ghost use Rattle.std.specs.Prelude.{◌≡◌, IfOk, IfErr, IsUtf8, Err, Some, true, [], map};
 ghost use Rattle.std.specs.Fmt.InlineText.{inline_text};
 ghost use Rattle.toml.specs.Parse.{parse_document};
 ghost use Rattle.toml.specs.View.{table_view};
 ghost use Rattle.srt_config.specs.FirstFault.{Gives};
 ghost use Rattle.srt_config.specs.Config.{settings_at, settings_of, config_in};
+ghost use Rattle.srt_config.specs.declared.config.placed.Place.TheVariants as place;
+ghost use Rattle.srt_config.specs.FaultPlace.{fault_place, document_place};
 ghost use Rattle.srt_config.specs.KeyTable.{is_private};
 ghost use Rattle.srt_types.specs.Terms.{terms_of};
 ghost use Rattle.srt_explain.specs.Warnings.{route_of, name_at, name_for};
-ghost use Rattle.srt_explain.specs.Explaining.{plain, number_of, HasPlace, is_fault_private, is_hint_private, IsPrivate, HasWarnings};
+ghost use Rattle.srt_explain.specs.Explaining.{plain, place_of, HasPlace, is_fault_private, is_hint_private, IsPrivate, WarnsOf, HasWarnings};
 
-use crate::explanation::{Explanation, Hint, RouteAt, bare};
+use crate::explanation::{Explanation, Hint, Part, RouteAt, bare};
 use crate::hints::{
     of_bad_address, of_kind, of_name, of_range, of_same_name, of_secret, of_text, of_unknown,
 };
-use crate::values::{route_at, routes_before, text_or_empty, value_at};
+use crate::values::{defaults_of, route_at, routes_before, text_or_empty, value_at};
 use crate::warnings::{Warning, WarningText, warnings_of};
-use srt_config::{Config, ConfigFault, Key, PlacedFault, read_table};
+use srt_config::{Config, ConfigFault, Key, Place, PlacedFault, read_table, with_defaults};
 use srt_types::{Entry, is_name};
 use std::alloc::Global;
 use std::fmt::InlineText;
@@ -97,14 +99,14 @@ fn at_key(table: &Table, key: Key, hint: Hint) -> Known
     }
 }
 
-/// Returns what is known of a fault in a table: that of its route, or the whole one if it isn't one route's. `before` are
-/// the tables of the routes before.
-fn known_of(at: &Table, in_route: bool, before: &[Value], fault: &ConfigFault) -> Known
+/// Returns what is known of a fault in a table: that of the part that has this place. `before` are the tables of the routes
+/// before.
+fn known_of(at: &Table, place: Place, before: &[Value], fault: &ConfigFault) -> Known
     ensures value { is_fault_private fault.now ≡ true → inline_text result.value ≡ [] }
     ensures hint { is_fault_private fault.now ≡ true → is_hint_private result.hint ≡ true }
 {
     match fault {
-        ConfigFault::UnknownKey(key) => only(of_unknown(in_route, key.as_str())),
+        ConfigFault::UnknownKey(key) => only(of_unknown(place, key.as_str())),
         ConfigFault::WrongKind(key) => at_key(at, *key, of_kind(at, *key)),
         ConfigFault::OutOfRange(key) => at_key(at, *key, of_range(at, *key)),
         ConfigFault::BadName => at_key(at, Key::Name, of_name(text_or_empty(at, Key::Name))),
@@ -138,70 +140,69 @@ fn route_of(number: usize, route: &Table, fault: &ConfigFault) -> RouteAt
     }
 }
 
-/// Explains a fault of the route of this number.
-fn explained_in_route(table: &Table, fault: ConfigFault, number: usize) -> Explanation
+/// Explains a fault in the part of this place, whose table is `at` if it is there.
+fn explained_at(
+    at: Option<&Table>,
+    place: Place,
+    part: Part,
+    before: &[Value],
+    fault: ConfigFault,
+) -> Explanation
     ensures fault { result.fault ≡ fault }
-    ensures route { option_map number_of result.route ≡ Some number }
+    ensures part { result.part ≡ part }
     ensures private { IsPrivate result }
 {
-    let before = routes_before(table, number);
-    match route_at(table, number) {
-        Some(route) => {
-            let known = known_of(route, true, before, &fault);
-            let at = route_of(number, route, &fault);
-            Explanation {
-                fault,
-                route: Some(at),
-                value: known.value,
-                hint: known.hint,
-            }
-        }
-        None => Explanation {
-            fault,
-            route: Some(RouteAt {
-                number,
-                name: InlineText::new(),
-            }),
-            value: InlineText::new(),
-            hint: Hint::Nothing,
-        },
-    }
-}
-
-/// Explains a fault that isn't one route's.
-fn explained_above(table: &Table, fault: ConfigFault) -> Explanation
-    ensures fault { result.fault ≡ fault }
-    ensures route { result.route ≡ None }
-    ensures private { IsPrivate result }
-{
-    let known = known_of(table, false, &[], &fault);
+    let known = match at {
+        Some(table) => known_of(table, place, before, &fault),
+        None => only(Hint::Nothing),
+    };
     Explanation {
         fault,
-        route: None,
+        part,
         value: known.value,
         hint: known.hint,
     }
 }
 
+/// Explains a fault of the route of this number.
+fn explained_in_route(table: &Table, fault: ConfigFault, number: usize) -> Explanation
+    ensures fault { result.fault ≡ fault }
+    ensures part { place_of result.part ≡ place.Route number }
+    ensures private { IsPrivate result }
+{
+    let route = route_at(table, number);
+    let at = match route {
+        Some(route) => route_of(number, route, &fault),
+        None => RouteAt {
+            number,
+            name: InlineText::new(),
+        },
+    };
+    let before = routes_before(table, number);
+    explained_at(route, Place::Route(number), Part::Route(at), before, fault)
+}
+
 /// Explains the fault of this table.
 fn explained_fault(table: &Table, placed: PlacedFault) -> Explanation
     ensures fault { result.fault ≡ placed.fault }
-    ensures route { option_map number_of result.route ≡ placed.route }
+    ensures part { place_of result.part ≡ placed.place }
     ensures private { IsPrivate result }
 {
-    let PlacedFault { fault, route } = placed;
-    match route {
-        Some(number) => explained_in_route(table, fault, number),
-        None => explained_above(table, fault),
+    let PlacedFault { fault, place } = placed;
+    match place {
+        Place::Route(number) => explained_in_route(table, fault, number),
+        Place::Defaults => explained_at(defaults_of(table), place, Part::Defaults, &[], fault),
+        Place::Above => explained_at(Some(table), place, Part::Above, &[], fault),
     }
 }
 
-/// Reads the configuration in a table with its warnings, or explains its first fault.
+/// Reads the configuration in a table, whose routes have the defaults that they lack, with its warnings, or explains its first
+/// fault.
 fn explain_table(alloc: Global, table: &Table) -> Result<Explained, Explanation>
     ensures gives { Gives settings_of (plain result) (settings_at (table_view table.now)) }
-    ensures place { HasPlace (Some (table_view table.now)) result }
+    ensures place { HasPlace (fault_place (table_view table.now)) result }
     ensures private { IfErr result IsPrivate }
-    ensures warnings { IfOk result (HasWarnings (Some (table_view table.now))) }
+    ensures warnings { IfOk result (WarnsOf (table_view table.now)) }
 {
     let config = match read_table(alloc, table) {
         Ok(config) => config,
@@ -216,25 +217,38 @@ fn explain_table(alloc: Global, table: &Table) -> Result<Explained, Explanation>
 /// Explains a text that isn't TOML from this place on, with the message of its reader.
 fn explained_text(text: &[u8], at: usize, message: &str) -> Explanation
     ensures fault { result.fault ≡ ConfigFault.Toml }
-    ensures route { result.route ≡ None }
+    ensures part { result.part ≡ Part.Above }
 {
     Explanation {
         fault: ConfigFault::Toml,
-        route: None,
+        part: Part::Above,
         value: InlineText::of(message),
         hint: of_text(text, at),
+    }
+}
+
+/// The same of a table as it was written.
+fn explain_written(alloc: Global, table: Table) -> Result<Explained, Explanation>
+    ensures gives { Gives settings_of (plain result) (config_in (Some (table_view table))) }
+    ensures place { HasPlace (document_place (Some (table_view table))) result }
+    ensures private { IfErr result IsPrivate }
+    ensures warnings { IfOk result (HasWarnings (Some (table_view table))) }
+{
+    match with_defaults(alloc, table) {
+        Ok(whole) => explain_table(alloc, &whole),
+        Err(_) => Err(bare(ConfigFault::OutOfMemory)),
     }
 }
 
 /// Reads the configuration in a text with its warnings, or explains its first fault.
 fn explain_text(alloc: Global, text: &str) -> Result<Explained, Explanation>
     ensures gives { Gives settings_of (plain result) (config_in (parse_document text.now)) }
-    ensures place { HasPlace (parse_document text.now) result }
+    ensures place { HasPlace (document_place (parse_document text.now)) result }
     ensures private { IfErr result IsPrivate }
     ensures warnings { IfOk result (HasWarnings (parse_document text.now)) }
 {
     match toml::table_from_str(alloc, text) {
-        Ok(table) => explain_table(alloc, &table),
+        Ok(table) => explain_written(alloc, table),
         Err(error) if error.is_memory() => Err(bare(ConfigFault::OutOfMemory)),
         Err(error) => {
             let at = match error.span() {
@@ -253,7 +267,7 @@ fn explain_text(alloc: Global, text: &str) -> Result<Explained, Explanation>
 pub fn explain(alloc: Global, bytes: &[u8]) -> Result<Explained, Explanation>
     ensures gives { IsUtf8 bytes.now → Gives settings_of (plain result) (config_in (parse_document bytes.now)) }
     ensures no_text { ¬ (IsUtf8 bytes.now) → plain result ≡ Err ConfigFault.Toml }
-    ensures place { IsUtf8 bytes.now → HasPlace (parse_document bytes.now) result }
+    ensures place { IsUtf8 bytes.now → HasPlace (document_place (parse_document bytes.now)) result }
     ensures private { IfErr result IsPrivate }
     ensures warnings { IfOk result (HasWarnings (parse_document bytes.now)) }
 {

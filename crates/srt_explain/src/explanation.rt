@@ -16,6 +16,17 @@ pub struct RouteAt {
     pub name: InlineText<64>,
 }
 
+/// The part of a configuration that has a fault.
+#[derive(Clone, Copy)]
+pub enum Part {
+    /// The keys above the routes, or the list of the routes as a whole.
+    Above,
+    /// The table of defaults.
+    Defaults,
+    /// A route, with the defaults that it lacks.
+    Route(RouteAt),
+}
+
 /// What may help to fix a fault.
 #[derive(Clone, Copy)]
 pub enum Hint {
@@ -89,8 +100,8 @@ pub enum Hint {
 pub struct Explanation {
     /// The fault: the first one, as `srt_config::read_config` returns it.
     pub fault: ConfigFault,
-    /// The route that has it; None if it isn't a route's.
-    pub route: Option<RouteAt>,
+    /// The part that has it.
+    pub part: Part,
     /// The value that is wrong, as TOML writes it, or its beginning; at the fault `Toml` the message of the TOML reader.
     /// Empty if there is none, and for an unknown key, the secret and the keys of roles, which are printed nowhere.
     pub value: InlineText<96>,
@@ -105,7 +116,7 @@ impl Explanation {
     {
         let Explanation {
             fault,
-            route: _,
+            part: _,
             value: _,
             hint: _,
         } = self;
@@ -121,7 +132,7 @@ pub(crate) fn bare(fault: ConfigFault) -> Explanation
 {
     Explanation {
         fault,
-        route: None,
+        part: Part::Above,
         value: InlineText::new(),
         hint: Hint::Nothing,
     }

@@ -11,7 +11,9 @@ use crate::values::{
     first_named, first_no_network, first_no_text, members_at, opening_of, routes_of, sessions_of,
     text_or_empty, value_at,
 };
-use srt_config::{Key, ROUTE_KEYS, TOP_KEYS, ValueKind, read_network, read_number};
+use srt_config::{
+    DEFAULT_KEYS, Key, Place, ROUTE_KEYS, TOP_KEYS, ValueKind, read_network, read_number,
+};
 use srt_types::Network;
 use toml::{Table, Value};
 
@@ -43,13 +45,17 @@ fn key_named(keys: &[Key], text: &str) -> Option<Key> {
     None
 }
 
-/// Returns the hint for a key that isn't known in a route's table, or in the whole one.
-pub(crate) fn of_unknown(in_route: bool, text: &str) -> Hint
+/// Returns the hint for a key that isn't known in the table of the part of this place.
+pub(crate) fn of_unknown(place: Place, text: &str) -> Hint
     ensures { is_hint_private result ≡ true }
 {
-    match in_route {
-        true => of_unknown_in_route(text),
-        false => of_unknown_above(text),
+    match place {
+        Place::Route(_) => of_unknown_below(&ROUTE_KEYS, text),
+        Place::Defaults => match key_named(&[Key::Name], text) {
+            Some(key) => Hint::OfRoute(key),
+            None => of_unknown_below(&DEFAULT_KEYS, text),
+        },
+        Place::Above => of_unknown_above(text),
     }
 }
 
@@ -66,13 +72,13 @@ fn of_unknown_above(text: &str) -> Hint
     }
 }
 
-/// Returns the hint for a key that isn't known in a route's table.
-fn of_unknown_in_route(text: &str) -> Hint
+/// Returns the hint for a key that isn't known in a table of these keys below the whole one.
+fn of_unknown_below(keys: &[Key], text: &str) -> Hint
     ensures { is_hint_private result ≡ true }
 {
     match key_named(&TOP_KEYS, text) {
         Some(key) => Hint::OfTable(key),
-        None => match resembled(&ROUTE_KEYS, text.as_bytes()) {
+        None => match resembled(keys, text.as_bytes()) {
             Some(key) => Hint::Resembles(key),
             None => Hint::Nothing,
         },
@@ -106,7 +112,7 @@ pub(crate) fn of_kind(table: &Table, key: Key) -> Hint
         return Hint::Nothing;
     };
     match key.kind() {
-        ValueKind::Text => Hint::Nothing,
+        ValueKind::Text | ValueKind::Table => Hint::Nothing,
         ValueKind::Number => match value.as_str() {
             Some(text) if is_number(text) => Hint::Quoted,
             _ => Hint::Nothing,
@@ -305,7 +311,7 @@ pub(crate) fn of_bad_address(table: &Table, key: Key) -> Hint
 {
     match key.kind() {
         ValueKind::Networks => of_networks(table, key),
-        ValueKind::Text | ValueKind::Number | ValueKind::Tables => {
+        ValueKind::Text | ValueKind::Number | ValueKind::Table | ValueKind::Tables => {
             of_address(text_or_empty(table, key))
         }
     }

@@ -4,8 +4,8 @@
 //! (`Display`). `srt_config` decides whether it is valid, and returns its first fault with the route that has it; here the
 //! fault gets its value, what is allowed instead, and a hint.
 //!
-//! Types: `Explained`, a valid configuration and its `Warning`s; `Explanation`, a fault with its place (`RouteAt`,
-//! `TextPlace`), its value and a `Hint`; `WarningText`, a warning with what it is printed with.
+//! Types: `Explained`, a valid configuration and its `Warning`s; `Explanation`, a fault with its place (`Part`,
+//! `RouteAt`, `TextPlace`), its value and a `Hint`; `WarningText`, a warning with what it is printed with.
 //!
 //! Calls: `explain` on the bytes of a configuration's file. `srtgw` prints its result, a line each.
 //!
@@ -25,6 +25,6 @@ mod values;
 mod warnings;
 
 pub use explaining::{Explained, explain};
-pub use explanation::{Explanation, Hint, RouteAt};
+pub use explanation::{Explanation, Hint, Part, RouteAt};
 pub use places::TextPlace;
 pub use warnings::{Warning, WarningText};

@@ -8,9 +8,11 @@ ghost use Rattle.srt_explain.specs.Texts.{brought_text, enough_text, small_windo
 ghost use Rattle.srt_explain.specs.Texts.{unused_takeover_text, unused_limit_text, one_unreserved_text, no_callers_text, no_reserved_text};
 ghost use Rattle.srt_explain.specs.Texts.{no_takeover_text, no_resend_limit_text, example_secret_text, warning_text, route_text, warning_line};
 
-use crate::explanation::{Explanation, Hint, RouteAt};
+use crate::explanation::{Explanation, Hint, Part, RouteAt};
 use crate::warnings::{Warning, WarningText};
-use srt_config::{BindAddress, ConfigFault, Key, Limits, ROUTE_KEYS, TOP_KEYS, ValueKind};
+use srt_config::{
+    BindAddress, ConfigFault, DEFAULT_KEYS, Key, Limits, ROUTE_KEYS, TOP_KEYS, ValueKind,
+};
 use srt_types::{Role, is_mapped};
 use std::fmt;
 use std::net::Ipv6Addr;
@@ -72,6 +74,7 @@ impl fmt::Display for Allowed {
                     "{least} to {most} routes, each begun by a line [[route]]"
                 )
             }
+            Key::Defaults => f.write_str("keys of a route, below a line [defaults]"),
             Key::PublishFrom | Key::RequestFrom => {
                 write!(
                     f,
@@ -115,6 +118,15 @@ impl fmt::Display for RouteAt {
     }
 }
 
+/// Writes the part that has a fault, unless that is above the routes.
+fn write_part<W: fmt::Write>(f: &mut fmt::Formatter<W>, part: Part) -> fmt::Result {
+    match part {
+        Part::Above => Ok(()),
+        Part::Defaults => f.write_str("[defaults]: "),
+        Part::Route(route) => write!(f, "{route}: "),
+    }
+}
+
 /// Writes that a text can't be read.
 fn write_text_fault<W: fmt::Write>(
     f: &mut fmt::Formatter<W>,
@@ -131,10 +143,41 @@ fn write_text_fault<W: fmt::Write>(
     write!(f, "line {line}, column {column}: {message}{more}")
 }
 
+/// Writes that a key which isn't known here is one of another part.
+fn write_displaced<W: fmt::Write>(
+    f: &mut fmt::Formatter<W>,
+    key: KeyText<'_>,
+    part: Part,
+) -> fmt::Result {
+    match part {
+        Part::Above => write!(
+            f,
+            "{key}: unknown key above the routes; it stands below a line [[route]]"
+        ),
+        Part::Defaults => write!(
+            f,
+            "{key}: each route has its own; it stands below a line [[route]]"
+        ),
+        Part::Route(_) => write!(
+            f,
+            "{key}: unknown key of a route; it stands above the first line [[route]]"
+        ),
+    }
+}
+
+/// Returns the keys of the table that a part is.
+fn keys_of(part: Part) -> &'static [Key] {
+    match part {
+        Part::Above => &TOP_KEYS,
+        Part::Defaults => &DEFAULT_KEYS,
+        Part::Route(_) => &ROUTE_KEYS,
+    }
+}
+
 fn write_unknown<W: fmt::Write>(
     f: &mut fmt::Formatter<W>,
     key: &str,
-    is_route: bool,
+    part: Part,
     hint: Hint,
 ) -> fmt::Result {
     let key = KeyText(key);
@@ -143,23 +186,16 @@ fn write_unknown<W: fmt::Write>(
             let meant = meant.name();
             write!(f, "{key}: unknown key; did you mean {meant}?")
         }
-        Hint::OfTable(_) => {
-            write!(
+        Hint::OfTable(_) => match part {
+            Part::Defaults => write!(
                 f,
-                "{key}: unknown key of a route; it stands above the first line [[route]]"
-            )
-        }
-        Hint::OfRoute(_) => {
-            write!(
-                f,
-                "{key}: unknown key above the routes; it stands below a line [[route]]"
-            )
-        }
+                "{key}: unknown key of a route; it stands above the line [defaults]"
+            ),
+            _ => write_displaced(f, key, part),
+        },
+        Hint::OfRoute(_) => write_displaced(f, key, part),
         _ => {
-            let keys = match is_route {
-                true => Keys(&ROUTE_KEYS),
-                false => Keys(&TOP_KEYS),
-            };
+            let keys = Keys(keys_of(part));
             write!(f, "{key}: unknown key; the keys here are {keys}")
         }
     }
@@ -200,6 +236,7 @@ fn write_wrong_kind<W: fmt::Write>(
 ) -> fmt::Result {
     let (name, allowed) = (key.name(), Allowed(key));
     match key.kind() {
+        ValueKind::Table => write!(f, "{name}: they begin with a line [{name}], in one bracket"),
         ValueKind::Tables => write_routes_of_another_kind(f, value, hint),
         ValueKind::Networks => match hint {
             Hint::NoText(number) => write!(
@@ -430,15 +467,11 @@ fn write_bad_address<W: fmt::Write>(
 
 impl fmt::Display for Explanation {
     fn fmt<W: fmt::Write>(&self, f: &mut fmt::Formatter<W>) -> fmt::Result {
-        if let Some(route) = &self.route {
-            write!(f, "{route}: ")?;
-        }
+        write_part(f, self.part)?;
         let (value, hint) = (self.value.as_str(), self.hint);
         match &self.fault {
             ConfigFault::Toml => write_text_fault(f, value, hint),
-            ConfigFault::UnknownKey(key) => {
-                write_unknown(f, key.as_str(), self.route.is_some(), hint)
-            }
+            ConfigFault::UnknownKey(key) => write_unknown(f, key.as_str(), self.part, hint),
             ConfigFault::Missing(key) => write_missing(f, *key),
             ConfigFault::WrongKind(key) => write_wrong_kind(f, *key, value, hint),
             ConfigFault::OutOfRange(key) => write_out_of_range(f, *key, value, hint),

@@ -143,6 +143,11 @@ pub(crate) fn lacks(table: &Table, number: usize, key: Key) -> bool
     }
 }
 
+/// Returns the table of defaults; None if there is none.
+pub(crate) fn defaults_of(table: &Table) -> Option<&Table> {
+    table_of(value_at(table, Key::Defaults))
+}
+
 /// Returns the routes before the one of this number, counted from 1.
 pub(crate) fn routes_before(table: &Table, number: usize) -> &[Value] {
     let routes = routes_of(table);

@@ -6,11 +6,10 @@ ghost use Rattle.srt_config.specs.FirstFault.{Gives};
 ghost use Rattle.srt_config.specs.Config.{settings_of, config_in};
 ghost use Rattle.srt_offline.specs.Ends.{IsConfigFault, IsCheckFault};
 
+use crate::configurations::read_configuration;
 use crate::faults::OfflineFault;
-use crate::files::read_file;
 use srt_config::{Config, ConfigFault, read_config};
 use srt_explain::{Explained, explain};
-use srt_types::product_limits::MAX_CONFIG;
 use std::alloc::Global;
 use std::rt::Files;
 use std::str;
@@ -26,12 +25,12 @@ fn config_in(alloc: Global, bytes: &[u8]) -> Result<Config, ConfigFault>
     }
 }
 
-/// Reads a configuration's file, at most 65,536 bytes. A file that isn't UTF-8 isn't TOML. Allocates the bytes, and the
+/// Reads a configuration's file, as [`read_configuration`] does. A file that isn't UTF-8 isn't TOML. Allocates the bytes, and the
 /// configuration.
 pub fn config_at(rt: &(impl Files + AllocGlobal), path: &str) -> Result<Config, OfflineFault>
     ensures { IfErr result IsConfigFault }
 {
-    let bytes = match read_file(rt, path, MAX_CONFIG) {
+    let bytes = match read_configuration(rt, path) {
         Ok(bytes) => bytes,
         Err(unread) => return Err(unread.fault()),
     };
@@ -65,7 +64,7 @@ pub fn explained_at(
 ) -> Result<Explained, OfflineFault>
     ensures { IfErr result IsConfigFault }
 {
-    let bytes = match read_file(rt, path, MAX_CONFIG) {
+    let bytes = match read_configuration(rt, path) {
         Ok(bytes) => bytes,
         Err(unread) => {
             let why = &unread;

@@ -5,19 +5,33 @@ ghost use Rattle.srt_config.specs.FaultPlace.{above_routes};
 
 use super::faults::ConfigFault;
 
-/// The first fault of a configuration, and the route that has it.
+/// The part of a configuration that has a fault.
+#[derive(Clone, Copy, Debug, PartialEq, Eq)]
+pub enum Place {
+    /// The keys above the routes, or the list of the routes as a whole.
+    Above,
+    /// The table of defaults.
+    Defaults,
+    /// The route of this number, counted from 1, with the defaults that it lacks.
+    Route(usize),
+}
+
+/// The first fault of a configuration, and the part that has it.
 #[derive(Drop)]
 pub struct PlacedFault {
     /// The fault.
     pub fault: ConfigFault,
-    /// The number of the route that has it, counted from 1; None if it isn't one route's.
-    pub route: Option<usize>,
+    /// The part that has it.
+    pub place: Place,
 }
 
 impl From<ConfigFault> for PlacedFault {
     ghost from_gives = { λ fault placed. placed ≡ above_routes fault };
 
     fn from(fault: ConfigFault) -> PlacedFault {
-        PlacedFault { fault, route: None }
+        PlacedFault {
+            fault,
+            place: Place::Above,
+        }
     }
 }

@@ -1,25 +1,44 @@
 //! Reads a configuration.
 
-ghost use Rattle.std.specs.Prelude.{◌≡◌};
+ghost use Rattle.std.specs.Prelude.{◌≡◌, Some, option_map};
 ghost use Rattle.toml.specs.Parse.{parse_document};
 ghost use Rattle.toml.specs.View.{table_view};
+ghost use Rattle.srt_config.specs.declared.config.placed.Place.TheVariants as place;
+ghost use Rattle.srt_config.specs.Defaults.{right_if_given};
 ghost use Rattle.srt_config.specs.FirstFault.{Gives};
 ghost use Rattle.srt_config.specs.FaultPlace.{fault_place, GivesAt};
 ghost use Rattle.srt_config.specs.Config.{settings_at, settings_of, config_in};
 
 use super::Config;
+use super::defaults::{defaults_at, defaults_right, with_defaults};
 use super::faults::ConfigFault;
 use super::keys::{number_at, only_known};
-use super::placed::PlacedFault;
+use super::placed::{Place, PlacedFault};
 use super::routes::routes_at;
 use super::table::{Key, TOP_KEYS};
 use super::values::{address_at, optional_address_at, secret_at};
 use std::alloc::Global;
 use toml::Table;
 
-/// Reads a configuration from the table that is its text, or returns its first fault, as [`read_config`] does, with the
-/// route that has it. Allocates the entries and their names; if an allocation fails, the result can be `OutOfMemory`
-/// instead of any other.
+/// Checks the table of defaults, if there is one.
+fn check_defaults(alloc: Global, defaults: Option<&Table>) -> Result<(), PlacedFault>
+    ensures { GivesAt (λ u. u) result (right_if_given (option_map (λ t. table_view t.now) defaults.entry)) place.Defaults }
+{
+    let Some(defaults) = defaults else {
+        return Ok(());
+    };
+    match defaults_right(alloc, defaults) {
+        Ok(()) => Ok(()),
+        Err(fault) => Err(PlacedFault {
+            fault,
+            place: Place::Defaults,
+        }),
+    }
+}
+
+/// Reads a configuration from the table that is its text, after [`with_defaults`], or returns its first fault, as
+/// [`read_config`] does, with the part that has it. Allocates the entries and their names; if an allocation fails, the result
+/// can be `OutOfMemory` instead of any other.
 #[tactic(auto, unfolding(crate::specs::Config::settings_at, crate::specs::FaultPlace::fault_place))]
 pub fn read_table(alloc: Global, table: &Table) -> Result<Config, PlacedFault>
     ensures { GivesAt settings_of result (settings_at (table_view table.now)) (fault_place (table_view table.now)) }
@@ -29,6 +48,7 @@ pub fn read_table(alloc: Global, table: &Table) -> Result<Config, PlacedFault>
     let bind = address_at(table, Key::Bind)?;
     let workers = number_at(table, Key::Workers)?;
     let status = optional_address_at(table, Key::Status)?;
+    check_defaults(alloc, defaults_at(table)?)?;
     let routes = routes_at(alloc, table)?;
     Ok(Config {
         secret,
@@ -40,18 +60,28 @@ pub fn read_table(alloc: Global, table: &Table) -> Result<Config, PlacedFault>
     })
 }
 
+/// Reads the configuration in this table, with its defaults.
+fn read_whole(alloc: Global, table: Table) -> Result<Config, ConfigFault>
+    ensures { Gives settings_of result (config_in (Some (table_view table))) }
+{
+    let Ok(table) = with_defaults(alloc, table) else {
+        return Err(ConfigFault::OutOfMemory);
+    };
+    match read_table(alloc, &table) {
+        Ok(config) => Ok(config),
+        Err(placed) => Err(placed.fault),
+    }
+}
+
 /// Reads a configuration, or returns its first fault: that the text isn't TOML; the least unknown key; then what is
-/// wrong with `secret`, `bind`, `workers`, `status` and `route`; then for each route its least unknown key and its keys in the
-/// order of [`Key`]. Allocates the table, the entries and their names; if an allocation fails, the result can be
-/// `OutOfMemory` instead of any other.
+/// wrong with `secret`, `bind`, `workers`, `status`, `defaults` and `route`; then for each route its least unknown key and its
+/// keys in the order of [`Key`]. A route has the defaults that its own table lacks. Allocates the table, copies of routes with
+/// defaults, the entries and their names; if an allocation fails, the result can be `OutOfMemory` instead of any other.
 pub fn read_config(alloc: Global, text: &str) -> Result<Config, ConfigFault>
     ensures { Gives settings_of result (config_in (parse_document text.now)) }
 {
     match toml::table_from_str(alloc, text) {
-        Ok(table) => match read_table(alloc, &table) {
-            Ok(config) => Ok(config),
-            Err(placed) => Err(placed.fault),
-        },
+        Ok(table) => read_whole(alloc, table),
         Err(e) if e.is_memory() => Err(ConfigFault::OutOfMemory),
         Err(_) => Err(ConfigFault::Toml),
     }

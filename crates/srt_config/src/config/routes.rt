@@ -7,6 +7,7 @@ ghost use Rattle.srt_types.specs.Access.{access_of};
 ghost use Rattle.srt_types.specs.Terms.{terms_of};
 ghost use Rattle.srt_types.specs.Entries.{is_between};
 ghost use Rattle.srt_lobby.specs.Opening.{fault_of};
+ghost use Rattle.srt_config.specs.declared.config.placed.Place.TheVariants as place;
 ghost use Rattle.srt_config.specs.FirstFault.{seen, Gives};
 ghost use Rattle.srt_config.specs.FaultPlace.{faulty_from, place_in, routes_place, GivesAt};
 ghost use Rattle.srt_config.specs.Routes.{name_in, name_at, mode_in, mode_at, numbers_at, schedule_at, closes_later, terms_with, with_access};
@@ -19,7 +20,7 @@ use super::faults::ConfigFault;
 use super::keys::{
     number_at, only_known, optional_number_at, optional_number_within, text_at, value_at,
 };
-use super::placed::PlacedFault;
+use super::placed::{Place, PlacedFault};
 use super::rules::{callers_at, rules_at};
 use super::table::{BUFFER, Key, LIVE, Limits, ROUTE_KEYS};
 use srt_lobby::is_taken;
@@ -49,7 +50,7 @@ fn name_at<'a>(before: &[Entry], table: &'a Table) -> Result<&'a str, ConfigFaul
 }
 
 #[tactic(auto, unfolding(crate::specs::Routes::mode_in))]
-fn read_mode(text: &str) -> Result<Mode, ConfigFault>
+pub(crate) fn read_mode(text: &str) -> Result<Mode, ConfigFault>
     ensures { seen (λ m. m) result ≡ mode_in text.now }
 {
     if text == LIVE {
@@ -241,13 +242,13 @@ fn read_routes(alloc: Global, values: &[Value]) -> Result<ReadRoutes, PlacedFaul
     if !are_tables(values) {
         return Err(PlacedFault {
             fault: ConfigFault::WrongKind(Key::Route),
-            route: None,
+            place: Place::Above,
         });
     }
     if !is_count(values) {
         return Err(PlacedFault {
             fault: ConfigFault::OutOfRange(Key::Route),
-            route: None,
+            place: Place::Above,
         });
     }
     routes_from(alloc, values)
@@ -273,7 +274,7 @@ fn add_route(alloc: Global, routes: &mut ReadRoutes, value: &Value) -> Result<()
 /// Reads these values, which are tables, as routes.
 #[tactic(auto, using(crate::proofs::RouteItems::routes_step, crate::proofs::RouteItems::faulty_step))]
 fn routes_from(alloc: Global, values: &[Value]) -> Result<ReadRoutes, PlacedFault>
-    ensures { GivesAt routes_seen result (routes_from no_routes (items_view values.now)) (Some (faulty_from 1 no_routes (items_view values.now))) }
+    ensures { GivesAt routes_seen result (routes_from no_routes (items_view values.now)) (place.Route (faulty_from 1 no_routes (items_view values.now))) }
 {
     let mut routes = ReadRoutes {
         entries: Vec::new(alloc),
@@ -285,7 +286,7 @@ fn routes_from(alloc: Global, values: &[Value]) -> Result<ReadRoutes, PlacedFaul
         if let Err(fault) = add_route(alloc, &mut routes, &rest[0]) {
             return Err(PlacedFault {
                 fault,
-                route: Some(number),
+                place: Place::Route(number),
             });
         }
         rest = &rest[1..];
@@ -302,7 +303,7 @@ fn all_routes(alloc: Global, table: &Table) -> Result<ReadRoutes, PlacedFault>
         Some(values) => read_routes(alloc, values.as_slice()),
         None => Err(PlacedFault {
             fault: ConfigFault::WrongKind(Key::Route),
-            route: None,
+            place: Place::Above,
         }),
     }
 }

@@ -23,17 +23,39 @@ pub(crate) const DRAFT: &str = "draft";
 pub(crate) const LIBSRT: &str = "libsrt";
 
 /// The keys of the table.
-pub const TOP_KEYS: [Key; 5] = [
+pub const TOP_KEYS: [Key; 6] = [
     Key::Secret,
     Key::Bind,
     Key::Workers,
     Key::Status,
+    Key::Defaults,
     Key::Route,
 ];
 
 /// The keys of a route.
 pub const ROUTE_KEYS: [Key; 18] = [
     Key::Name,
+    Key::Mode,
+    Key::LatencyMs,
+    Key::Buffer,
+    Key::Sessions,
+    Key::Inbox,
+    Key::Outbox,
+    Key::OpenRound,
+    Key::CloseRound,
+    Key::Callers,
+    Key::PublishFrom,
+    Key::RequestFrom,
+    Key::PublishKey,
+    Key::RequestKey,
+    Key::Reserved,
+    Key::SessionsPerAddress,
+    Key::TakeoverMs,
+    Key::ResendPercent,
+];
+
+/// The keys of the table of defaults: those of a route but its name.
+pub const DEFAULT_KEYS: [Key; 17] = [
     Key::Mode,
     Key::LatencyMs,
     Key::Buffer,
@@ -64,6 +86,8 @@ pub enum Key {
     Workers,
     /// `status`: the IPv4 address and TCP port of the status page; there is none if it is missing.
     Status,
+    /// `defaults`: the table of the keys that a route has if its own table lacks them; there are none if it is missing.
+    Defaults,
     /// `route`: the tables of the routes, 1 to 511.
     Route,
     /// `name`: a route's name, 1 to 64 bytes.
@@ -117,6 +141,8 @@ pub enum ValueKind {
     Number,
     /// A list of networks, in texts.
     Networks,
+    /// A table.
+    Table,
     /// A list of tables.
     Tables,
 }
@@ -149,6 +175,7 @@ impl Key {
             Key::Bind => "bind",
             Key::Workers => "workers",
             Key::Status => "status",
+            Key::Defaults => "defaults",
             Key::Route => "route",
             Key::Name => "name",
             Key::Mode => "mode",
@@ -197,12 +224,14 @@ impl Key {
             | Key::TakeoverMs
             | Key::ResendPercent => ValueKind::Number,
             Key::PublishFrom | Key::RequestFrom => ValueKind::Networks,
+            Key::Defaults => ValueKind::Table,
             Key::Route => ValueKind::Tables,
         }
     }
 
     /// Returns the limits of its value. A route's `open_round` and `sessions` narrow those of `close_round` and `reserved`. A
-    /// text whose form decides, an address or one of two texts, has any length up to 2^32 - 1 here.
+    /// text whose form decides, an address or one of two texts, has any length up to 2^32 - 1 here, and the table of defaults
+    /// as many keys.
     pub fn limits(self) -> Limits
         ensures value { result ≡ limits_of self }
         ensures few { result.most < 2 ^ 32 }
@@ -223,7 +252,9 @@ impl Key {
             Key::Reserved => (0, MAX_RESERVED),
             Key::TakeoverMs => (MIN_TAKEOVER_MS, MAX_TAKEOVER_MS),
             Key::ResendPercent => (MIN_RESEND_PERCENT, MAX_RESEND_PERCENT),
-            Key::Bind | Key::Status | Key::Mode | Key::Callers => (0, u32::MAX as usize),
+            Key::Bind | Key::Status | Key::Defaults | Key::Mode | Key::Callers => {
+                (0, u32::MAX as usize)
+            }
         };
         Limits { least, most }
     }
@@ -245,12 +276,13 @@ impl Key {
         }
     }
 
-    /// Whether its value is to be printed nowhere: that of the secret, and those of the keys of roles.
+    /// Whether its value is to be printed nowhere: that of the secret, those of the keys of roles, and the defaults, which may
+    /// have such keys.
     pub fn is_private(self) -> bool
         ensures { result ≡ is_private self }
     {
         match self {
-            Key::Secret | Key::PublishKey | Key::RequestKey => true,
+            Key::Secret | Key::Defaults | Key::PublishKey | Key::RequestKey => true,
             _ => false,
         }
     }

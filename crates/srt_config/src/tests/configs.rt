@@ -1,7 +1,10 @@
 //! Configurations.
 
 use super::{RIGHT, changed, config_of, with_routes};
-use crate::{BindAddress, Config, ConfigFault, Key, PlacedFault, read_table};
+use crate::{
+    BindAddress, Config, ConfigFault, Key, Place, PlacedFault, RouteChange, changes_between,
+    read_table, with_defaults,
+};
 use srt_cookie::{Secret, cookie};
 use srt_types::{Callers, Entry, Mode, Peer, Rules, Schedule};
 use std::process::Abort;
@@ -311,6 +314,67 @@ fn many_routes_are_read(rt: HostRuntime) -> Result<(), Fail> {
     Ok(())
 }
 
+/// The top of a configuration with defaults.
+const TOP: &str = "\
+secret = \"000102030405060708090a0b0c0d0e0f101112131415161718191A1B1C1D1E1F\"
+bind = \"127.0.0.1:0\"
+workers = 1
+[defaults]
+";
+
+/// Every key of a route but its name, with numbers of the most digits and lists of the most networks.
+const ALL_KEYS: &str = "\
+mode = \"live\"
+latency_ms = 8000
+buffer = 8192
+sessions = 17
+inbox = 4096
+outbox = 4096
+open_round = 999999999
+close_round = 1000000000
+callers = \"libsrt\"
+publish_from = [
+  \"2001:db8:ffff:ffff:ffff:ffff:ffff:fff0\", \"2001:db8:ffff:ffff:ffff:ffff:ffff:fff1\",
+  \"2001:db8:ffff:ffff:ffff:ffff:ffff:fff2\", \"2001:db8:ffff:ffff:ffff:ffff:ffff:fff3\",
+  \"2001:db8:ffff:ffff:ffff:ffff:ffff:fff4\", \"2001:db8:ffff:ffff:ffff:ffff:ffff:fff5\",
+  \"2001:db8:ffff:ffff:ffff:ffff:ffff:fff6\", \"2001:db8:ffff:ffff:ffff:ffff:ffff:fff7\",
+  \"2001:db8:ffff:ffff:ffff:ffff:ffff:fff8\", \"2001:db8:ffff:ffff:ffff:ffff:ffff:fff9\",
+  \"2001:db8:ffff:ffff:ffff:ffff:ffff:fffa\", \"2001:db8:ffff:ffff:ffff:ffff:ffff:fffb\",
+  \"2001:db8:ffff:ffff:ffff:ffff:ffff:fffc\", \"2001:db8:ffff:ffff:ffff:ffff:ffff:fffd\",
+  \"2001:db8:ffff:ffff:ffff:ffff:ffff:fffe\", \"2001:db8:ffff:ffff:ffff:ffff:ffff:ffff\",
+]
+request_from = [
+  \"2001:db8:ffff:ffff:ffff:ffff:ffff:fff0\", \"2001:db8:ffff:ffff:ffff:ffff:ffff:fff1\",
+  \"2001:db8:ffff:ffff:ffff:ffff:ffff:fff2\", \"2001:db8:ffff:ffff:ffff:ffff:ffff:fff3\",
+  \"2001:db8:ffff:ffff:ffff:ffff:ffff:fff4\", \"2001:db8:ffff:ffff:ffff:ffff:ffff:fff5\",
+  \"2001:db8:ffff:ffff:ffff:ffff:ffff:fff6\", \"2001:db8:ffff:ffff:ffff:ffff:ffff:fff7\",
+  \"2001:db8:ffff:ffff:ffff:ffff:ffff:fff8\", \"2001:db8:ffff:ffff:ffff:ffff:ffff:fff9\",
+  \"2001:db8:ffff:ffff:ffff:ffff:ffff:fffa\", \"2001:db8:ffff:ffff:ffff:ffff:ffff:fffb\",
+  \"2001:db8:ffff:ffff:ffff:ffff:ffff:fffc\", \"2001:db8:ffff:ffff:ffff:ffff:ffff:fffd\",
+  \"2001:db8:ffff:ffff:ffff:ffff:ffff:fffe\", \"2001:db8:ffff:ffff:ffff:ffff:ffff:ffff\",
+]
+publish_key = \"kkkkkkkkkkkkkkkkkkkkkkkkkkkkkkkkkkkkkkkkkkkkkkkkkkkkkkkkkkkkkkkk\"
+request_key = \"kkkkkkkkkkkkkkkkkkkkkkkkkkkkkkkkkkkkkkkkkkkkkkkkkkkkkkkkkkkkkkkk\"
+reserved = 2
+sessions_per_address = 17
+takeover_ms = 5000
+resend_percent = 1000
+";
+
+#[test]
+fn routes_with_every_key_fit_into_a_file(rt: HostRuntime) -> Result<(), Fail> {
+    let mut text = String::from_str(rt.alloc(), TOP)?;
+    for number in 0usize..511 {
+        let route = format!(in rt.alloc(); "[[route]]\nname = \"r{number}\"\n{ALL_KEYS}")?;
+        text.push_str(route.as_str())?;
+    }
+    assert!(rt; text.len() > 900_000);
+    assert!(rt; text.len() <= 1_048_576);
+    let config = config_of(&rt, text.as_str())?;
+    assert_eq!(rt; config.entries.len(), 511);
+    Ok(())
+}
+
 /// A list of 16 networks.
 const SIXTEEN: &str = "\
 outbox = 16
@@ -338,25 +402,66 @@ fn a_list_may_have_16_networks(rt: HostRuntime) -> Result<(), Fail> {
 /// The first fault of a table that is this text, with its place.
 fn fault_of(rt: &(impl AllocGlobal + Abort), text: &str) -> Result<PlacedFault, Fail> {
     match toml::table_from_str(rt.alloc(), text) {
-        Ok(table) => match read_table(rt.alloc(), &table) {
-            Ok(_) => Err(Fail::from("no fault")),
-            Err(placed) => Ok(placed),
-        },
+        Ok(table) => {
+            let whole = with_defaults(rt.alloc(), table)?;
+            match read_table(rt.alloc(), &whole) {
+                Ok(_) => Err(Fail::from("no fault")),
+                Err(placed) => Ok(placed),
+            }
+        }
         Err(_) => Err(Fail::from("no table")),
     }
 }
 
-/// A change of the valid configuration, the key of its fault, and the number of the route that has it.
-type PlaceRow = (&'static str, &'static str, &'static str, Option<usize>);
+/// A change of the valid configuration, the key of its fault, and the part that has it.
+type PlaceRow = (&'static str, &'static str, &'static str, Place);
 
 const PLACES: [PlaceRow; 6] = [
-    ("workers = 1", "workers = 0", "workers", None),
-    ("workers = 1", "worker = 1", "worker", None),
-    ("sessions = 5", "sessions = 18", "sessions", Some(1)),
-    ("sessions = 3", "sessions = 18", "sessions", Some(2)),
-    ("\"files\"", "\"studio\"", "name", Some(2)),
-    ("sessions = 3", "session = 3", "session", Some(2)),
+    ("workers = 1", "workers = 0", "workers", Place::Above),
+    ("workers = 1", "worker = 1", "worker", Place::Above),
+    ("sessions = 5", "sessions = 18", "sessions", Place::Route(1)),
+    ("sessions = 3", "sessions = 18", "sessions", Place::Route(2)),
+    ("\"files\"", "\"studio\"", "name", Place::Route(2)),
+    ("sessions = 3", "session = 3", "session", Place::Route(2)),
 ];
+
+/// The same of the valid configuration with defaults.
+const PLACES_WITH_DEFAULTS: [PlaceRow; 8] = [
+    ("[defaults]", "defaults = 1\n[more]", "more", Place::Above),
+    ("[defaults]", "[[defaults]]", "defaults", Place::Above),
+    ("workers = 1", "workers = 0", "workers", Place::Above),
+    (
+        "mode = \"live\"",
+        "name = \"live\"",
+        "name",
+        Place::Defaults,
+    ),
+    ("inbox = 16", "inbox = 15", "inbox", Place::Defaults),
+    (
+        "inbox = 16",
+        "close_round = 0",
+        "close_round",
+        Place::Defaults,
+    ),
+    ("inbox = 16", "", "inbox", Place::Route(1)),
+    (
+        "inbox = 16",
+        "inbox = 16\nsessions_per_address = 18",
+        "sessions_per_address",
+        Place::Defaults,
+    ),
+];
+
+#[test]
+fn a_fault_has_its_part_with_defaults(rt: HostRuntime) -> Result<(), Fail> {
+    for row in &PLACES_WITH_DEFAULTS {
+        let text = changed(&rt, SHORT, row.0, row.1)?;
+        let placed = fault_of(&rt, text.as_str())?;
+        assert_eq!(rt; placed.fault.key(), row.2);
+        assert_eq!(rt; placed.place, row.3);
+    }
+    Ok(())
+}
 
 #[test]
 fn a_fault_has_its_route(rt: HostRuntime) -> Result<(), Fail> {
@@ -364,9 +469,61 @@ fn a_fault_has_its_route(rt: HostRuntime) -> Result<(), Fail> {
         let text = changed(&rt, RIGHT, row.0, row.1)?;
         let placed = fault_of(&rt, text.as_str())?;
         assert_eq!(rt; placed.fault.key(), row.2);
-        assert_eq!(rt; placed.route, row.3);
+        assert_eq!(rt; placed.place, row.3);
     }
     Ok(())
+}
+
+/// The valid configuration with the keys that its routes have in common in its defaults, and others besides.
+const SHORT: &str = "\
+secret = \"000102030405060708090a0b0c0d0e0f101112131415161718191A1B1C1D1E1F\"
+bind = \"127.0.0.1:0\"
+workers = 1
+
+[defaults]
+mode = \"live\"
+latency_ms = 120
+buffer = 1024
+sessions = 5
+inbox = 16
+outbox = 16
+
+[[route]]
+name = \"studio\"
+
+[[route]]
+name = \"files\"
+mode = \"buffer\"
+buffer = 32
+sessions = 3
+";
+
+/// Asserts that a configuration is the valid one.
+fn assert_is_right(rt: &(impl AllocGlobal + Abort), text: &str) -> Result<(), Fail> {
+    let right = config_of(rt, RIGHT)?;
+    let config = config_of(rt, text)?;
+    let changes = changes_between(rt.alloc(), &right, &config)?;
+    assert!(rt; !changes.fixed.any());
+    assert_eq!(rt;
+        changes.routes.as_slice(),
+        &[RouteChange::Stays(0), RouteChange::Stays(1)][..]
+    );
+    assert_eq!(rt; changes.gone.len(), 0);
+    Ok(())
+}
+
+#[test]
+fn a_route_has_the_defaults_that_it_lacks(rt: HostRuntime) -> Result<(), Fail> {
+    assert_is_right(&rt, SHORT)?;
+    let unused = changed(
+        &rt,
+        RIGHT,
+        "[[route]]",
+        "[defaults]\nsessions = 17\n[[route]]",
+    )?;
+    assert_is_right(&rt, unused.as_str())?;
+    let none = changed(&rt, RIGHT, "[[route]]", "[defaults]\n[[route]]")?;
+    assert_is_right(&rt, none.as_str())
 }
 
 #[test]
