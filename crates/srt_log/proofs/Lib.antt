@@ -1,4 +1,5 @@
 pub mod Puts
+pub mod Growing
 pub mod Slots
 pub mod Equal
 pub mod Between

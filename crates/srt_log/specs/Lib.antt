@@ -4,6 +4,9 @@ pub mod Texts
 pub mod Peers
 pub mod ConfigEvents
 pub mod Events
+pub mod Members
+pub mod ConfigObjects
+pub mod Objects
 pub mod LineLimit
 pub mod LineShares
 pub mod Snapshots

@@ -323,7 +323,7 @@ fn put_cause(line: &mut Line, cause: StopCause)
 }
 
 /// Puts the text of an event.
-fn put_event(line: &mut Line, event: LogEvent<'_>)
+pub(crate) fn put_event(line: &mut Line, event: LogEvent<'_>)
     ensures { line.new.text.items ≡ put line.old.text.items (event_text event.entry) }
 {
     match event {

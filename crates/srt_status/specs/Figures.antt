@@ -238,6 +238,7 @@ total_name totals.Polling = codes "up"
 total_name totals.Uptime = codes "uptime_seconds"
 total_name totals.Routes = codes "configured_routes"
 total_name totals.ResidentMemory = codes "resident_memory_bytes"
+total_name totals.ReceiveBuffer = codes "receive_buffer_bytes"
 total_name totals.KernelDrops = codes "kernel_dropped_datagrams_total"
 total_name totals.Read = codes "poller_read_datagrams_total"
 total_name totals.Answered = codes "poller_answered_datagrams_total"
@@ -265,6 +266,7 @@ total_help totals.Polling = codes "1 if the poller made a round within the last 
 total_help totals.Uptime = codes "The time since the start."
 total_help totals.Routes = codes "The routes of the configuration."
 total_help totals.ResidentMemory = codes "The resident memory of the process."
+total_help totals.ReceiveBuffer = codes "The buffer of the socket, as the kernel gave it."
 total_help totals.KernelDrops = codes "Datagrams dropped by the kernel, since the socket's buffer was full."
 total_help totals.Read = codes "Datagrams read from the socket."
 total_help totals.Answered = codes "Datagrams answered before they belonged to a route."
@@ -292,6 +294,7 @@ total_kind totals.Polling = codes "gauge"
 total_kind totals.Uptime = codes "gauge"
 total_kind totals.Routes = codes "gauge"
 total_kind totals.ResidentMemory = codes "gauge"
+total_kind totals.ReceiveBuffer = codes "gauge"
 total_kind totals.KernelDrops = codes "counter"
 total_kind totals.Read = codes "counter"
 total_kind totals.Answered = codes "counter"
@@ -319,6 +322,7 @@ total_value totals.Polling gateway = Some (number_of gateway.polling)
 total_value totals.Uptime gateway = Some gateway.uptime_seconds
 total_value totals.Routes gateway = Some gateway.routes
 total_value totals.ResidentMemory gateway = gateway.resident_bytes
+total_value totals.ReceiveBuffer gateway = gateway.receive_buffer_bytes
 total_value totals.KernelDrops gateway = gateway.kernel_drops
 total_value totals.Read gateway = Some gateway.poller.read
 total_value totals.Answered gateway = Some gateway.poller.answered
@@ -356,8 +360,8 @@ all_gauges =
 -- all that is said of the gateway, in the order in which they are shown
 abbrev pub all_totals : List Total
 all_totals =
-    totals.Polling ∷ totals.Uptime ∷ totals.Routes ∷ totals.ResidentMemory ∷ totals.KernelDrops ∷ totals.Read ∷ totals.Answered
-    ∷ totals.Accepted ∷ totals.Full ∷ totals.Dropped ∷ totals.NotAllowed ∷ totals.Memory ∷ totals.Sent ∷ totals.Lost ∷ totals.Faults
+    totals.Polling ∷ totals.Uptime ∷ totals.Routes ∷ totals.ResidentMemory ∷ totals.ReceiveBuffer ∷ totals.KernelDrops ∷ totals.Read
+    ∷ totals.Answered ∷ totals.Accepted ∷ totals.Full ∷ totals.Dropped ∷ totals.NotAllowed ∷ totals.Memory ∷ totals.Sent ∷ totals.Lost ∷ totals.Faults
     ∷ totals.NoName ∷ totals.UnknownName ∷ totals.PublishFrom ∷ totals.RequestFrom ∷ totals.PublishKey ∷ totals.RequestKey
     ∷ totals.ChangesTaken ∷ totals.ChangesRefused ∷ totals.Indexes ∷ []
 

@@ -9,6 +9,7 @@ use Rattle.srt_types.specs.declared.shared.Mode.TheVariants.{Live, Buffer}
 use Rattle.srt_status.specs.declared.gateway.GatewayStatus.{GatewayStatus}
 use Rattle.srt_status.specs.declared.gateway.RefusalCounts.{RefusalCounts}
 use Rattle.srt_status.specs.declared.routes.RouteStatus.{RouteStatus}
+use Rattle.srt_status.specs.declared.routes.EndCounts.{EndCounts}
 use Rattle.srt_route.specs.declared.view.SessionView.{SessionView}
 use Rattle.srt_route.specs.declared.totals.Totals.{Totals}
 use Rattle.srt_status.specs.declared.figures.Amount.{Amount}
@@ -17,11 +18,15 @@ use Rattle.srt_status.specs.declared.figures.Gauge.{Gauge}
 use Rattle.srt_status.specs.declared.figures.Total.{Total}
 use Rattle.srt_status.specs.declared.figures.Reason.{Reason}
 use Rattle.srt_status.specs.declared.figures.RouteFigure.{RouteFigure}
+use Rattle.srt_status.specs.declared.process.ProcessFigure.{ProcessFigure}
+use Rattle.srt_status.specs.declared.labels.Ending.{Ending}
 use Rattle.srt_status.specs.Texts.{name_text, id_text, amount_text}
 use Rattle.srt_status.specs.Peers.{peer_text}
 use Rattle.srt_status.specs.Figures.{count_name, publisher_count, subscriber_count, session_count, gauge_name, gauge_amount}
 use Rattle.srt_status.specs.Figures.{total_name, total_value, reason_name, refusal_count, figure_name, route_figure, all_counts, all_gauges}
 use Rattle.srt_status.specs.Figures.{all_totals, all_reasons, all_figures}
+use Rattle.srt_status.specs.Process.{process_name, process_amount, all_process}
+use Rattle.srt_status.specs.Labels.{end_label, end_count, all_endings}
 use Rattle.srt_status.specs.Metrics.{if_some}
 
 -- a member that isn't the first one of its object
@@ -43,6 +48,23 @@ totals_json gateway = flat_map (total_json gateway) all_totals
 
 unfoldable pub refusals_json : RefusalCounts → List ℕ
 refusals_json counts = flat_map (refusal_json counts) all_reasons
+
+-- the process
+unfoldable pub process_figure_json : GatewayStatus → ProcessFigure → List ℕ
+process_figure_json gateway figure = if_some (amount_json (process_name figure)) (process_amount figure gateway)
+
+unfoldable pub process_json : GatewayStatus → List ℕ
+process_json gateway = flat_map (process_figure_json gateway) all_process
+
+-- how sessions ended, where that is known
+unfoldable pub end_json : EndCounts → Ending → List ℕ
+end_json counts ending = codes ",\"ends_" ++ end_label ending ++ codes "\":" ++ decimal (end_count ending counts)
+
+unfoldable pub all_ends_json : EndCounts → List ℕ
+all_ends_json counts = flat_map (end_json counts) all_endings
+
+abbrev pub ends_json : Option EndCounts → List ℕ
+ends_json ends = if_some all_ends_json ends
 
 -- what sessions counted
 unfoldable pub publishers_json : Totals → Count → List ℕ
@@ -111,6 +133,7 @@ route_name_start = codes "{\"name\":\""
 unfoldable pub route_start : RouteStatus → List ℕ
 route_start route =
     route_name_start ++ name_text (string_bytes route.name) ++ mode_json route.mode ++ figures_json route ++ refusals_json route.refused
+    ++ ends_json route.ends
 
 unfoldable pub publishers_start : List ℕ
 publishers_start = codes ",\"publishers\":{\"role\":\"publisher\""
@@ -143,7 +166,7 @@ unfoldable pub version_json : (version : List ℕ) → List ℕ
 version_json version = version_start ++ name_text version ++ codes "\""
 
 unfoldable pub gateway_json : GatewayStatus → List ℕ
-gateway_json gateway = version_json gateway.version.now ++ totals_json gateway ++ refusals_json gateway.refused
+gateway_json gateway = version_json gateway.version.now ++ totals_json gateway ++ refusals_json gateway.refused ++ process_json gateway
 
 abbrev pub json_of : GatewayStatus → List RouteStatus → List ℕ
 json_of gateway routes = gateway_json gateway ++ codes ",\"routes\":[" ++ routes_json gateway.moment routes ++ codes "]}\n"

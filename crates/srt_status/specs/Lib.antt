@@ -1,6 +1,8 @@
 pub mod Texts
 pub mod Peers
 pub mod Figures
+pub mod Process
+pub mod Labels
 pub mod Metrics
 pub mod Json
 pub mod Requests

@@ -5,7 +5,9 @@ use Rattle.srt_types.specs.declared.shared.Role.{Role}
 use Rattle.srt_types.specs.declared.shared.Role.TheVariants.{Publish, Request}
 use Rattle.srt_status.specs.declared.gateway.GatewayStatus.{GatewayStatus}
 use Rattle.srt_status.specs.declared.gateway.RefusalCounts.{RefusalCounts}
+use Rattle.srt_status.specs.declared.gateway.CauseCounts.{CauseCounts}
 use Rattle.srt_status.specs.declared.routes.RouteStatus.{RouteStatus}
+use Rattle.srt_status.specs.declared.routes.EndCounts.{EndCounts}
 use Rattle.srt_route.specs.declared.view.SessionView.{SessionView}
 use Rattle.srt_status.specs.declared.figures.Amount.{Amount}
 use Rattle.srt_status.specs.declared.figures.Count.{Count}
@@ -13,12 +15,17 @@ use Rattle.srt_status.specs.declared.figures.Gauge.{Gauge}
 use Rattle.srt_status.specs.declared.figures.Total.{Total}
 use Rattle.srt_status.specs.declared.figures.Reason.{Reason}
 use Rattle.srt_status.specs.declared.figures.RouteFigure.{RouteFigure}
+use Rattle.srt_status.specs.declared.process.ProcessFigure.{ProcessFigure}
+use Rattle.srt_status.specs.declared.labels.Cause.{Cause}
+use Rattle.srt_status.specs.declared.labels.Ending.{Ending}
 use Rattle.srt_status.specs.Texts.{name_text, id_text, amount_text}
 use Rattle.srt_status.specs.Peers.{peer_text}
 use Rattle.srt_status.specs.Figures.{count_name, count_help, publisher_count, subscriber_count, session_count, gauge_name}
 use Rattle.srt_status.specs.Figures.{gauge_help, gauge_amount, total_name, total_help, total_kind, total_value, reason_labels}
 use Rattle.srt_status.specs.Figures.{refusal_count, figure_name, figure_help, figure_kind, route_figure, all_counts, all_gauges, all_totals}
 use Rattle.srt_status.specs.Figures.{all_reasons, all_figures}
+use Rattle.srt_status.specs.Process.{process_name, process_help, process_kind, process_amount, all_process}
+use Rattle.srt_status.specs.Labels.{cause_label, cause_count, all_causes, end_label, end_count, all_endings}
 
 -- the help and the type of a family
 unfoldable pub head_line : (start prefix name rest : List ℕ) → List ℕ
@@ -63,6 +70,36 @@ lobby_text counts =
     head_text [] (codes "lobby_refusals_total") (codes "Conclusions refused before they belonged to a route.") (codes "counter")
     ++ lobby_refusals counts
 
+-- the same that were refused with 1002, by their cause
+unfoldable pub cause_start : List ℕ
+cause_start = codes "srtgw_lobby_refusal_causes_total{cause=\""
+
+unfoldable pub lobby_cause : CauseCounts → Cause → List ℕ
+lobby_cause counts cause = cause_start ++ cause_label cause ++ codes "\"} " ++ decimal (cause_count cause counts) ++ codes "\n"
+
+unfoldable pub lobby_causes : CauseCounts → List ℕ
+lobby_causes counts = flat_map (lobby_cause counts) all_causes
+
+unfoldable pub causes_text : CauseCounts → List ℕ
+causes_text counts =
+    head_text [] (codes "lobby_refusal_causes_total") (codes "Conclusions refused with 1002 before they belonged to a route.") (codes "counter")
+    ++ lobby_causes counts
+
+-- the process
+unfoldable pub process_head : ProcessFigure → List ℕ
+process_head figure =
+    head_line (codes "# HELP ") [] (process_name figure) (process_help figure)
+    ++ head_line (codes "# TYPE ") [] (process_name figure) (process_kind figure)
+
+unfoldable pub process_text : ProcessFigure → Amount → List ℕ
+process_text figure amount = process_head figure ++ process_name figure ++ codes " " ++ amount_text amount ++ codes "\n"
+
+unfoldable pub process_family : GatewayStatus → ProcessFigure → List ℕ
+process_family gateway figure = if_some (process_text figure) (process_amount figure gateway)
+
+unfoldable pub process_metrics : GatewayStatus → List ℕ
+process_metrics gateway = flat_map (process_family gateway) all_process
+
 -- a route as a label
 unfoldable pub route_label : (name : List ℕ) → List ℕ
 route_label name = codes "{route=\"" ++ name_text name ++ codes "\""
@@ -99,6 +136,24 @@ route_refusals route = flat_map (route_refusal route) all_reasons
 unfoldable pub refusals_text : List RouteStatus → List ℕ
 refusals_text routes =
     head_text (codes "route_") (codes "refusals_total") (codes "Conclusions refused by a route.") (codes "counter") ++ flat_map route_refusals routes
+
+-- its sessions' ends, where they are known
+unfoldable pub ends_name : List ℕ
+ends_name = codes "srtgw_route_ends_total"
+
+unfoldable pub end_sample : (name : List ℕ) → EndCounts → Ending → List ℕ
+end_sample name counts ending =
+    ends_name ++ route_label name ++ codes ",reason=\"" ++ end_label ending ++ codes "\"} " ++ decimal (end_count ending counts) ++ codes "\n"
+
+unfoldable pub end_samples : (name : List ℕ) → EndCounts → List ℕ
+end_samples name counts = flat_map (end_sample name counts) all_endings
+
+unfoldable pub route_ends : RouteStatus → List ℕ
+route_ends route = if_some (end_samples (string_bytes route.name)) route.ends
+
+unfoldable pub ends_text : List RouteStatus → List ℕ
+ends_text routes =
+    head_text (codes "route_") (codes "ends_total") (codes "Ended sessions.") (codes "counter") ++ flat_map route_ends routes
 
 -- a role as a label
 abbrev pub role_label : Role → List ℕ
@@ -204,11 +259,12 @@ gauges_text moment routes = flat_map (gauge_family moment routes) all_gauges
 
 -- the page
 unfoldable pub gateway_metrics : GatewayStatus → List ℕ
-gateway_metrics gateway = build_text gateway.version.now ++ totals_text gateway ++ lobby_text gateway.refused
+gateway_metrics gateway =
+    build_text gateway.version.now ++ totals_text gateway ++ lobby_text gateway.refused ++ causes_text gateway.causes ++ process_metrics gateway
 
 unfoldable pub route_metrics : List RouteStatus → List ℕ
 route_metrics routes =
-    sessions_text routes ++ figures_text routes ++ refusals_text routes ++ counts_text routes
+    sessions_text routes ++ figures_text routes ++ refusals_text routes ++ ends_text routes ++ counts_text routes
 
 unfoldable pub session_metrics : (moment : ℕ) → List RouteStatus → List ℕ
 session_metrics moment routes = gauges_text moment routes ++ session_counts_text routes

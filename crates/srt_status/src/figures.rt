@@ -108,6 +108,7 @@ pub(crate) enum Total {
     Uptime,
     Routes,
     ResidentMemory,
+    ReceiveBuffer,
     KernelDrops,
     Read,
     Answered,
@@ -131,11 +132,12 @@ pub(crate) enum Total {
 }
 
 /// All that is shown of the gateway as a whole, in its order.
-pub(crate) const TOTALS: [Total; 24] = [
+pub(crate) const TOTALS: [Total; 25] = [
     Total::Polling,
     Total::Uptime,
     Total::Routes,
     Total::ResidentMemory,
+    Total::ReceiveBuffer,
     Total::KernelDrops,
     Total::Read,
     Total::Answered,
@@ -449,6 +451,7 @@ pub(crate) fn total_name(total: Total) -> &'static str
         Total::Uptime => "uptime_seconds",
         Total::Routes => "configured_routes",
         Total::ResidentMemory => "resident_memory_bytes",
+        Total::ReceiveBuffer => "receive_buffer_bytes",
         Total::KernelDrops => "kernel_dropped_datagrams_total",
         Total::Read => "poller_read_datagrams_total",
         Total::Answered => "poller_answered_datagrams_total",
@@ -480,6 +483,7 @@ pub(crate) fn total_help(total: Total) -> &'static str
         Total::Uptime => "The time since the start.",
         Total::Routes => "The routes of the configuration.",
         Total::ResidentMemory => "The resident memory of the process.",
+        Total::ReceiveBuffer => "The buffer of the socket, as the kernel gave it.",
         Total::KernelDrops =>
             "Datagrams dropped by the kernel, since the socket's buffer was full.",
         Total::Read => "Datagrams read from the socket.",
@@ -509,8 +513,12 @@ pub(crate) fn total_kind(total: Total) -> &'static str
     ensures { result.now ≡ total_kind total }
 {
     match total {
-        Total::Polling | Total::Uptime | Total::Routes | Total::ResidentMemory | Total::Indexes =>
-            "gauge",
+        Total::Polling
+        | Total::Uptime
+        | Total::Routes
+        | Total::ResidentMemory
+        | Total::ReceiveBuffer
+        | Total::Indexes => "gauge",
         _ => "counter",
     }
 }
@@ -525,6 +533,7 @@ pub(crate) fn total_value(total: Total, gateway: &GatewayStatus<'_>) -> Option<u
         Total::Uptime => Some(gateway.uptime_seconds),
         Total::Routes => Some(u64::from(gateway.routes)),
         Total::ResidentMemory => gateway.resident_bytes,
+        Total::ReceiveBuffer => gateway.receive_buffer_bytes,
         Total::KernelDrops => gateway.kernel_drops,
         Total::Read => Some(poller.read),
         Total::Answered => Some(poller.answered),

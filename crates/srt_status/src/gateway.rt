@@ -52,6 +52,19 @@ pub struct ChangeCounts {
     pub indexes: u64,
 }
 
+/// What the system tells of the process; `None` where it isn't known.
+#[derive(Clone, Copy, Default, PartialEq, Eq)]
+pub struct ProcessUse {
+    /// The processor time of all its threads since its start, in microseconds.
+    pub cpu_micros: Option<u64>,
+    /// The file descriptors that it has open.
+    pub open_descriptors: Option<u64>,
+    /// The most that it may have open.
+    pub most_descriptors: Option<u64>,
+    /// The time of its start, in microseconds since 1970 (UTC).
+    pub started_micros: Option<u64>,
+}
+
 /// The gateway at one time.
 #[derive(Clone, Copy)]
 pub struct GatewayStatus<'a> {
@@ -77,4 +90,8 @@ pub struct GatewayStatus<'a> {
     pub kernel_drops: Option<u64>,
     /// The resident memory of the process, in bytes; None if it isn't known.
     pub resident_bytes: Option<u64>,
+    /// What the process uses besides.
+    pub process: ProcessUse,
+    /// The bytes that the kernel holds for datagrams at the socket before it drops any; None if it isn't known.
+    pub receive_buffer_bytes: Option<u64>,
 }

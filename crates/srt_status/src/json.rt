@@ -9,7 +9,8 @@ ghost use Rattle.srt_status.specs.Json.{refusal_json, publishers_json, subscribe
 ghost use Rattle.srt_status.specs.Json.{session_start, session_json, comma, slot_json, slots_json, mode_json, figure_json, route_start};
 ghost use Rattle.srt_status.specs.Json.{route_counts, route_json, next_route_json, routes_json, version_start, version_json, gateway_json};
 ghost use Rattle.srt_status.specs.Json.{json_of, totals_json, refusals_json, all_publishers_json, all_subscribers_json};
-ghost use Rattle.srt_status.specs.Json.{session_counts_json, gauges_json, figures_json};
+ghost use Rattle.srt_status.specs.Json.{session_counts_json, gauges_json, figures_json, process_figure_json, process_json};
+ghost use Rattle.srt_status.specs.Json.{end_json, all_ends_json, ends_json};
 
 use crate::figures::{
     Amount, COUNTS, Count, GAUGES, Gauge, REASONS, ROUTE_FIGURES, Reason, RouteFigure, TOTALS,
@@ -17,8 +18,10 @@ use crate::figures::{
     refusal_count, route_figure, session_count, subscriber_count, total_name, total_value,
 };
 use crate::gateway::{GatewayStatus, RefusalCounts};
+use crate::labels::{ENDINGS, Ending, end_count, end_label};
 use crate::peers::put_peer;
-use crate::routes::RouteStatus;
+use crate::process::{PROCESS_FIGURES, ProcessFigure, process_amount, process_name};
+use crate::routes::{EndCounts, RouteStatus};
 use crate::text::{put, put_amount, put_id, put_name, put_number};
 use srt_route::{SessionView, Totals};
 use srt_types::{Mode, Role};
@@ -106,6 +109,79 @@ fn put_all_refusals(out: &mut Vec<u8>, counts: &RefusalCounts) -> Result<(), All
     ensures { OnOk result (out.new.items ≡ out.old.items ++ refusals_json counts.now) }
 {
     put_refusals(out, counts, &REASONS)
+}
+
+#[tactic(auto, unfolding(crate::specs::Json::process_figure_json))]
+fn put_process_figure(
+    out: &mut Vec<u8>,
+    gateway: &GatewayStatus<'_>,
+    figure: ProcessFigure,
+) -> Result<(), AllocError>
+    ensures { OnOk result (out.new.items ≡ out.old.items ++ process_figure_json gateway.now figure) }
+{
+    match process_amount(figure, gateway) {
+        Some(amount) => put_amount_member(out, process_name(figure), amount),
+        None => put(out, b""),
+    }
+}
+
+#[tactic(auto, using(crate::proofs::Puts::one_more))]
+fn put_process_figures(
+    out: &mut Vec<u8>,
+    gateway: &GatewayStatus<'_>,
+    figures: &[ProcessFigure],
+) -> Result<(), AllocError>
+    ensures { OnOk result (out.new.items ≡ out.old.items ++ flat_map (process_figure_json gateway.now) figures.now) }
+{
+    for figure in figures {
+        put_process_figure(out, gateway, *figure)?;
+    }
+    Ok(())
+}
+
+/// Puts what is known of the process.
+#[tactic(auto, unfolding(crate::specs::Json::process_json))]
+fn put_process(out: &mut Vec<u8>, gateway: &GatewayStatus<'_>) -> Result<(), AllocError>
+    ensures { OnOk result (out.new.items ≡ out.old.items ++ process_json gateway.now) }
+{
+    put_process_figures(out, gateway, &PROCESS_FIGURES)
+}
+
+#[tactic(auto, using(crate::proofs::Puts::joined), unfolding(crate::specs::Json::end_json))]
+fn put_end(out: &mut Vec<u8>, counts: &EndCounts, ending: Ending) -> Result<(), AllocError>
+    ensures { OnOk result (out.new.items ≡ out.old.items ++ end_json counts.now ending) }
+{
+    put(out, b",\"ends_")?;
+    put(out, end_label(ending).as_bytes())?;
+    put(out, b"\":")?;
+    put_number(out, end_count(ending, counts))
+}
+
+#[tactic(auto, using(crate::proofs::Puts::one_more))]
+fn put_ends_of(out: &mut Vec<u8>, counts: &EndCounts, endings: &[Ending]) -> Result<(), AllocError>
+    ensures { OnOk result (out.new.items ≡ out.old.items ++ flat_map (end_json counts.now) endings.now) }
+{
+    for ending in endings {
+        put_end(out, counts, *ending)?;
+    }
+    Ok(())
+}
+
+#[tactic(auto, unfolding(crate::specs::Json::all_ends_json))]
+fn put_all_ends(out: &mut Vec<u8>, counts: &EndCounts) -> Result<(), AllocError>
+    ensures { OnOk result (out.new.items ≡ out.old.items ++ all_ends_json counts.now) }
+{
+    put_ends_of(out, counts, &ENDINGS)
+}
+
+/// Puts how the sessions of a route ended, if that is known.
+fn put_ends(out: &mut Vec<u8>, ends: &Option<EndCounts>) -> Result<(), AllocError>
+    ensures { OnOk result (out.new.items ≡ out.old.items ++ ends_json ends.now) }
+{
+    match ends {
+        Some(counts) => put_all_ends(out, counts),
+        None => put(out, b""),
+    }
 }
 
 #[tactic(auto, unfolding(crate::specs::Json::publishers_json))]
@@ -378,7 +454,8 @@ fn put_route_start(out: &mut Vec<u8>, route: &RouteStatus) -> Result<(), AllocEr
     put_name(out, route.name.as_str())?;
     put_mode(out, route.mode)?;
     put_all_figures(out, route)?;
-    put_all_refusals(out, &route.refused)
+    put_all_refusals(out, &route.refused)?;
+    put_ends(out, &route.ends)
 }
 
 #[tactic(auto, unfolding(crate::specs::Json::publishers_start))]
@@ -477,7 +554,8 @@ fn put_gateway(out: &mut Vec<u8>, gateway: &GatewayStatus<'_>) -> Result<(), All
 {
     put_version(out, gateway.version)?;
     put_all_totals(out, gateway)?;
-    put_all_refusals(out, &gateway.refused)
+    put_all_refusals(out, &gateway.refused)?;
+    put_process(out, gateway)
 }
 
 /// Puts the status for programs at the end of a text: one JSON object with the gateway's members and its routes. An

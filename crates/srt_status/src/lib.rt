@@ -9,30 +9,32 @@
 //!
 //! Calls: [`put_metrics`] (`metrics.rt`) and [`put_json`] (`json.rt`) put the snapshots into a text, [`request_in`] reads
 //! a request, and [`respond`] (`response.rt`) makes the response to it. The names, the help and the values of all
-//! metrics are in `figures.rt`, the parts of a text in `text.rt` and `peers.rt`, and [`OVERVIEW`], the page for people,
-//! in `overview.rt`.
+//! metrics are in `figures.rt`, those of the process in `process.rt`, labels in `labels.rt`; the parts of a text are in
+//! `text.rt` and `peers.rt`, and [`OVERVIEW`], the page for people, in `overview.rt`.
 #![tactic(auto)]
 
 mod connection;
 mod figures;
 mod gateway;
 mod json;
+mod labels;
 mod metrics;
 mod overview;
 mod peers;
+mod process;
 mod request;
 mod response;
 mod routes;
 mod text;
 
 pub use connection::{Connection, PATIENCE};
-pub use gateway::{CauseCounts, ChangeCounts, GatewayStatus, RefusalCounts};
+pub use gateway::{CauseCounts, ChangeCounts, GatewayStatus, ProcessUse, RefusalCounts};
 pub use json::put_json;
 pub use metrics::put_metrics;
 pub use overview::OVERVIEW;
 pub use request::{Method, Page, Request, request_in};
 pub use response::respond;
-pub use routes::{LimitCounts, RouteStatus};
+pub use routes::{EndCounts, LimitCounts, RouteStatus};
 
 #[cfg(test)]
 mod tests;

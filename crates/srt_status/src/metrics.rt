@@ -10,7 +10,9 @@ ghost use Rattle.srt_status.specs.Metrics.{count_sample, route_count, count_fami
 ghost use Rattle.srt_status.specs.Metrics.{session_count_text, slot_count, route_session_counts, session_count_family, gauge_sample};
 ghost use Rattle.srt_status.specs.Metrics.{session_gauge_text, slot_gauge, route_gauges, gauge_family, gateway_metrics, route_metrics};
 ghost use Rattle.srt_status.specs.Metrics.{session_metrics, metrics_of, lobby_refusals, totals_text, figures_text, counts_text};
-ghost use Rattle.srt_status.specs.Metrics.{session_counts_text, gauges_text};
+ghost use Rattle.srt_status.specs.Metrics.{session_counts_text, gauges_text, cause_start, lobby_cause, lobby_causes, causes_text};
+ghost use Rattle.srt_status.specs.Metrics.{process_head, process_text, process_family, process_metrics, ends_name, end_sample};
+ghost use Rattle.srt_status.specs.Metrics.{end_samples, route_ends, ends_text};
 
 use crate::figures::{
     Amount, COUNTS, Count, GAUGES, Gauge, REASONS, ROUTE_FIGURES, Reason, RouteFigure, TOTALS,
@@ -18,9 +20,15 @@ use crate::figures::{
     gauge_name, publisher_count, reason_labels, refusal_count, route_figure, session_count,
     subscriber_count, total_help, total_kind, total_name, total_value,
 };
-use crate::gateway::{GatewayStatus, RefusalCounts};
+use crate::gateway::{CauseCounts, GatewayStatus, RefusalCounts};
+use crate::labels::{
+    CAUSES, Cause, ENDINGS, Ending, cause_count, cause_label, end_count, end_label,
+};
 use crate::peers::put_peer;
-use crate::routes::RouteStatus;
+use crate::process::{
+    PROCESS_FIGURES, ProcessFigure, process_amount, process_help, process_kind, process_name,
+};
+use crate::routes::{EndCounts, RouteStatus};
 use crate::text::{put, put_amount, put_id, put_name, put_number};
 use srt_route::SessionView;
 use srt_types::Role;
@@ -190,6 +198,133 @@ fn put_lobby(out: &mut Vec<u8>, counts: &RefusalCounts) -> Result<(), AllocError
     put_all_lobby_refusals(out, counts)
 }
 
+#[tactic(auto, unfolding(crate::specs::Metrics::cause_start))]
+fn put_cause_start(out: &mut Vec<u8>) -> Result<(), AllocError>
+    ensures { OnOk result (out.new.items ≡ out.old.items ++ cause_start) }
+{
+    put(out, b"srtgw_lobby_refusal_causes_total{cause=\"")
+}
+
+#[tactic(auto, using(crate::proofs::Puts::joined), unfolding(crate::specs::Metrics::lobby_cause))]
+fn put_lobby_cause(out: &mut Vec<u8>, counts: &CauseCounts, cause: Cause) -> Result<(), AllocError>
+    ensures { OnOk result (out.new.items ≡ out.old.items ++ lobby_cause counts.now cause) }
+{
+    put_cause_start(out)?;
+    put(out, cause_label(cause).as_bytes())?;
+    put(out, b"\"} ")?;
+    put_number(out, cause_count(cause, counts))?;
+    put(out, b"\n")
+}
+
+#[tactic(auto, using(crate::proofs::Puts::one_more))]
+fn put_lobby_causes(
+    out: &mut Vec<u8>,
+    counts: &CauseCounts,
+    causes: &[Cause],
+) -> Result<(), AllocError>
+    ensures { OnOk result (out.new.items ≡ out.old.items ++ flat_map (lobby_cause counts.now) causes.now) }
+{
+    for cause in causes {
+        put_lobby_cause(out, counts, *cause)?;
+    }
+    Ok(())
+}
+
+#[tactic(auto, unfolding(crate::specs::Metrics::lobby_causes))]
+fn put_all_lobby_causes(out: &mut Vec<u8>, counts: &CauseCounts) -> Result<(), AllocError>
+    ensures { OnOk result (out.new.items ≡ out.old.items ++ lobby_causes counts.now) }
+{
+    put_lobby_causes(out, counts, &CAUSES)
+}
+
+/// Puts the refusals with 1002 of callers that belonged to no route, by their cause.
+#[tactic(auto, using(crate::proofs::Puts::joined), unfolding(crate::specs::Metrics::causes_text))]
+fn put_causes(out: &mut Vec<u8>, counts: &CauseCounts) -> Result<(), AllocError>
+    ensures { OnOk result (out.new.items ≡ out.old.items ++ causes_text counts.now) }
+{
+    put_head(
+        out,
+        "",
+        "lobby_refusal_causes_total",
+        "Conclusions refused with 1002 before they belonged to a route.",
+        "counter",
+    )?;
+    put_all_lobby_causes(out, counts)
+}
+
+/// Puts the help and the type of a family of the process, whose name has no prefix.
+#[tactic(auto, using(crate::proofs::Puts::joined), unfolding(crate::specs::Metrics::process_head))]
+fn put_process_head(out: &mut Vec<u8>, figure: ProcessFigure) -> Result<(), AllocError>
+    ensures { OnOk result (out.new.items ≡ out.old.items ++ process_head figure) }
+{
+    put_head_line(
+        out,
+        b"# HELP ",
+        "",
+        process_name(figure),
+        process_help(figure),
+    )?;
+    put_head_line(
+        out,
+        b"# TYPE ",
+        "",
+        process_name(figure),
+        process_kind(figure),
+    )
+}
+
+#[tactic(auto, using(crate::proofs::Puts::joined), unfolding(crate::specs::Metrics::process_text))]
+fn put_process_figure(
+    out: &mut Vec<u8>,
+    figure: ProcessFigure,
+    amount: Amount,
+) -> Result<(), AllocError>
+    ensures { OnOk result (out.new.items ≡ out.old.items ++ process_text figure amount) }
+{
+    put_process_head(out, figure)?;
+    put(out, process_name(figure).as_bytes())?;
+    put(out, b" ")?;
+    put_amount(out, amount)?;
+    put(out, b"\n")
+}
+
+/// Puts one family of the process, if its value is known.
+#[tactic(auto, unfolding(crate::specs::Metrics::process_family))]
+fn put_process_family(
+    out: &mut Vec<u8>,
+    gateway: &GatewayStatus<'_>,
+    figure: ProcessFigure,
+) -> Result<(), AllocError>
+    ensures { OnOk result (out.new.items ≡ out.old.items ++ process_family gateway.now figure) }
+{
+    match process_amount(figure, gateway) {
+        Some(amount) => put_process_figure(out, figure, amount),
+        None => put(out, b""),
+    }
+}
+
+#[tactic(auto, using(crate::proofs::Puts::one_more))]
+fn put_process_families(
+    out: &mut Vec<u8>,
+    gateway: &GatewayStatus<'_>,
+    figures: &[ProcessFigure],
+) -> Result<(), AllocError>
+    ensures { OnOk result (out.new.items ≡ out.old.items ++ flat_map (process_family gateway.now) figures.now) }
+{
+    for figure in figures {
+        put_process_family(out, gateway, *figure)?;
+    }
+    Ok(())
+}
+
+/// Puts the families of the process.
+#[tactic(auto, unfolding(crate::specs::Metrics::process_metrics))]
+fn put_process(out: &mut Vec<u8>, gateway: &GatewayStatus<'_>) -> Result<(), AllocError>
+    ensures { OnOk result (out.new.items ≡ out.old.items ++ process_metrics gateway.now) }
+{
+    put_process_families(out, gateway, &PROCESS_FIGURES)
+}
+
 /// Puts a route as the first of the labels.
 #[tactic(auto, using(crate::proofs::Puts::joined), unfolding(crate::specs::Metrics::route_label))]
 fn put_route_label(out: &mut Vec<u8>, name: &str) -> Result<(), AllocError>
@@ -355,6 +490,82 @@ fn put_refusals(out: &mut Vec<u8>, routes: &[RouteStatus]) -> Result<(), AllocEr
         "counter",
     )?;
     put_all_refusals(out, routes)
+}
+
+#[tactic(auto, unfolding(crate::specs::Metrics::ends_name))]
+fn put_ends_name(out: &mut Vec<u8>) -> Result<(), AllocError>
+    ensures { OnOk result (out.new.items ≡ out.old.items ++ ends_name) }
+{
+    put(out, b"srtgw_route_ends_total")
+}
+
+#[tactic(auto, using(crate::proofs::Puts::joined), unfolding(crate::specs::Metrics::end_sample))]
+fn put_end(
+    out: &mut Vec<u8>,
+    name: &str,
+    counts: &EndCounts,
+    ending: Ending,
+) -> Result<(), AllocError>
+    ensures { OnOk result (out.new.items ≡ out.old.items ++ end_sample name.now counts.now ending) }
+{
+    put_ends_name(out)?;
+    put_route_label(out, name)?;
+    put(out, b",reason=\"")?;
+    put(out, end_label(ending).as_bytes())?;
+    put(out, b"\"} ")?;
+    put_number(out, end_count(ending, counts))?;
+    put(out, b"\n")
+}
+
+#[tactic(auto, using(crate::proofs::Puts::one_more))]
+fn put_ends_of(
+    out: &mut Vec<u8>,
+    name: &str,
+    counts: &EndCounts,
+    endings: &[Ending],
+) -> Result<(), AllocError>
+    ensures { OnOk result (out.new.items ≡ out.old.items ++ flat_map (end_sample name.now counts.now) endings.now) }
+{
+    for ending in endings {
+        put_end(out, name, counts, *ending)?;
+    }
+    Ok(())
+}
+
+#[tactic(auto, unfolding(crate::specs::Metrics::end_samples))]
+fn put_all_ends_of(out: &mut Vec<u8>, name: &str, counts: &EndCounts) -> Result<(), AllocError>
+    ensures { OnOk result (out.new.items ≡ out.old.items ++ end_samples name.now counts.now) }
+{
+    put_ends_of(out, name, counts, &ENDINGS)
+}
+
+#[tactic(auto, unfolding(crate::specs::Metrics::route_ends))]
+fn put_route_ends(out: &mut Vec<u8>, route: &RouteStatus) -> Result<(), AllocError>
+    ensures { OnOk result (out.new.items ≡ out.old.items ++ route_ends route.now) }
+{
+    match &route.ends {
+        Some(counts) => put_all_ends_of(out, route.name.as_str(), counts),
+        None => put(out, b""),
+    }
+}
+
+#[tactic(auto, using(crate::proofs::Puts::one_more))]
+fn put_all_ends(out: &mut Vec<u8>, routes: &[RouteStatus]) -> Result<(), AllocError>
+    ensures { OnOk result (out.new.items ≡ out.old.items ++ flat_map route_ends routes.now) }
+{
+    for route in routes {
+        put_route_ends(out, route)?;
+    }
+    Ok(())
+}
+
+/// Puts how the sessions of routes ended.
+#[tactic(auto, using(crate::proofs::Puts::joined), unfolding(crate::specs::Metrics::ends_text))]
+fn put_ends(out: &mut Vec<u8>, routes: &[RouteStatus]) -> Result<(), AllocError>
+    ensures { OnOk result (out.new.items ≡ out.old.items ++ ends_text routes.now) }
+{
+    put_head(out, "route_", "ends_total", "Ended sessions.", "counter")?;
+    put_all_ends(out, routes)
 }
 
 fn put_role_label(out: &mut Vec<u8>, role: Role) -> Result<(), AllocError>
@@ -825,7 +1036,9 @@ fn put_gateway_metrics(out: &mut Vec<u8>, gateway: &GatewayStatus<'_>) -> Result
 {
     put_build(out, gateway.version)?;
     put_all_totals(out, gateway)?;
-    put_lobby(out, &gateway.refused)
+    put_lobby(out, &gateway.refused)?;
+    put_causes(out, &gateway.causes)?;
+    put_process(out, gateway)
 }
 
 /// Puts the families of all routes.
@@ -836,6 +1049,7 @@ fn put_route_metrics(out: &mut Vec<u8>, routes: &[RouteStatus]) -> Result<(), Al
     put_sessions(out, routes)?;
     put_all_figures(out, routes)?;
     put_refusals(out, routes)?;
+    put_ends(out, routes)?;
     put_all_counts(out, routes)
 }
 

@@ -16,6 +16,25 @@ pub struct LimitCounts {
     pub sessions_per_address: u64,
 }
 
+/// The ended sessions of a route, by the reason of their end.
+#[derive(Clone, Copy, Default, PartialEq, Eq)]
+pub struct EndCounts {
+    /// Their peer sent a SHUTDOWN.
+    pub shutdown: u64,
+    /// Their peer sent a SHUTDOWN, and what was left then couldn't be delivered in time.
+    pub drained_too_long: u64,
+    /// Nothing arrived from their peer for five seconds.
+    pub silence: u64,
+    /// Their window moved past packets that were neither received nor given up.
+    pub window_lost: u64,
+    /// The stream has ended, and all of it was delivered.
+    pub stream_end: u64,
+    /// Their route was closed.
+    pub route_closed: u64,
+    /// The reason isn't known.
+    pub unknown: u64,
+}
+
 /// A route at one time.
 #[derive(Drop)]
 pub struct RouteStatus {
@@ -37,4 +56,6 @@ pub struct RouteStatus {
     pub limits: Option<LimitCounts>,
     /// How often a standby publisher became the active one; None if it isn't known.
     pub take_overs: Option<u64>,
+    /// The sessions that ended since the start; None if that isn't known.
+    pub ends: Option<EndCounts>,
 }

@@ -1,8 +1,9 @@
 //! Texts as programs and people read them, requests as callers send them, and a connection from its beginning to its end.
 
 use crate::{
-    CauseCounts, ChangeCounts, Connection, GatewayStatus, LimitCounts, Method, OVERVIEW, PATIENCE,
-    Page, RefusalCounts, Request, RouteStatus, put_json, put_metrics, request_in, respond,
+    CauseCounts, ChangeCounts, Connection, EndCounts, GatewayStatus, LimitCounts, Method, OVERVIEW,
+    PATIENCE, Page, ProcessUse, RefusalCounts, Request, RouteStatus, put_json, put_metrics,
+    request_in, respond,
 };
 use srt_route::{SessionView, Totals, Traffic};
 use srt_sub::Sendings;
@@ -64,6 +65,8 @@ fn gateway() -> GatewayStatus<'static> {
         },
         kernel_drops: None,
         resident_bytes: Some(1_048_576),
+        process: ProcessUse::default(),
+        receive_buffer_bytes: None,
     }
 }
 
@@ -194,11 +197,12 @@ fn route<R: AllocGlobal>(
             sessions_per_address: 0,
         }),
         take_overs: Some(1),
+        ends: None,
     })
 }
 
 /// Lines of the figures of that gateway with that route, as the text format wants them.
-const LINES: [&str; 26] = [
+const LINES: [&str; 28] = [
     "# HELP srtgw_build_info The version of the program.\n# TYPE srtgw_build_info gauge\nsrtgw_build_info{version=\"0.6.0\"} 1\n# HELP srtgw_up ",
     "\n# TYPE srtgw_up gauge\nsrtgw_up 1\n",
     "\nsrtgw_uptime_seconds 61\n",
@@ -211,6 +215,8 @@ const LINES: [&str; 26] = [
     "\n# TYPE srtgw_config_changes_refused_total counter\nsrtgw_config_changes_refused_total 2\n",
     "\n# TYPE srtgw_used_indexes gauge\nsrtgw_used_indexes 17\n",
     "\nsrtgw_lobby_refusals_total{code=\"1002\",reason=\"PEER\"} 5\n",
+    "\n# TYPE srtgw_lobby_refusal_causes_total counter\nsrtgw_lobby_refusal_causes_total{cause=\"no_name\"} 0\nsrtgw_lobby_refusal_causes_total{cause=\"unknown_name\"} 1\nsrtgw_lobby_refusal_causes_total{cause=\"publish_from\"} 2\n",
+    "\n# TYPE process_resident_memory_bytes gauge\nprocess_resident_memory_bytes 1048576\n# HELP srtgw_route_sessions ",
     "\nsrtgw_route_sessions{route=\"a\\\"b\",role=\"publisher\"} 1\nsrtgw_route_sessions{route=\"a\\\"b\",role=\"subscriber\"} 1\n",
     "\nsrtgw_route_allowed_sessions{route=\"a\\\"b\"} 5\n",
     "\nsrtgw_route_refused_reserved_total{route=\"a\\\"b\"} 2\n",
@@ -249,7 +255,7 @@ fn figures_of_a_gateway(rt: HostRuntime) -> Result<(), Fail> {
 
 /// The status of that gateway with one route that has one session.
 const STATUS: &str =
-    "{\"version\":\"0.6.0\",\"up\":1,\"uptime_seconds\":61,\"configured_routes\":1,\"resident_memory_bytes\":1048576,\"poller_read_datagrams_total\":9,\"poller_answered_datagrams_total\":2,\"poller_accepted_datagrams_total\":3,\"poller_full_datagrams_total\":1,\"poller_dropped_datagrams_total\":2,\"poller_not_allowed_datagrams_total\":1,\"poller_memory_datagrams_total\":1,\"poller_sent_datagrams_total\":8,\"poller_lost_datagrams_total\":7,\"poller_faults_total\":6,\"lobby_refused_no_name_total\":0,\"lobby_refused_unknown_name_total\":1,\"lobby_refused_publish_from_total\":2,\"lobby_refused_request_from_total\":0,\"lobby_refused_publish_key_total\":3,\"lobby_refused_request_key_total\":4,\"config_changes_taken_total\":3,\"config_changes_refused_total\":2,\"used_indexes\":17,\"refusals_PEER\":5,\"refusals_RESOURCE\":0,\"refusals_ROGUE\":0,\"refusals_VERSION\":4,\"refusals_UNSECURE\":0,\"refusals_MESSAGEAPI\":0,\"refusals_FILTER\":0,\"refusals_GROUP\":0,\"routes\":[{\"name\":\"studio\",\"mode\":\"live\",\"allowed_sessions\":5,\"opened_sessions_total\":3,\"take_overs_total\":1,\"refused_sessions_total\":0,\"refused_reserved_total\":2,\"refused_sessions_per_address_total\":0,\"refusals_PEER\":0,\"refusals_RESOURCE\":2,\"refusals_ROGUE\":0,\"refusals_VERSION\":0,\"refusals_UNSECURE\":0,\"refusals_MESSAGEAPI\":0,\"refusals_FILTER\":0,\"refusals_GROUP\":1,\"publishers\":{\"role\":\"publisher\",\"received_packets_total\":1000,\"received_bytes_total\":1316000,\"delivered_packets_total\":990,\"repeated_packets_total\":1,\"late_packets_total\":2,\"ahead_packets_total\":3,\"reported_lost_packets_total\":5,\"naks_sent_total\":6,\"full_window_acks_total\":7,\"given_up_packets_total\":4},\"subscribers\":{\"role\":\"subscriber\",\"given_up_packets_total\":12,\"queued_packets_total\":8,\"queued_bytes_total\":9,\"sent_packets_total\":10,\"resent_packets_total\":11,\"naks_taken_total\":13,\"misdirected_packets_total\":14},\"sessions\":[{\"role\":\"subscriber\",\"session\":\"fedcba98\",\"peer\":\"[2001:db8::1]:9\",\"open_seconds\":61.500000,\"silent_seconds\":61.500000,\"round_trip_seconds\":1.000000,\"round_trip_variance_seconds\":0.000000,\"free_packets\":18,\"in_flight_packets\":19,\"flow_window_packets\":20,\"given_up_packets_total\":15,\"queued_packets_total\":11,\"queued_bytes_total\":12,\"sent_packets_total\":13,\"resent_packets_total\":14,\"naks_taken_total\":16,\"misdirected_packets_total\":17}]}]}\n";
+    "{\"version\":\"0.6.0\",\"up\":1,\"uptime_seconds\":61,\"configured_routes\":1,\"resident_memory_bytes\":1048576,\"poller_read_datagrams_total\":9,\"poller_answered_datagrams_total\":2,\"poller_accepted_datagrams_total\":3,\"poller_full_datagrams_total\":1,\"poller_dropped_datagrams_total\":2,\"poller_not_allowed_datagrams_total\":1,\"poller_memory_datagrams_total\":1,\"poller_sent_datagrams_total\":8,\"poller_lost_datagrams_total\":7,\"poller_faults_total\":6,\"lobby_refused_no_name_total\":0,\"lobby_refused_unknown_name_total\":1,\"lobby_refused_publish_from_total\":2,\"lobby_refused_request_from_total\":0,\"lobby_refused_publish_key_total\":3,\"lobby_refused_request_key_total\":4,\"config_changes_taken_total\":3,\"config_changes_refused_total\":2,\"used_indexes\":17,\"refusals_PEER\":5,\"refusals_RESOURCE\":0,\"refusals_ROGUE\":0,\"refusals_VERSION\":4,\"refusals_UNSECURE\":0,\"refusals_MESSAGEAPI\":0,\"refusals_FILTER\":0,\"refusals_GROUP\":0,\"process_resident_memory_bytes\":1048576,\"routes\":[{\"name\":\"studio\",\"mode\":\"live\",\"allowed_sessions\":5,\"opened_sessions_total\":3,\"take_overs_total\":1,\"refused_sessions_total\":0,\"refused_reserved_total\":2,\"refused_sessions_per_address_total\":0,\"refusals_PEER\":0,\"refusals_RESOURCE\":2,\"refusals_ROGUE\":0,\"refusals_VERSION\":0,\"refusals_UNSECURE\":0,\"refusals_MESSAGEAPI\":0,\"refusals_FILTER\":0,\"refusals_GROUP\":1,\"publishers\":{\"role\":\"publisher\",\"received_packets_total\":1000,\"received_bytes_total\":1316000,\"delivered_packets_total\":990,\"repeated_packets_total\":1,\"late_packets_total\":2,\"ahead_packets_total\":3,\"reported_lost_packets_total\":5,\"naks_sent_total\":6,\"full_window_acks_total\":7,\"given_up_packets_total\":4},\"subscribers\":{\"role\":\"subscriber\",\"given_up_packets_total\":12,\"queued_packets_total\":8,\"queued_bytes_total\":9,\"sent_packets_total\":10,\"resent_packets_total\":11,\"naks_taken_total\":13,\"misdirected_packets_total\":14},\"sessions\":[{\"role\":\"subscriber\",\"session\":\"fedcba98\",\"peer\":\"[2001:db8::1]:9\",\"open_seconds\":61.500000,\"silent_seconds\":61.500000,\"round_trip_seconds\":1.000000,\"round_trip_variance_seconds\":0.000000,\"free_packets\":18,\"in_flight_packets\":19,\"flow_window_packets\":20,\"given_up_packets_total\":15,\"queued_packets_total\":11,\"queued_bytes_total\":12,\"sent_packets_total\":13,\"resent_packets_total\":14,\"naks_taken_total\":16,\"misdirected_packets_total\":17}]}]}\n";
 
 #[test]
 fn status_of_a_gateway(rt: HostRuntime) -> Result<(), Fail> {
@@ -258,6 +264,67 @@ fn status_of_a_gateway(rt: HostRuntime) -> Result<(), Fail> {
     put_json(&mut out, &gateway(), &one)?;
     assert_eq!(rt; out.as_slice(), STATUS.as_bytes());
     Ok(())
+}
+
+/// Asserts that the metrics and the status of this gateway with these routes have these pieces.
+fn assert_shown<R: Abort + AllocGlobal>(
+    rt: &R,
+    gateway: &GatewayStatus<'_>,
+    routes: &[RouteStatus],
+    pieces: &[&'static str],
+) -> Result<(), Fail> {
+    let mut page = Vec::new(rt.alloc());
+    put_metrics(&mut page, gateway, routes)?;
+    put_json(&mut page, gateway, routes)?;
+    let Ok(text) = str::from_utf8(page.as_slice()) else {
+        panic!(rt; "not UTF-8");
+    };
+    assert_pieces(rt, text, pieces);
+    Ok(())
+}
+
+#[test]
+fn what_the_process_uses(rt: HostRuntime) -> Result<(), Fail> {
+    let mut gateway = gateway();
+    gateway.receive_buffer_bytes = Some(425_984);
+    gateway.process = ProcessUse {
+        cpu_micros: Some(12_340_000),
+        open_descriptors: Some(9),
+        most_descriptors: Some(1024),
+        started_micros: Some(1_795_970_000_120_000),
+    };
+    assert_shown(
+        &rt,
+        &gateway,
+        &[],
+        &[
+            "\n# TYPE srtgw_receive_buffer_bytes gauge\nsrtgw_receive_buffer_bytes 425984\n",
+            "\n# HELP process_cpu_seconds_total Processor time of the process, user and system.\n# TYPE process_cpu_seconds_total counter\nprocess_cpu_seconds_total 12.340000\n",
+            "\nprocess_open_fds 9\n",
+            "\nprocess_max_fds 1024\n",
+            "\nprocess_start_time_seconds 1795970000.120000\n",
+            ",\"process_cpu_seconds_total\":12.340000,\"process_resident_memory_bytes\":1048576,\"process_open_fds\":9,\"process_max_fds\":1024,\"process_start_time_seconds\":1795970000.120000,\"routes\":[]}\n",
+        ],
+    )
+}
+
+#[test]
+fn ends_of_sessions_by_reason(rt: HostRuntime) -> Result<(), Fail> {
+    let mut studio = route(&rt, "studio", None, None)?;
+    studio.ends = Some(EndCounts {
+        shutdown: 7,
+        silence: 2,
+        ..EndCounts::default()
+    });
+    assert_shown(
+        &rt,
+        &gateway(),
+        &[studio],
+        &[
+            "\n# TYPE srtgw_route_ends_total counter\nsrtgw_route_ends_total{route=\"studio\",reason=\"shutdown\"} 7\nsrtgw_route_ends_total{route=\"studio\",reason=\"drained_too_long\"} 0\nsrtgw_route_ends_total{route=\"studio\",reason=\"silence\"} 2\n",
+            ",\"refusals_GROUP\":1,\"ends_shutdown\":7,\"ends_drained_too_long\":0,\"ends_silence\":2,\"ends_window_lost\":0,\"ends_stream_end\":0,\"ends_route_closed\":0,\"ends_unknown\":0,\"publishers\":{",
+        ],
+    )
 }
 
 /// That publisher, with this correction of its clock.
@@ -277,15 +344,8 @@ fn assert_clock<R: Abort + AllocGlobal>(
     status: &'static str,
 ) -> Result<(), Fail> {
     let routes = [route(rt, "studio", Some(session), None)?];
-    let mut page = Vec::new(rt.alloc());
-    put_metrics(&mut page, &gateway(), &routes)?;
-    put_json(&mut page, &gateway(), &routes)?;
-    let Ok(text) = str::from_utf8(page.as_slice()) else {
-        panic!(rt; "not UTF-8");
-    };
-    assert_pieces(rt, text, lines);
-    assert!(rt; text.contains(status));
-    Ok(())
+    assert_shown(rt, &gateway(), &routes, lines)?;
+    assert_shown(rt, &gateway(), &routes, &[status])
 }
 
 #[test]

@@ -1,0 +1,7 @@
+use Rattle.std.proofs.Common.{◌≡◌, ◌++◌, take}
+use Rattle.std.specs.List.{flat_map}
+use Rattle.srt_status.specs.Metrics.{end_sample}
+use Rattle.srt_status.proofs.metrics.put_ends_of.Given as goal
+
+abbrev pub invariant-loop-ending : goal.invariant-loop-ending
+invariant-loop-ending l = l.out.items ≡ l.fn.out.items ++ flat_map (end_sample l.name l.counts) (take l.ending-index l.endings)
