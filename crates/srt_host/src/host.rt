@@ -1,19 +1,17 @@
-//! The machine, the configuration's file and standard error, as a watcher uses them.
+//! The machine and the configuration's file, as a watcher uses them.
 
 use crate::clock::Since;
 use crate::times::time_now;
 use srt_config::BindAddress;
-use srt_offline::read_file;
+use srt_offline::read_configuration;
 use srt_procfs::{kernel_drops, resident_memory, stop_requested};
-use srt_types::product_limits::MAX_CONFIG;
 use srt_watch::{ConfigFile, FileStamp, MAX_REASON, Machine};
 use std::fmt::InlineText;
 use std::fs::{Metadata, metadata};
-use std::io::{self, Error, ErrorKind, Write};
 use std::os::unix::fs::MetadataExt;
 use std::rt::Files;
+use std::thread;
 use std::time::{Clock, Duration, Instant};
-use std::{str, thread};
 
 /// The time that a watcher sleeps between two polls, in milliseconds.
 const REST_MS: u64 = 20;
@@ -40,7 +38,7 @@ impl<'a, R: Clock> Host<'a, R> {
     }
 }
 
-impl<R: Clock + Files + AllocGlobal> Machine for Host<'_, R> {
+impl Machine for Host<'_, HostRuntime> {
     fn rest(&self) {
         thread::sleep(self.rt, Duration::from_millis(REST_MS));
     }
@@ -103,7 +101,7 @@ fn changed_at(file: &Metadata) -> u64 {
     whole.wrapping_mul(1_000_000_000).wrapping_add(rest)
 }
 
-impl<R: Files + AllocGlobal> ConfigFile for HostFile<'_, R> {
+impl ConfigFile for HostFile<'_, HostRuntime> {
     fn stamp(&self) -> Option<FileStamp> {
         let found = metadata(self.rt, self.path).ok()?;
         Some(FileStamp {
@@ -116,38 +114,9 @@ impl<R: Files + AllocGlobal> ConfigFile for HostFile<'_, R> {
         if is_pipe_at(self.rt, self.path) {
             return Err(InlineText::of("it is a pipe or a device"));
         }
-        match read_file(self.rt, self.path, MAX_CONFIG) {
+        match read_configuration(self.rt, self.path) {
             Ok(content) => Ok(content),
             Err(unread) => Err(InlineText::of(unread)),
         }
-    }
-}
-
-/// Standard error as a writer of text.
-#[derive(Drop)]
-pub struct Errors<'a, R> {
-    rt: &'a R,
-}
-
-impl<'a, R> Errors<'a, R> {
-    /// Returns standard error of this host.
-    pub fn new(rt: &'a R) -> Errors<'a, R> {
-        Errors { rt }
-    }
-}
-
-impl<R: Eprint> Write for Errors<'_, R> {
-    fn write(&mut self, bytes: &[u8]) -> io::Result<usize> {
-        match str::from_utf8(bytes) {
-            Ok(text) => {
-                self.rt.eprint(text)?;
-                Ok(bytes.len())
-            }
-            Err(_) => Err(Error::from(ErrorKind::InvalidData)),
-        }
-    }
-
-    fn flush(&mut self) -> io::Result<()> {
-        Ok(())
     }
 }

@@ -5,17 +5,20 @@
 //! `srt_procfs` the kernel's texts.
 //!
 //! Types: `Since`, the routes' clock; `Host`, `HostFile` and `Errors`, the machine, the configuration's file and standard
-//! error; `StatusPage`, the page's sockets; `HostWatcher`, a watcher over all of these, and `WatcherFault`, why there is
+//! error, which waits for nobody; `StatusPage`, the page's sockets; `HostWatcher`, a watcher over all of these, and `WatcherFault`, why there is
 //! none.
 //!
 //! Calls: `open_watcher` for a run of a gateway; `time_now` returns the system's time, and `socket_address` the socket
 //! address that a configuration names.
 //!
-//! Files: `clock.rt`, `times.rt`, `address.rt`, `host.rt` and `status_page.rt` have these, and `watching.rt` joins them.
+//! Files: `clock.rt`, `times.rt`, `address.rt`, `host.rt`, `errors.rt` and `status_page.rt` have these, `held_text.rt` the
+//! log's text that waits, and `watching.rt` joins all.
 #![tactic(auto)]
 
 mod address;
 mod clock;
+mod errors;
+mod held_text;
 mod host;
 mod status_page;
 mod times;
@@ -23,7 +26,8 @@ mod watching;
 
 pub use address::socket_address;
 pub use clock::Since;
-pub use host::{Errors, Host, HostFile};
+pub use errors::Errors;
+pub use host::{Host, HostFile};
 pub use status_page::StatusPage;
 pub use times::time_now;
 pub use watching::{HostWatcher, WatcherFault, open_watcher};

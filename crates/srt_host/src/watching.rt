@@ -1,7 +1,8 @@
 //! The watcher of a gateway that runs on this machine.
 
 use crate::address::socket_address;
-use crate::host::{Errors, Host, HostFile};
+use crate::errors::Errors;
+use crate::host::{Host, HostFile};
 use crate::status_page::StatusPage;
 use srt_command_line::{Manner, VERSION};
 use srt_config::Config;
@@ -93,11 +94,14 @@ pub fn open_watcher<'a>(
 ) -> Result<HostWatcher<'a>, WatcherFault> {
     let config = &explained.config;
     let page = open_page(machine, config)?;
+    let Ok(errors) = Errors::open(machine, machine.alloc()) else {
+        return Err(WatcherFault::OutOfMemory);
+    };
     let Ok(mut watcher) = Watcher::open(
         machine.alloc(),
         Host::new(machine, start, config.bind),
         page,
-        Errors::new(machine),
+        errors,
         manner.is_timed,
         config.entries.as_slice(),
         beginning(machine, config, manner),

@@ -1,7 +1,10 @@
 pub mod Appended
+pub mod Asked
 pub mod Logging
 pub mod LossLines
-pub mod RouteLines
-pub mod Reloading
-pub mod ShownSlots
 pub mod PagesShown
+pub mod ReadTexts
+pub mod Reloading
+pub mod RouteLines
+pub mod ShownSlots
+pub mod Steered

@@ -1,8 +1,8 @@
 -- What a log writes, call by call.
 use Rattle.std.proofs.Common.{◌≡◌, ℕ, ◌+◌, ◌/◌, Bool, true, false, if◌then◌else◌, nat_le, List, [], ◌∷◌, ◌++◌}
-use Rattle.std.proofs.Common.{◌<◌, length, map, take, get_or, Option, refl, sym, ap, ◌∙◌, subst, append_assoc, append-nil}
+use Rattle.std.proofs.Common.{◌<◌, length, map, take, get_or, Option, refl, sym, ap, ◌∙◌, subst, append_assoc, append-nil, None, Some}
 use Rattle.std.proofs.KnownBytes.{Appends-nil, Appends-trans}
-use Rattle.std.specs.Io.KnownBytes.{Appends}
+use Rattle.std.specs.Io.KnownBytes.{Appends, Keeps}
 use Rattle.srt_log.specs.LineLimit.{LimitCall, StandsFor, omitted_at}
 use Rattle.srt_watch.proofs.Appended.{mapped}
 use Rattle.srt_watch.specs.declared.log.When.{When}
@@ -139,3 +139,24 @@ polled_text p p' when n count missed sum is me se s h counted =
 pub logged_mapped : {A : Type 0} (f : A → LogCall) (d : A) (xs : List A) (i : ℕ) (a b c : Option (List ℕ)) (p q r : LogPace) → i < length xs →
     Logged a b p q (map f (take i xs)) → Logged b c q r (f (get_or xs i d) ∷ []) → Logged a c p r (map f (take (i + 1) xs))
 logged_mapped f d xs i a b c p q r within l m = subst (λ t. Logged a c p r t) (sym (mapped f d xs i within)) (logged_both a b c p q r _ _ l m)
+
+-- bytes that stayed, and then grew by nothing
+kept_then : (a b c : Option (List ℕ)) → Keeps a b → Appends b c [] → Appends a c []
+kept_then None b c k q = tt
+kept_then (Some x) None c k q = absurd k
+kept_then (Some x) (Some y) None k q = absurd q
+kept_then (Some x) (Some y) (Some z) k q = q ∙ ap (λ l. l ++ []) k
+
+-- behind a flush the number of lines that the writer had no room for was written: none while no write has failed
+pub caught_up : (a b c : Option (List ℕ)) (p r : LogPace) (when : When) (count : ℕ) → Keeps a b → (p.is_whole ≡ true → count ≡ 0) →
+    Wrote b c p r (left_out_text when count) → Logged a c p r []
+unfolding state_after_all text_of_all
+caught_up a b c p r when count kept none w = record {
+  whole_is = w.whole_is;
+  state_is = λ s h. record {
+    limit_stands = subst (λ l. StandsFor l s.calls) (sym w.limit_is) h.limit_stands;
+    missed_is = w.missed_is ∙ h.missed_is;
+    second_is = w.second_is ∙ h.second_is;
+  };
+  text_is = λ s h e. kept_then a b c kept (subst (λ n. Appends b c (left_out_text when n)) (none (w.whole_is e)) (w.text_is e));
+}

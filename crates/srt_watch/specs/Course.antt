@@ -14,6 +14,11 @@ first_course = record { next_snapshot = 0; ends_at = None; requested_at = None }
 abbrev pub ending : Course → (moment lasts : ℕ) → Course
 ending course moment lasts = record course { ends_at = Some (later moment lasts) }
 
+-- a run that begins at this moment ends by itself if it lasts so long
+abbrev pub begun : Course → (moment : ℕ) → (lasts : Option ℕ) → Course
+begun course moment None = course
+begun course moment (Some lasts) = ending course moment lasts
+
 -- snapshots are due twice a second
 abbrev pub is_due : Course → (moment : ℕ) → Bool
 is_due course moment = not (nat_lt moment course.next_snapshot)

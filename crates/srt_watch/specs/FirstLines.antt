@@ -28,8 +28,3 @@ abbrev pub first_calls : Option Start → List (InlineText 512) → When → (ro
 first_calls None warnings when routes memory = []
 first_calls (Some start) warnings when routes memory =
     Always when (started_words start routes memory) ∷ (unblocked_calls when start.is_blocked ++ warning_calls when warnings)
-
--- how long the gateway serves callers from then on
-abbrev pub lasts_of : Option Start → Option ℕ
-lasts_of None = None
-lasts_of (Some start) = start.lasts

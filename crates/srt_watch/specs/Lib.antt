@@ -1,3 +1,4 @@
+pub mod Facts
 pub mod Machines
 pub mod Log
 pub mod Losses
@@ -6,6 +7,7 @@ pub mod Course
 pub mod Showing
 pub mod Census
 pub mod ConfigFile
+pub mod Configs
 pub mod Indexes
 pub mod Requests
 pub mod ChangeLines
@@ -16,4 +18,5 @@ pub mod RouteLines
 pub mod Following
 pub mod Watching
 pub mod Reloads
+pub mod Answers
 pub mod Stopping

@@ -1,7 +1,8 @@
 -- The gateway as a whole, as the status page shows it: the poller's last report, and the counts of refusals and of changes.
-use Rattle.std.specs.Prelude.{ℕ, ◌-◌, ◌/◌, ◌^◌, ◌==◌, min, nat_lt, List, Option, None, if◌then◌else◌}
+use Rattle.std.specs.Prelude.{ℕ, ◌-◌, ◌/◌, ◌^◌, ◌==◌, min, nat_lt, List, Option, None, is_some, if◌then◌else◌}
 use denote.Ref.{Bor}
 use Rattle.srt_types.specs.declared.shared.NotAdmitted.{NotAdmitted}
+use Rattle.srt_supervision.specs.declared.refusal.Refusal.{Refusal}
 use Rattle.srt_supervision.specs.declared.report.Report.{Report}
 use Rattle.srt_supervision.specs.declared.watch.RunStatus.{RunStatus}
 use Rattle.srt_status.specs.declared.gateway.CauseCounts.{CauseCounts}
@@ -60,6 +61,10 @@ abbrev pub with_refused : Overview → (code : ℕ) → Option NotAdmitted → O
 with_refused overview code cause =
     record overview { refused = with_refusal overview.refused code; causes = with_cause overview.causes cause }
 
+-- a refusal is counted here if it is one of the lobby; a route counts its own
+abbrev pub after_refusal : Overview → Refusal → Overview
+after_refusal overview refusal = if is_some refusal.route then overview else with_refused overview refusal.code refusal.cause
+
 abbrev pub changes_with : (indexes : ℕ) → ChangeCounts → ChangeCounts
 changes_with indexes changes = record changes { indexes = indexes }
 
@@ -78,4 +83,6 @@ gateway_of overview version moment routes changes = record {
   changes = changes;
   kernel_drops = overview.drops;
   resident_bytes = overview.memory;
+  process = record { cpu_micros = None; open_descriptors = None; most_descriptors = None; started_micros = None };
+  receive_buffer_bytes = None;
 }

@@ -18,13 +18,20 @@ pub struct FileStamp {
     pub size: u64,
 }
 
-/// The file of a configuration, which may change while the gateway runs. No clause is about its results.
+/// The file of a configuration, which may change while the gateway runs.
 pub trait ConfigFile {
+    ghost use Rattle.std.specs.Prelude.{IfOk};
+    ghost use Rattle.srt_watch.specs.Facts.{FileFacts, any_file};
+
+    /// With which configuration the run began, and what was read since. It may be nothing.
+    ghost facts: { FileFacts } = { any_file };
+
     /// Returns its stamp; `None` if that isn't known.
     fn stamp(&self) -> Option<FileStamp>;
 
-    /// Returns its content, at most 65,536 bytes, or why it can't be read, in words for people. Allocates.
-    fn read(&self) -> Result<Vec<u8>, InlineText<MAX_REASON>>;
+    /// Returns its content, if it isn't too large for a configuration, or why it can't be read, in words for people. Allocates.
+    fn read(&self) -> Result<Vec<u8>, InlineText<MAX_REASON>>
+        ensures { IfOk result (λ content. facts.was_read content.items) };
 }
 
 /// Whether a file may have another content than at the poll before.

@@ -3,7 +3,7 @@
 ghost use Rattle.std.specs.Prelude.{◌≡◌, [], ◌∷◌, ◌++◌, OnOk, Some, None};
 ghost use Rattle.srt_log.specs.Events.{event_text};
 ghost use Rattle.srt_watch.specs.Log.{Logged};
-ghost use Rattle.srt_watch.specs.FirstLines.{started_words, first_calls, warning_call, warning_calls, unblocked_calls, lasts_of};
+ghost use Rattle.srt_watch.specs.FirstLines.{started_words, first_calls, warning_call, warning_calls, unblocked_calls};
 
 use crate::log::{LogWriter, When};
 use srt_log::LogEvent;
@@ -80,8 +80,8 @@ impl FirstLines {
         }
     }
 
-    /// Writes the first lines, once all threads run and all memory is allocated. Returns how long the gateway serves callers
-    /// from now on, if it stops by itself. None if the lines were written before. `memory`: that of the process, in bytes.
+    /// Writes the first lines, once all threads run and all memory is allocated, unless they were written before. `memory`:
+    /// that of the process, in bytes.
     #[tactic(auto, using(crate::proofs::Logging::logged_nothing, crate::proofs::Logging::logged_both))]
     pub(crate) fn log<W: Write + Drop>(
         &mut self,
@@ -89,19 +89,17 @@ impl FirstLines {
         when: When,
         routes: u32,
         memory: u64,
-    ) -> Option<u64>
-        ensures result { result ≡ lasts_of self.old.start }
+    )
         ensures start { self.new.start ≡ None }
         ensures logged { Logged (W.contents log.old.out) (W.contents log.new.out) log.old.pace log.new.pace
             (first_calls self.old.start self.old.warnings.items when routes memory) }
     {
         let Some(start) = self.start.take() else {
-            return None;
+            return;
         };
         log.append_always(when, started(start, routes, memory));
         FirstLines::log_unblocked(start, log, when);
         self.log_warnings(log, when);
-        start.lasts
     }
 }
 

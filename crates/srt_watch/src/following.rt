@@ -1,11 +1,12 @@
 //! How a watcher follows the configuration's file: the change that a changed file requests, and what becomes of it.
 
-ghost use Rattle.std.specs.Prelude.{◌≡◌, IfOk, IfSome, map, length};
-ghost use Rattle.srt_types.specs.Terms.{terms_of};
-ghost use Rattle.srt_supervision.specs.Answers.{Answer};
+ghost use Rattle.std.specs.Prelude.{◌≡◌, ℕ, IfOk, IfSome, map, length};
+ghost use Rattle.srt_types.specs.Terms.{Terms, terms_of};
+ghost use Rattle.srt_supervision.specs.Answers.{Closes, Opens};
+ghost use Rattle.srt_watch.specs.Answers.{WasInForce, WasRead, IsToClose, IsToOpen};
 ghost use Rattle.srt_watch.specs.Indexes.{numbers_of};
 ghost use Rattle.srt_watch.specs.Requests.{config_of, first_indexes};
-ghost use Rattle.srt_watch.specs.Following.{IsWanted, IsTaken, IsRequested, IsFollowed, closes_of, opens_of};
+ghost use Rattle.srt_watch.specs.Following.{IsTaken, IsRequested, IsFollowed, closes_of, opens_of};
 
 use crate::change_log::ChangeLog;
 use crate::config_file::ConfigFile;
@@ -28,10 +29,11 @@ struct Requested {
 
 /// The configuration that the gateway follows.
 #[derive(Drop)]
-pub(crate) struct Following<'a, F: Drop> {
+pub(crate) struct Following<'a, F: ConfigFile + Drop> {
     alloc: Global,
     file: WatchedFile<F>,
     in_force: InForce<'a>,
+    ghost known: { ∥ WasInForce F.facts in_force ∥₁ },
 }
 
 impl<'a, F: ConfigFile + Drop> Following<'a, F> {
@@ -42,6 +44,7 @@ impl<'a, F: ConfigFile + Drop> Following<'a, F> {
         config: &'a Config,
         file: F,
     ) -> Result<Following<'a, F>, AllocError>
+        requires { F.facts.was_first config.now }
         ensures config { IfOk result (λ f. config_of f.in_force ≡ config.now) }
         ensures indexes { IfOk result (λ f. f.in_force.indexes.items ≡ first_indexes (length config.now.entries.items)) }
     {
@@ -55,7 +58,7 @@ impl<'a, F: ConfigFile + Drop> Following<'a, F> {
     // Polls the file, once a second. None if it has nothing new.
     fn poll(&mut self, moment: u64) -> Option<Result<Wanted, NotTaken>>
         ensures in_force { self.new.in_force ≡ self.old.in_force }
-        ensures wanted { IfSome result (λ found. IfOk found (IsWanted self.old.in_force)) }
+        ensures wanted { IfSome result (λ found. IfOk found (WasRead F.facts self.old.in_force)) }
     {
         match self.file.poll(moment)? {
             Ok(content) => {
@@ -76,6 +79,7 @@ impl<'a, F: ConfigFile + Drop> Following<'a, F> {
         change: PreparedChange,
         first: usize,
     )
+        requires { WasRead F.facts self.old.in_force change.wanted }
         ensures { IsTaken self.old.in_force self.new.in_force change.wanted first }
     {
         let before = routes.used();
@@ -94,7 +98,9 @@ impl<'a, F: ConfigFile + Drop> Following<'a, F> {
         run: &mut C,
         requested: Requested,
     )
-        requires known { (a : Answer) → C.requires_of a }
+        requires closings { (r : ℕ) → ∥ IsToClose F.facts r ∥₁ → C.requires_of (Closes r) }
+        requires openings { (t : Terms) → ∥ IsToOpen F.facts t ∥₁ → C.requires_of (Opens t) }
+        requires read { WasRead F.facts self.old.in_force requested.change.wanted }
         requires numbers { requested.change.numbers ≡ numbers_of requested.change.wanted.changes.gone.items requested.change.wanted.changes.routes.items }
         requires closes { requested.changes.closes.items ≡ closes_of self.old.in_force requested.change.wanted }
         requires opens { map terms_of requested.changes.opens.items ≡ opens_of requested.change.wanted }
@@ -121,7 +127,8 @@ impl<'a, F: ConfigFile + Drop> Following<'a, F> {
         routes: &mut WatchedRoutes,
         run: &mut C,
     )
-        requires known { (a : Answer) → C.requires_of a }
+        requires closings { (r : ℕ) → ∥ IsToClose F.facts r ∥₁ → C.requires_of (Closes r) }
+        requires openings { (t : Terms) → ∥ IsToOpen F.facts t ∥₁ → C.requires_of (Opens t) }
         ensures { IsFollowed self.old.in_force self.new.in_force (C.asked run.old) (C.asked run.new) }
     {
         let wanted = match self.poll(when.moment) {

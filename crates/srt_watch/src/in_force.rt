@@ -3,6 +3,7 @@
 ghost use Rattle.std.specs.Prelude.{◌≡◌, false, length, IfOk};
 ghost use Rattle.srt_config.specs.Config.{settings_of};
 ghost use Rattle.srt_config.specs.Changes.{requested, requested_by, any_fixed};
+ghost use Rattle.srt_watch.specs.Configs.{IsConfigOf};
 ghost use Rattle.srt_watch.specs.Requests.{config_of, first_indexes};
 
 use crate::config_file::MAX_REASON;
@@ -92,6 +93,7 @@ impl<'a> InForce<'a> {
     pub(crate) fn wanted(&self, alloc: Global, content: &[u8]) -> Result<Wanted, NotTaken>
         ensures changes { IfOk result (λ w. requested_by w.changes ≡ requested (settings_of (config_of self.now)) (settings_of w.config)) }
         ensures fixed { IfOk result (λ w. any_fixed w.changes.fixed ≡ false) }
+        ensures config { IfOk result (λ w. IsConfigOf content.now w.config) }
     {
         let config = match explain(alloc, content) {
             Ok(explained) => explained.config,

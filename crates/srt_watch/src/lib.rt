@@ -10,7 +10,7 @@
 //! its first line, and when the gateway stops by itself.
 //!
 //! Files: `watcher.rt` has the calls of `Watch`, and passes each to the part that it is about.
-//! - When: `course.rt` has the times of snapshots, and the stop.
+//! - When: `course.rt` has the times of snapshots, and the stop; `steering.rt` ties the stop to the machine's signal and clock.
 //! - Log: `log.rt` writes lines, at most 50 a second. Their events are of the start (`first_lines.rt`), of the socket's faults
 //!   and lost datagrams (`losses.rt`), of sessions (`route_lines.rt`) and of a changed configuration (`change_log.rt`).
 //! - Page: `page.rt` shows the gateway (`overview.rt`) and its routes (`watched_routes.rt`). `showing.rt` takes the snapshots of
@@ -42,6 +42,7 @@ mod prepared_change;
 mod route_lines;
 mod showing;
 mod status_server;
+mod steering;
 mod stopping;
 mod watched_file;
 mod watched_routes;

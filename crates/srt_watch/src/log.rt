@@ -7,7 +7,7 @@ ghost use Rattle.srt_watch.specs.Log.{Offered, Always, Polled, Missed, Closed};
 
 use crate::machine::Machine;
 use srt_log::{LineLimit, LogEvent, utc_text, write_line};
-use std::io::Write;
+use std::io::{ErrorKind, Write};
 use std::mem;
 
 /// A time, by two clocks.
@@ -30,6 +30,7 @@ impl When {
     /// Reads both clocks. Lines have a time if they are to be timed.
     pub(crate) fn now<M: Machine>(machine: &mut M, is_timed: bool) -> When
         ensures time { IfSome (M.says machine.old) (λ s. IsTimeOf is_timed s result) }
+        ensures known { M.facts.was_moment result.moment }
         ensures machine { M.says machine.new ≡ M.says machine.old }
     {
         let moment = machine.moment();
@@ -86,6 +87,9 @@ impl LogPace {
 pub(crate) struct LogWriter<W: Drop> {
     pub(crate) out: W,
     pace: LogPace,
+    // lines that the writer had no room for, and that aren't logged as left out yet
+    refused: u64,
+    ghost counted: { pace.is_whole ≡ true → refused ≡ 0 },
 }
 
 impl<W: Write + Drop> LogWriter<W> {
@@ -98,6 +102,7 @@ impl<W: Write + Drop> LogWriter<W> {
         LogWriter {
             out,
             pace: LogPace::new(),
+            refused: 0,
         }
     }
 
@@ -108,13 +113,19 @@ impl<W: Write + Drop> LogWriter<W> {
         self.pace.missed = self.pace.missed.saturating_add(count);
     }
 
-    // Writes a line, whatever the limit. A failed write is ignored: the gateway continues without a log.
-    fn write(&mut self, when: When, event: LogEvent<'_>)
+    // Writes a line, whatever the limit. If the writer has no room for it now, the `count` lines that it stands for are
+    // counted; any other failed write is ignored: the gateway continues without a log.
+    fn write(&mut self, when: When, event: LogEvent<'_>, count: u64)
         ensures { Wrote (W.contents self.old.out) (W.contents self.new.out) self.old.pace self.new.pace (line_at when (event_text event.entry)) }
     {
         match write_line(&mut self.out, when.stamp, event) {
             Ok(()) => {}
-            Err(_) => self.pace.is_whole = false,
+            Err(error) => {
+                self.pace.is_whole = false;
+                if error.kind() == ErrorKind::WouldBlock {
+                    self.refused = self.refused.saturating_add(count);
+                }
+            }
         }
     }
 
@@ -123,7 +134,7 @@ impl<W: Write + Drop> LogWriter<W> {
         ensures { Wrote (W.contents self.old.out) (W.contents self.new.out) self.old.pace self.new.pace (left_out_text when count) }
     {
         if count > 0 {
-            self.write(when, LogEvent::LeftOut { count });
+            self.write(when, LogEvent::LeftOut { count }, count);
         }
     }
 
@@ -132,7 +143,7 @@ impl<W: Write + Drop> LogWriter<W> {
         ensures { Wrote (W.contents self.old.out) (W.contents self.new.out) self.old.pace self.new.pace (line_if is_written when (event_text event.entry)) }
     {
         if is_written {
-            self.write(when, event);
+            self.write(when, event, 1);
         }
     }
 
@@ -151,7 +162,7 @@ impl<W: Write + Drop> LogWriter<W> {
         ensures { Logged (W.contents self.old.out) (W.contents self.new.out) self.old.pace self.new.pace (Always when (event_text event.entry) ∷ []) }
     {
         self.end_second(when);
-        self.write(when, event);
+        self.write(when, event, 1);
     }
 
     /// Writes how many lines the last second left out, once, after its end.
@@ -163,6 +174,16 @@ impl<W: Write + Drop> LogWriter<W> {
         self.append_left_out(when, count.saturating_add(missed));
     }
 
+    /// Lets the writer write what waits in it, and then writes how many lines it had no room for, if some were and there
+    /// is room again.
+    pub fn catch_up(&mut self, when: When)
+        ensures { Logged (W.contents self.old.out) (W.contents self.new.out) self.old.pace self.new.pace [] }
+    {
+        let _ = self.out.flush();
+        let count = mem::replace(&mut self.refused, 0);
+        self.append_left_out(when, count);
+    }
+
     /// Writes how many lines the current second has left out so far, at the end of the log.
     pub fn end(&mut self, when: When)
         ensures { Logged (W.contents self.old.out) (W.contents self.new.out) self.old.pace self.new.pace (Closed when ∷ []) }
@@ -171,5 +192,13 @@ impl<W: Write + Drop> LogWriter<W> {
         let missed = mem::replace(&mut self.pace.missed, 0);
         let left_out = self.pace.limit.left_out();
         self.append_left_out(when, left_out.saturating_add(missed));
+    }
+}
+
+#[cfg(test)]
+impl LogWriter<Vec<u8>> {
+    /// Forgets what was written.
+    pub(crate) fn clear(&mut self) {
+        self.out.clear();
     }
 }

@@ -2,8 +2,12 @@
 
 /// Clocks, signals and counters of the machine.
 pub trait Machine {
-    ghost use Rattle.std.specs.Prelude.{◌≡◌, Option, None, IfSome};
+    ghost use Rattle.std.specs.Prelude.{◌≡◌, true, Option, None, IfSome};
+    ghost use Rattle.srt_watch.specs.Facts.{MachineFacts, any_machine};
     ghost use Rattle.srt_watch.specs.Machines.{MachineState};
+
+    /// What only its calls ensure. It may be nothing.
+    ghost facts: { MachineFacts } = { any_machine };
 
     /// What its calls return, or `None` for a machine that doesn't tell.
     ghost says: { Self → Option MachineState } = { λ _. None };
@@ -17,6 +21,7 @@ pub trait Machine {
     /// Reads the routes' clock, in microseconds.
     fn moment(&mut self) -> u64
         ensures moment { IfSome (says self.old) (λ s. result ≡ s.moment) }
+        ensures known { facts.was_moment result }
         ensures stays { says self.new ≡ says self.old };
 
     /// Reads the system's clock, in microseconds since 1970.
@@ -25,7 +30,8 @@ pub trait Machine {
 
     /// Whether a signal to stop has arrived.
     fn stop_requested(&self) -> bool
-        ensures { IfSome (says self.now) (λ s. result ≡ s.stops) };
+        ensures says { IfSome (says self.now) (λ s. result ≡ s.stops) }
+        ensures known { result ≡ true → facts.was_signalled };
 
     /// Returns the memory of the process, in bytes; `None` if that isn't known.
     fn memory(&self) -> Option<u64>

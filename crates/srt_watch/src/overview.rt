@@ -4,7 +4,7 @@ ghost use Rattle.std.specs.Prelude.{◌≡◌};
 ghost use Rattle.srt_watch.specs.Overview.{after_report, with_report, no_overview, with_refused, gateway_of};
 
 use crate::census::{count_cause, count_refusal};
-use srt_status::{CauseCounts, ChangeCounts, GatewayStatus, RefusalCounts};
+use srt_status::{CauseCounts, ChangeCounts, GatewayStatus, ProcessUse, RefusalCounts};
 use srt_supervision::{Report, RunStatus};
 use srt_types::NotAdmitted;
 
@@ -101,6 +101,8 @@ impl Overview {
             changes,
             kernel_drops: self.drops,
             resident_bytes: self.memory,
+            process: ProcessUse::default(),
+            receive_buffer_bytes: None,
         }
     }
 }

@@ -1,5 +1,7 @@
 //! The configuration's file: when it is polled, and what is new in it.
 
+ghost use Rattle.std.specs.Prelude.{◌≡◌, IfOk, IfSome, Some};
+
 use crate::config_file::{ConfigFile, LastPoll, MAX_REASON, is_other};
 use std::fmt::InlineText;
 use std::mem;
@@ -36,7 +38,9 @@ impl<F: ConfigFile + Drop> WatchedFile<F> {
     }
 
     // Reads the file if it is to be read. None otherwise, and after a fault of reading that was returned before.
-    fn read(&mut self) -> Option<Result<Vec<u8>, InlineText<MAX_REASON>>> {
+    fn read(&mut self) -> Option<Result<Vec<u8>, InlineText<MAX_REASON>>>
+        ensures { IfSome result (λ found. IfOk found (λ content. F.facts.was_read content.items)) }
+    {
         let stamp = self.file.stamp();
         if !self.last_poll.reads(stamp) {
             return None;
@@ -52,7 +56,9 @@ impl<F: ConfigFile + Drop> WatchedFile<F> {
     /// Polls the file, once a second, and sooner while it may be half written. Returns its content, or why it can't be
     /// read. None if nothing is new: it may be half written, its content is the one that was kept, or the fault was
     /// returned before. Allocates its content.
-    pub(crate) fn poll(&mut self, moment: u64) -> Option<Result<Vec<u8>, InlineText<MAX_REASON>>> {
+    pub(crate) fn poll(&mut self, moment: u64) -> Option<Result<Vec<u8>, InlineText<MAX_REASON>>>
+        ensures { IfSome result (λ found. IfOk found (λ content. F.facts.was_read content.items)) }
+    {
         if moment < self.next_poll {
             return None;
         }

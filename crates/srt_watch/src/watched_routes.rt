@@ -124,6 +124,7 @@ fn empty_status(alloc: Global, mode: Mode, sessions: u32) -> RouteStatus {
         refused: RefusalCounts::default(),
         limits: None,
         take_overs: Some(0),
+        ends: None,
     }
 }
 

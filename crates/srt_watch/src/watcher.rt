@@ -1,13 +1,16 @@
 //! A watcher: its rests and snapshots, the changes that it requests of the run, and how it stops the gateway.
 
 ghost use Rattle.std.specs.Prelude.{◌≡◌, [], ◌∷◌};
-ghost use Rattle.srt_watch.specs.Log.{Logged};
+ghost use Rattle.std.specs.Option.{ForSome};
+ghost use Rattle.srt_watch.specs.Answers.{IsAnswer};
+ghost use Rattle.srt_watch.specs.Log.{Logged, Missed};
+ghost use Rattle.srt_watch.specs.Losses.{with_faults, with_missed, more_missed};
+ghost use Rattle.srt_watch.specs.Overview.{with_report, after_refusal};
 ghost use Rattle.srt_watch.specs.Routes.{name_of, requested_by};
 ghost use Rattle.srt_watch.specs.Watching.{refused_call, stop_calls, CheckedStop};
 
 use crate::change_log::ChangeLog;
 use crate::config_file::ConfigFile;
-use crate::course::Course;
 use crate::first_lines::{FirstLines, Start};
 use crate::following::Following;
 use crate::log::{LogWriter, When};
@@ -17,7 +20,7 @@ use crate::overview::Overview;
 use crate::page::Page;
 use crate::route_lines::{RouteLog, log_changes, log_limits, take_overs};
 use crate::status_server::StatusServer;
-use crate::stopping::StopStep;
+use crate::steering::Steering;
 use crate::watched_routes::WatchedRoutes;
 use srt_config::Config;
 use srt_log::{LogEvent, StopCause};
@@ -67,24 +70,26 @@ fn log_stop<W: Write + Drop>(log: &mut LogWriter<W>, when: When, by: Option<Stop
 // Logs a requested stop, once.
 fn check_stop<M: Machine, W: Write + Drop>(
     machine: &M,
-    course: &mut Course,
+    steering: &mut Steering<M>,
     log: &mut LogWriter<W>,
     when: When,
 )
-    ensures { CheckedStop (M.says machine.now) course.old course.new (W.contents log.old.out) (W.contents log.new.out) log.old.pace log.new.pace when }
+    requires { M.facts.was_moment when.moment }
+    ensures { CheckedStop (M.says machine.now) steering.old.course steering.new.course (W.contents log.old.out) (W.contents log.new.out)
+        log.old.pace log.new.pace when }
 {
     let requested = machine.stop_requested();
-    let by = course.stop(requested, when.moment);
+    let by = steering.stop(requested, when.moment);
     log_stop(log, when, by);
 }
 
 /// The watcher of a gateway. It logs sessions, refusals and faults, shows the status page, requests the changes of a changed
 /// configuration, and stops the gateway on a signal or after its time.
 #[derive(Drop)]
-pub struct Watcher<'a, M: Drop, W: Drop, P: Drop, F: Drop> {
+pub struct Watcher<'a, M: Machine + Drop, W: Drop, P: Drop, F: ConfigFile + Drop> {
     alloc: Global,
     machine: M,
-    course: Course,
+    steering: Steering<M>,
     // lines begin with their time
     is_timed: bool,
     changes: ChangeLog<W>,
@@ -116,12 +121,14 @@ where
         is_timed: bool,
         entries: &[Entry],
         start: Start,
-    ) -> Result<Watcher<'a, M, W, P, F>, AllocError> {
+    ) -> Result<Watcher<'a, M, W, P, F>, AllocError>
+        requires { ForSome start.lasts M.facts.was_lasting }
+    {
         let routes = WatchedRoutes::open(alloc, entries)?;
         Ok(Watcher {
             alloc,
             machine,
-            course: Course::new(),
+            steering: Steering::new(start.lasts),
             is_timed,
             changes: ChangeLog::new(out),
             first_lines: FirstLines::new(alloc, start),
@@ -135,7 +142,9 @@ where
 
     /// Follows the configuration's file from now on. `config` is what was read from it, and has the watcher's routes.
     /// Allocates 8 bytes for each route; the only error is out of memory.
-    pub fn follow(&mut self, config: &'a Config, file: F) -> Result<(), AllocError> {
+    pub fn follow(&mut self, config: &'a Config, file: F) -> Result<(), AllocError>
+        requires { F.facts.was_first config.now }
+    {
         let following = Following::new(self.alloc, config, file)?;
         mem::drop(self.following.replace(following));
         Ok(())
@@ -155,19 +164,23 @@ where
     }
 
     // Writes the first lines, once all threads run and all memory is allocated.
-    fn begin(&mut self, when: When) {
+    fn begin(&mut self, when: When)
+        requires { M.facts.was_moment when.moment }
+    {
         let routes = u32::try_from(self.routes.shown().len()).unwrap_or(u32::MAX);
         let memory = self.machine.memory().unwrap_or(0);
-        let lasts = self
-            .first_lines
+        self.first_lines
             .log(&mut self.changes.log, when, routes, memory);
-        if let Some(lasts) = lasts {
-            self.course.end_after(when.moment, lasts);
-        }
+        self.steering.begin(when.moment);
     }
 
     // Notes the state of the run: the poller's counters and the socket's faults, and refusals that weren't reported.
-    fn note_status(&mut self, moment: u64, status: RunStatus) {
+    fn note_status(&mut self, moment: u64, status: RunStatus)
+        ensures overview { self.new.overview ≡ with_report self.old.overview moment status }
+        ensures losses { self.new.losses ≡ with_faults (with_missed self.old.losses status.missed) status.faults }
+        ensures logged { Logged (W.contents self.old.changes.log.out) (W.contents self.new.changes.log.out) self.old.changes.log.pace self.new.changes.log.pace
+            (Missed (more_missed self.old.losses status.missed) ∷ []) }
+    {
         self.overview.note_poller(moment, status);
         self.changes
             .log
@@ -182,6 +195,19 @@ where
         self.losses.log(&mut self.changes.log, when, drops);
     }
 
+    // Counts a conclusion that the lobby refused, and writes the line of one that it or a route refused.
+    fn note_refused(&mut self, when: When, refusal: &Refusal)
+        ensures overview { self.new.overview ≡ after_refusal self.old.overview refusal.now }
+        ensures logged { Logged (W.contents self.old.changes.log.out) (W.contents self.new.changes.log.out) self.old.changes.log.pace self.new.changes.log.pace
+            (refused_call when (requested_by self.old.routes refusal.now.name.items refusal.now.route) refusal.now ∷ []) }
+    {
+        if refusal.route.is_none() {
+            self.overview.count_refusal(refusal.code, refusal.cause);
+        }
+        let name = requested_name(&self.routes, refusal);
+        log_refused(&mut self.changes.log, when, name, refusal);
+    }
+
     // Serves the page, with the last snapshots.
     fn serve_page(&mut self) {
         let moment = self.machine.moment();
@@ -192,7 +218,7 @@ where
     /// Writes the last line, after the gateway's end.
     pub fn end(&mut self) {
         let when = When::now(&mut self.machine, self.is_timed);
-        if !self.course.is_stopping() {
+        if !self.steering.is_stopping() {
             let by = StopCause::Rounds;
             self.changes
                 .log
@@ -200,12 +226,14 @@ where
         }
         self.log_losses(when);
         self.changes.log.end(when);
+        self.changes.log.catch_up(when);
         self.changes.log.append_always(when, LogEvent::Stopped);
     }
 }
 
-impl<M: Drop, W: Drop, P: Drop, F: Drop> Answers for Watcher<'_, M, W, P, F> {
-    ghost answered = { λ a. Unit {0} };
+impl<M: Machine + Drop, W: Drop, P: Drop, F: ConfigFile + Drop> Answers
+    for Watcher<'_, M, W, P, F> {
+    ghost answered = { IsAnswer M.facts F.facts };
 }
 
 impl<M, W, P, F> Watch for Watcher<'_, M, W, P, F>
@@ -226,18 +254,20 @@ where
         self.begin(when);
         self.note_status(when.moment, status);
         self.changes.log.end_second(when);
-        check_stop(&self.machine, &mut self.course, &mut self.changes.log, when);
+        self.changes.log.catch_up(when);
+        check_stop(
+            &self.machine,
+            &mut self.steering,
+            &mut self.changes.log,
+            when,
+        );
         self.serve_page();
-        match self.course.step(when.moment, status.is_quiet) {
-            StopStep::GoOn => Order::GoOn,
-            StopStep::Close => Order::CloseAll,
-            StopStep::End => Order::End,
-        }
+        self.steering.order(when.moment, status.is_quiet)
     }
 
     fn wants_routes(&mut self) -> bool {
         let when = When::now(&mut self.machine, self.is_timed);
-        if !self.course.is_snapshot_due(when.moment) {
+        if !self.steering.is_snapshot_due(when.moment) {
             return false;
         }
         self.log_losses(when);
@@ -247,7 +277,7 @@ where
 
     fn show_route(&mut self, index: usize, route: &Route) {
         let when = When::now(&mut self.machine, self.is_timed);
-        let stops = self.course.is_stopping();
+        let stops = self.steering.is_stopping();
         if let Some(pair) = self.routes.observe(index, route, when.moment, stops) {
             let name = self.routes.name_of(index).as_bytes();
             log_changes(&mut self.changes.log, RouteLog { name, when }, &pair);
@@ -258,11 +288,7 @@ where
 
     fn refused(&mut self, refusal: &Refusal) {
         let when = When::now(&mut self.machine, self.is_timed);
-        if refusal.route.is_none() {
-            self.overview.count_refusal(refusal.code, refusal.cause);
-        }
-        let name = requested_name(&self.routes, refusal);
-        log_refused(&mut self.changes.log, when, name, refusal);
+        self.note_refused(when, refusal);
     }
 
     fn change_routes<C: ChangeRoutes>(&mut self, run: &mut C) {

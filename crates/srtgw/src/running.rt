@@ -100,6 +100,17 @@ fn print_accounts(
     Ok(())
 }
 
+/// Prints the report and an account of each route.
+fn print_end(
+    rt: &impl Print,
+    watcher: &HostWatcher<'_>,
+    report: &Report,
+    accounts: &[Account],
+) -> io::Result<()> {
+    print_report(rt, report)?;
+    print_accounts(rt, watcher, accounts)
+}
+
 /// Ends the log, and prints the report and an account of each route.
 fn tell_end(
     rt: &impl Print,
@@ -108,8 +119,7 @@ fn tell_end(
     accounts: &[Account],
 ) -> Result<(), Fault> {
     watcher.end();
-    let printed = print_report(rt, report);
-    match printed.and_then(|_| print_accounts(rt, &watcher, accounts)) {
+    match print_end(rt, &watcher, report, accounts) {
         Ok(()) => Ok(()),
         Err(_) => Err(Fault::Offline(OfflineFault::Output)),
     }

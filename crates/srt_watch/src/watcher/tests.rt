@@ -204,7 +204,7 @@ fn watcher<'a>(
 /// Asserts that these lines were written since the last such call, and nothing else.
 fn assert_lines(rt: &impl Abort, watcher: &mut Watching<'_>, lines: &str) {
     assert_eq!(rt; watcher.changes.log.out.as_slice(), lines.as_bytes());
-    watcher.changes.log.out.clear();
+    watcher.changes.log.clear();
 }
 
 /// Applies an item, and takes the replies.
@@ -269,7 +269,7 @@ fn a_signal_stops_it(rt: HostRuntime) -> Result<(), Fail> {
     let entries = vec![in rt.alloc(); entry(rt.alloc())?]?;
     let mut watcher = watcher(rt.alloc(), &entries, false, start(true, None))?;
     assert_eq!(rt; watcher.next(NOTHING), Order::GoOn);
-    watcher.changes.log.out.clear();
+    watcher.changes.log.clear();
     watcher.machine.stops = true;
     watcher.machine.moment = 1_000_000;
     assert_eq!(rt; watcher.next(NOTHING), Order::CloseAll);
@@ -296,7 +296,7 @@ fn it_stops_after_its_time(rt: HostRuntime) -> Result<(), Fail> {
     let mut watcher = watcher(rt.alloc(), &entries, false, start(true, Some(3_000_000)))?;
     watcher.machine.moment = 500_000;
     assert_eq!(rt; watcher.next(NOTHING), Order::GoOn);
-    watcher.changes.log.out.clear();
+    watcher.changes.log.clear();
     watcher.machine.moment = 3_499_999;
     assert_eq!(rt; watcher.next(NOTHING), Order::GoOn);
     watcher.machine.moment = 3_500_000;
@@ -343,7 +343,7 @@ fn a_session_opens_and_ends(rt: HostRuntime) -> Result<(), Fail> {
     );
     hear(rt.alloc(), &mut route, 4_000_000, PUBLISHER)?;
     watcher.show_route(0, &route);
-    watcher.changes.log.out.clear();
+    watcher.changes.log.clear();
     close(rt.alloc(), &mut route, 5_000_000)?;
     watcher.show_route(0, &route);
     assert_lines(
@@ -363,7 +363,7 @@ fn a_stop_is_reported_as_the_cause(rt: HostRuntime) -> Result<(), Fail> {
     watcher.show_route(0, &route);
     watcher.machine.stops = true;
     assert_eq!(rt; watcher.next(NOTHING), Order::CloseAll);
-    watcher.changes.log.out.clear();
+    watcher.changes.log.clear();
     close(rt.alloc(), &mut route, 1_500_000)?;
     watcher.show_route(0, &route);
     assert_lines(
@@ -432,7 +432,7 @@ fn a_flood_has_fifty_lines_a_second(rt: HostRuntime) -> Result<(), Fail> {
     let mut watcher = watcher(rt.alloc(), &entries, false, start(true, None))?;
     let flood = refusal(None, b"x", UNKNOWN)?;
     assert_eq!(rt; watcher.next(NOTHING), Order::GoOn);
-    watcher.changes.log.out.clear();
+    watcher.changes.log.clear();
     watcher.machine.moment = 1_000_000;
     for _ in 0..1_000 {
         watcher.refused(&flood);
@@ -445,7 +445,7 @@ fn a_flood_has_fifty_lines_a_second(rt: HostRuntime) -> Result<(), Fail> {
         .filter(|byte| **byte == b'\n')
         .count();
     assert_eq!(rt; lines, 50);
-    watcher.changes.log.out.clear();
+    watcher.changes.log.clear();
     watcher.machine.moment = 2_000_000;
     assert_eq!(rt; watcher.next(NOTHING), Order::GoOn);
     assert_lines(&rt, &mut watcher, "lines left out 950\n");
@@ -458,7 +458,7 @@ fn counts_are_reported_when_they_grow(rt: HostRuntime) -> Result<(), Fail> {
     let mut watcher = watcher(rt.alloc(), &entries, false, start(true, None))?;
     assert_eq!(rt; watcher.next(NOTHING), Order::GoOn);
     assert!(rt; watcher.wants_routes());
-    watcher.changes.log.out.clear();
+    watcher.changes.log.clear();
     let status = RunStatus {
         faults: 3,
         missed: 7,
@@ -499,7 +499,7 @@ fn a_flood_hides_no_count(rt: HostRuntime) -> Result<(), Fail> {
     for _ in 0..60 {
         watcher.refused(&flood);
     }
-    watcher.changes.log.out.clear();
+    watcher.changes.log.clear();
     watcher.machine.drops = 8_395;
     let status = RunStatus {
         faults: 2,

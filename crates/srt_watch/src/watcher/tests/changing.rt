@@ -116,7 +116,7 @@ fn follower<'a>(
         },
     )?;
     let _ = watcher.next(NOTHING);
-    watcher.changes.log.out.clear();
+    watcher.changes.log.clear();
     Ok(watcher)
 }
 
@@ -324,7 +324,7 @@ fn what_is_not_taken_is_logged_once(rt: HostRuntime) -> Result<(), Fail> {
         "configuration not taken: bind can't change while the gateway runs (also: workers, secret); restart it to change it\n",
     );
     assert!(rt; next_change(&mut watcher, Ok(1)).is_none());
-    watcher.changes.log.out.clear();
+    watcher.changes.log.clear();
     assert_page(&rt, &mut watcher, b"s", [0, 3, 1]);
     Ok(())
 }

@@ -1,0 +1,11 @@
+-- Text of the log that waits while nobody reads it (our choice).
+use Rattle.std.specs.Prelude.{ℕ, List, drop}
+use Rattle.srt_host.specs.declared.held_text.HeldText.{HeldText}
+
+-- what is kept: what was written since nothing waited, and what waits, the oldest byte first
+abbrev pub kept_in : HeldText → List ℕ
+kept_in text = text.kept.value.items
+
+-- what waits
+abbrev pub held_in : HeldText → List ℕ
+held_in text = drop text.written text.kept.value.items

@@ -1,0 +1,87 @@
+//! Standard error as a writer of text that never waits for whoever reads it.
+
+use crate::held_text::{HeldText, MAX_KEPT, MAX_WRITTEN};
+use libc::net::poll;
+use libc::types::pollfd;
+use std::alloc::{AllocError, Global};
+use std::io::{self, Error, ErrorKind, Write};
+use std::str;
+
+/// The descriptor of standard error.
+const STANDARD_ERROR: i32 = 2;
+
+/// What `poll` asks of a descriptor: whether a write to it wouldn't wait (POLLOUT).
+const WRITABLE: i16 = 4;
+
+/// The most writes of held text in a row.
+const MAX_WRITES: usize = MAX_KEPT / MAX_WRITTEN;
+
+/// Standard error. Text that can't be written at once, since nobody reads it, is held, at most 65,536 bytes, and written
+/// later, in order; a text for which there is no room is refused with `WouldBlock`, so that the caller can count it. So
+/// a log that stands still stops nobody.
+#[derive(Drop)]
+pub struct Errors<'a, R> {
+    rt: &'a R,
+    held: HeldText,
+}
+
+/// Whether standard error takes a write of at most 4,096 bytes without a wait. One of which that isn't known does.
+fn is_ready() -> bool {
+    let mut asked = [pollfd {
+        fd: STANDARD_ERROR,
+        events: WRITABLE,
+        revents: 0,
+    }];
+    poll(&mut asked, 0) != 0
+}
+
+impl<'a, R: Eprint> Errors<'a, R> {
+    /// Returns standard error of this host. Allocates room for text that waits; the only error is out of memory.
+    pub fn open(rt: &'a R, alloc: Global) -> Result<Errors<'a, R>, AllocError> {
+        let held = HeldText::open(alloc)?;
+        Ok(Errors { rt, held })
+    }
+
+    // Writes the oldest bytes that wait. What isn't text, or can't be written, is left out.
+    fn write_next(&mut self) {
+        let next = self.held.next();
+        if let Ok(text) = str::from_utf8(next) {
+            let _ = self.rt.eprint(text);
+        }
+        let count = next.len();
+        self.held.took(count);
+    }
+
+    // Writes what waits, as much as standard error takes now.
+    fn write_held(&mut self) {
+        for _ in 0..MAX_WRITES {
+            if self.held.is_empty() || !is_ready() {
+                return;
+            }
+            self.write_next();
+        }
+    }
+}
+
+impl<R: Eprint> Write for Errors<'_, R> {
+    fn write(&mut self, bytes: &[u8]) -> io::Result<usize> {
+        let Ok(text) = str::from_utf8(bytes) else {
+            return Err(Error::from(ErrorKind::InvalidData));
+        };
+        self.write_held();
+        if self.held.is_empty() && is_ready() {
+            self.rt.eprint(text)?;
+            return Ok(bytes.len());
+        }
+        if self.held.hold(bytes) {
+            return Ok(bytes.len());
+        }
+        Err(Error::from(ErrorKind::WouldBlock))
+    }
+
+    /// Writes what waits, as much as standard error takes now. The rest waits on.
+    fn flush(&mut self) -> io::Result<()> {
+        self.write_held();
+        Ok(())
+    }
+}
