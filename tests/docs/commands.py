@@ -298,7 +298,7 @@ def key_rows(index: Index) -> Dict[str, KeyRow]:
     rows = {name: KeyRow() for name in texts.values()}
     for keys, kind in re.findall(r"((?:Key::\w+[\s|]*)+)=> ValueKind::(\w+)", table):
         for key in re.findall(r"Key::(\w+)", keys):
-            rows[texts[key]].kind = {"Text": "text", "Number": "number", "Networks": "list", "Tables": "tables"}[kind]
+            rows[texts[key]].kind = {"Text": "text", "Number": "number", "Networks": "list", "Table": "table", "Tables": "tables"}[kind]
     for keys, least, most in re.findall(r"((?:Key::\w+[\s|]*)+)=> \((\w+), ([\w:]+)(?: as usize)?\)", table):
         for key in re.findall(r"Key::(\w+)", keys):
             if most != "u32::MAX":
@@ -315,8 +315,8 @@ def wrong_keys(lines: List[str], first: int, keys: Tuple[Set[str], Set[str]]) ->
         table = re.match(r"\[+([\w.]+)\]+", line)
         key = re.match(r"(?:# )?(\w+) = \S+$", line) or re.match(r"(\w+) = ", line)
         if table:
-            known = keys[1]
-            if table.group(0) != "[[route]]":
+            known = keys[1] if table.group(0) == "[[route]]" else keys[1] - {"name"}
+            if table.group(0) not in ("[[route]]", "[defaults]"):
                 wrong.append(f"{number}: no table {table.group(0)}")
         elif key and key.group(1) not in known:
             wrong.append(f"{number}: no key {key.group(1)}")

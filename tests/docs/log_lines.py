@@ -24,10 +24,10 @@ OTHERS = {"warning: "}
 
 
 def written(index: Index) -> Set[str]:
-    """The texts of srt_log that have a letter, beside the names of codes."""
+    """The texts of srt_log's lines that have a letter, beside the names of codes; those of its JSON objects aren't of a line."""
     found: Set[str] = set()
     for path in sorted(index.files):
-        if path.startswith(CODE) and path.endswith(".rt") and not re.search(r"/tests(?:/|\.rt$)", path):
+        if path.startswith(CODE) and path.endswith(".rt") and not re.search(r"/(?:tests|(?:\w+_)?objects|members|\w+_tests)(?:/|\.rt$)", path):
             text = NAMED.sub("", index.text(path))
             found.update(it.replace('\\"', '"') for it in LITERAL.findall(text))
     return {it for it in found if it} - NEVER

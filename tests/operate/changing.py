@@ -433,9 +433,9 @@ def unreadable():
             expect_silent(run, number + 1)
             before = written(run, good)
             expect_silent(run, before)
-        for size in (65_536, 4_000_000):
+        for size, most in ((65_536, 65_536), (4_000_000, 1_048_576)):
             before = written(run, good + "#" * size)
-            run.line("configuration can't be read: larger than 65536 bytes", LOOK, before)
+            run.line(f"configuration can't be read: larger than {most} bytes", LOOK, before)
             before = written(run, good)
             expect_silent(run, before)
         for makes, unmakes, why in ((os.mkdir, os.rmdir, r"Is a directory \(os error 21\)"), (os.mkfifo, os.unlink, "it is a pipe or a device")):

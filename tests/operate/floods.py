@@ -1,15 +1,17 @@
 """Floods of refusals: the log stays short, its counts add up, and a stream of another route loses nothing."""
 import os
 import re
+import signal
+import subprocess
 import threading
 import time
 
 import packets
 from caller import Caller, Publisher, Subscriber, start_all, stream
 from cases import case
-from expecting import expect, expect_run, publish
+from expecting import Wrong, expect, expect_run, publish
 from machine import drops_of
-from running import TIME, Run, Skipped, expect_polite, files, flooded, live, seconds_of
+from running import STOP_SECONDS, TIME, Run, Shown, Skipped, can_block, expect_polite, files, flooded, live, seconds_of
 
 LINES = 50  # In one second, besides those that say how many were left out.
 LEFT_OUT = r"lines left out (\d+)"
@@ -108,17 +110,58 @@ def play_flood(routes, stream_id, line, count=20_000, rate=5_000, burst=1):
         return end.report["answered"] - asked
 
 
-@case("a log that nobody reads holds up no packet, and the stop comes when it is read")
+def stopped_unread(run):
+    """Stops a gateway whose log nobody reads, then reads what it said, and returns its end."""
+    run.process.send_signal(signal.SIGTERM)
+    try:
+        run.process.wait(2 * STOP_SECONDS)
+    except subprocess.TimeoutExpired:
+        raise Wrong("the stop waits for whoever reads the log") from None
+    run.read()
+    return run.end()
+
+
+@case("a log that nobody reads holds up nothing: no packet, no page, no change, and no stop")
 def unread_log():
-    with Run([live("steady", latency_ms=500, inbox=1024)], "--no-time", reads=False) as run:
+    if not can_block():
+        raise Skipped("`env` can't start a program with signals blocked")
+    with Shown([live("steady", latency_ms=500, inbox=1024)], "--no-time", reads=False) as run:
         Caller(run.address).induce(10)
         flood = Flood(run.address, "nowhere", 2_000, 500)
         beside_a_stream(run, flood)
         flood.expect_refused()
-        expect(run.runs(), "it ended")
+        expect(run.page.ask("/healthz").status == 200, "the page says that it doesn't serve")
+        with open(run.file, "a") as it:
+            it.write(live("later"))
+        until = time.monotonic() + 3
+        while b"later" not in run.page.ask("/status.json").body and time.monotonic() < until:
+            time.sleep(0.05)
+        caller = Subscriber(run.address, "later")
+        start_all(caller)
+        caller.close()
+        expect_polite(stopped_unread(run), ["steady", "later"])
+        # What the pipe has no room for is lost with the gateway.
+        expect(run.texts()[0].startswith("serving at "), f"the log begins with {run.texts()[0]!r}")
+
+
+@case("what a log leaves out that nobody reads is counted once somebody reads it")
+def read_again():
+    if not can_block():
+        raise Skipped("`env` can't start a program with signals blocked")
+    with Run([live("steady")], "--no-time", reads=False) as run:
+        Caller(run.address).induce(10)
+        # A line of such a name has 1,023 bytes, so that 50 a second fill what is kept in less than two seconds.
+        flood = Flood(run.address, "\x01" * 300, 250, 50)
+        flood.start()
+        flood.join()
+        flood.expect_refused()
         run.read()
+        run.line(LEFT_OUT, 5)
         expect_polite(run.stop(), ["steady"])
-        expect(run.texts()[-1] == "stopped", f"the log ends with {run.texts()[-3:]}")
+        told = [it for it in run.texts() if "\\x01" in it]
+        left_out = sum(int(found[1]) for found in (re.fullmatch(LEFT_OUT, it) for it in run.texts()) if found)
+        expect(len(told) >= 60 and left_out >= 20, f"{len(told)} refusals are told, {left_out} lines left out")
+        expect(len(told) + left_out == 250, f"{len(told)} refusals are told and {left_out} lines left out, of 250")
 
 
 @case("a log that can't be written stops nothing")

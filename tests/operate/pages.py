@@ -34,13 +34,13 @@ NO_NETWORKS = (
     "192.0.2.7/33", "192.0.2.1/24", "192.0.2.7/", "192.0.2.07", "::1/129", "2001:db8::1/32", "::ffff:192.0.2.7", "192.0.2", "192.0.2.7/-1", "192.0.2.7/024",
 )
 FULL = {
-    "secret": f'"{SECRET}"', "bind": '"127.0.0.1:0"', "workers": "1", "status": '"127.0.0.1:0"', "name": '"studio"', "mode": '"live"',
+    "secret": f'"{SECRET}"', "bind": '"127.0.0.1:0"', "workers": "1", "status": '"127.0.0.1:0"', "defaults": "{}", "name": '"studio"', "mode": '"live"',
     "latency_ms": "120", "buffer": "1024", "sessions": "5", "inbox": "16", "outbox": "334", "open_round": "0", "close_round": "5",
     "callers": '"libsrt"', "publish_from": '["192.0.2.7"]', "request_from": '["192.0.2.7"]', "publish_key": '"a"', "request_key": '"b"',
     "reserved": "1", "sessions_per_address": "2", "takeover_ms": "500", "resend_percent": "50",
 }
 REQUIRED = ("secret", "bind", "workers", "name", "mode", "latency_ms", "buffer", "sessions", "inbox", "outbox")
-WRONG_KINDS = {"text": ("5", "[]"), "number": ('"5"', "1.5", "true"), "list": ('"192.0.2.7"', "5", '["192.0.2.7", 5]'), "tables": ("5", "[5]")}
+WRONG_KINDS = {"text": ("5", "[]"), "number": ('"5"', "1.5", "true"), "list": ('"192.0.2.7"', "5", '["192.0.2.7", 5]'), "table": ("5", "[]"), "tables": ("5", "[5]")}
 
 
 def documents() -> list[str]:
@@ -106,6 +106,8 @@ def values_of(key: Key) -> Iterator[tuple[str, int]]:
     if key.kind == "number":
         low, high = between(key)
         yield from ((str(low), 0), (str(high), 0), (str(low - 1), 5), (str(high + 1), 5))
+    elif key.kind == "table":
+        yield from (("{}", 0), ("{ sessions = 5, inbox = 16 }", 0))
     elif "Address and port" in key.limits:
         yield from ((f'"{it}"', 0) for it in ADDRESSES)
         yield from ((f'"{it}"', 9) for it in NO_ADDRESSES)
@@ -251,7 +253,8 @@ def explanations_are_right():
     right = {it: FULL[it] for it in REQUIRED}
     whole, front = text_of(keys, right), text_of([it for it in keys if it.of == "file"], right)
     tried = (front + routes(keys, 1) + text_of([it for it in keys if it.of == "route"], {**right, "sessions": "40"}),
-             whole.replace("latency_ms", "latency"), whole.replace("workers = 1\n", "").replace("bind = \"127.0.0.1:0\"", "bind = \"0.0\nworkers = 1"))
+             whole.replace("latency_ms", "latency"), front + "[defaults]\nsessions = 40\n" + routes(keys, 1),
+             whole.replace("workers = 1\n", "").replace("bind = \"127.0.0.1:0\"", "bind = \"0.0\nworkers = 1"))
     printed = []
     with tempfile.TemporaryDirectory(prefix="srtgw-shown-") as room:
         for text in tried:
@@ -260,7 +263,7 @@ def explanations_are_right():
             printed += subprocess.run([PROGRAM, "check", "gateway.toml", "--explain"], cwd=room, capture_output=True, text=True).stderr.splitlines()
     # Where a text that isn't TOML has its fault differs by the text.
     place = r"srtgw: gateway\.toml: line \d+, column \d+: \S.*"
-    fits = len(shown) == len(printed) == 3 and shown[:2] == printed[:2] and all(re.fullmatch(place, it[2]) for it in (shown, printed))
+    fits = len(shown) == len(printed) == 4 and shown[:3] == printed[:3] and all(re.fullmatch(place, it[3]) for it in (shown, printed))
     expect(fits, f"the page shows {shown}, and the program prints {printed}")
 
 
@@ -319,14 +322,16 @@ def status_of(*words: str) -> int:
 
 @case("the greatest configuration, duration and number of rounds are those that the pages name")
 def sizes_are_right():
-    text = text_of(keys_in(read(KEYS)), FULL)
-    most = int(number_in(KEYS, r"TOML file of at most ([\d,]+) bytes")[0])
-    for size, wanted in ((most, "routes 1"), (most + 1, "file fault")):
+    keys = keys_in(read(KEYS))
+    whole, plain = text_of(keys, FULL), text_of(keys, {name: value for name, value in FULL.items() if name != "defaults"})
+    most, most_of_all = map(int, number_in(KEYS, r"TOML file of at most ([\d,]+) bytes, or ([\d,]+) if it has a table `\[defaults\]`"))
+    tried = ((plain, most, "routes 1"), (plain, most + 1, "file fault"), (whole, most_of_all, "routes 1"), (whole, most_of_all + 1, "file fault"))
+    for text, size, wanted in tried:
         said = checked(text + "#" * (size - len(text)))
         expect(said == wanted, f"a configuration of {size} bytes: {said}")
     low, first, high, last = number_in(f"{PAGES}/start.md", r"; (\d+) (\w) to (\d+) (\w)\)")
-    tried = ((f"{low}{first}", 1), (f"{high}{last}", 1), (f"{int(low) - 1}{first}", 2), (f"{int(high) + 1}{last}", 2))
-    wrong = [it for it, status in tried if status_of("run", "nowhere.toml", "--for", it) != status]
+    durations = ((f"{low}{first}", 1), (f"{high}{last}", 1), (f"{int(low) - 1}{first}", 2), (f"{int(high) + 1}{last}", 2))
+    wrong = [it for it, status in durations if status_of("run", "nowhere.toml", "--for", it) != status]
     rounds = int(number_in(f"{PAGES}/configuration.md", r"So ([\d,]+) rounds, the most")[0])
     wrong += [str(it) for it, status in ((rounds, 1), (rounds + 1, 2)) if status_of("serve", "nowhere.toml", "--rounds", str(it)) != status]
     expect(not wrong, f"not as the pages say: {', '.join(wrong)}")

@@ -32,8 +32,14 @@ def numbers_in(its: dict[str, Any], prefix: str, **labels: str) -> Iterator[Samp
             code = next(it for it in CODES if name.endswith(f"_{NAMES[it]}"))
             family = f"{prefix}lobby_refusals_total" if prefix == "srtgw_" else f"{prefix}refusals_total"
             yield sample(family, value, code=str(code), reason=NAMES[code], **labels)
-        elif isinstance(value, (int, float)) and name not in MOVING:
+        elif name.startswith("process_") or not isinstance(value, (int, float)) or name in MOVING:
+            continue  # What the process uses moves, and its metrics have the names that all programs' have.
+        elif name.startswith("ends_"):
+            yield sample(f"{prefix}ends_total", value, reason=name.removeprefix("ends_"), **labels)
+        else:
             yield sample(f"{prefix}{name}", value, **labels)
+            if name.startswith("lobby_refused_"):
+                yield sample(f"{prefix}lobby_refusal_causes_total", value, cause=name.removeprefix("lobby_refused_").removesuffix("_total"), **labels)
 
 
 def all_numbers(state: dict[str, Any]) -> Iterator[Sample]:
@@ -54,6 +60,7 @@ def differing(state: dict[str, Any], metrics: Metrics, busy: str = "") -> list[t
     """The numbers that the JSON and the metrics of one moment have otherwise, without those of the busy route: the family and the labels of
     each, and what either has."""
     said = {(family, labels): value for family, labels, value in all_numbers(state)}
-    scraped = {(family, labels): value for family, its in metrics.samples.items() for labels, value in its.items() if not family.endswith(MOVING)}
+    scraped = {(family, labels): value for family, its in metrics.samples.items() for labels, value in its.items()
+               if not family.endswith(MOVING) and not family.startswith("process_")}
     compared = {it for it in said.keys() | scraped.keys() if ("route", busy) not in it[1]}
     return [(*it, said.get(it), scraped.get(it)) for it in sorted(compared, key=str) if said.get(it) != scraped.get(it)]
