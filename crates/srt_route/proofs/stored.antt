@@ -1,5 +1,6 @@
 -- How a table represents its sessions: seats, stored sessions, and the buffers of two publishers.
 pub mod TwoBuffers
+pub mod Parts
 pub mod Seats
 pub mod Kept
 pub mod Stored

@@ -14,6 +14,7 @@ use Rattle.srt_route.specs.declared.ledger.EndCause.TheVariants as causes
 use Rattle.srt_route.specs.declared.ledger.EndedSession.{EndedSession}
 use Rattle.srt_route.specs.declared.ledger.Ledger.{Ledger}
 use Rattle.srt_route.specs.declared.ledger.Refusals.{Refusals}
+use Rattle.srt_route.specs.Parts.{until_of}
 use Rattle.srt_route.specs.Tables.{is_stored_over}
 use Rattle.srt_route.specs.Totals.{both}
 
@@ -37,7 +38,7 @@ time_cause (Some until) = causes.DrainedTooLong
 
 abbrev pub idle_cause : (clock : ℕ) → Option TheSession → Option EndCause
 idle_cause clock None = None
-idle_cause clock (Some t) = if is_stored_over clock t then Some (time_cause t.drains) else None
+idle_cause clock (Some t) = if is_stored_over clock t then Some (time_cause (until_of t.part)) else None
 
 abbrev pub closed_cause : Option TheSession → Option EndCause
 closed_cause o = Some causes.Closed

@@ -11,6 +11,7 @@ pub mod Sendable
 pub mod Written
 pub mod Waits
 pub mod Buffers
+pub mod Parts
 pub mod PublisherBuffers
 pub mod Tables
 pub mod Admission

@@ -24,18 +24,19 @@ use Rattle.srt_route.specs.Route.{Taken, Answers, is_of, sent}
 use Rattle.srt_route.specs.Buffers.{IsSeated}
 use Rattle.srt_route.specs.declared.publisher_buffers.PublisherBuffers.{PublisherBuffers}
 use Rattle.srt_route.specs.declared.publisher_buffers.PublisherBuffers.TheVariants.{First}
+use Rattle.srt_route.specs.Parts.{RecordsEnd, buffers_used, part_after, part_extended, part_with_end, role_of, until_of}
 use Rattle.srt_route.specs.PublisherBuffers.{place_of, is_same}
 
--- the stored session is this one; its end and its past aren't stored in it
+-- the stored session is this one; its end and its past aren't stored in it, nor the end of a file in a publisher's
 pub record IsSession (e : Terms) (index : ℕ) (t : TheSession) (s : Session) : Type 0 where
   pub peer_is : t.peer ≡ s.peer
   pub caller_is : t.caller ≡ s.conclusion.caller
   pub id_is : t.id ≡ session_id index s
-  pub role_is : t.role ≡ s.conclusion.role
+  pub role_is : (role_of t.part) ≡ s.conclusion.role
   pub opened_is : t.opened ≡ s.opening
   pub heard_is : t.heard ≡ s.heard
-  pub drains_is : t.drains ≡ s.drains
-  pub file_is : t.file_ended ≡ s.file_ended
+  pub drains_is : (until_of t.part) ≡ s.drains
+  pub file_is : RecordsEnd t.part s.file_ended
   pub answer_is : t.answer ≡ answer_of e index s
 
 abbrev pub IsStored : Terms → (index : ℕ) → Option TheSession → Option Session → Type 0
@@ -53,7 +54,7 @@ session_passes test (Some t) = test t
 -- open
 abbrev pub buffers_by : Option TheSession → PublisherBuffers
 buffers_by None = First
-buffers_by (Some t) = t.buffers
+buffers_by (Some t) = buffers_used t.part
 
 abbrev pub used_buffers : Seat → PublisherBuffers
 used_buffers seat = buffers_by seat.session
@@ -139,31 +140,31 @@ pub record IsTaken (e : Terms) (index clock : ℕ) (t : Table) (replies : List D
 
 -- the tests with which a stored session is searched
 abbrev pub is_session_of : Peer → (caller : ℕ) → TheSession → Bool
-is_session_of peer caller t = is_same_peer t.peer peer && t.caller == caller && not (is_some t.drains)
+is_session_of peer caller t = is_same_peer t.peer peer && t.caller == caller && not (is_some (until_of t.part))
 
 abbrev pub holds : Peer → (caller : ℕ) → Seat → Bool
 holds peer caller seat = session_passes (is_session_of peer caller) seat.session
 
 abbrev pub has_publisher : Seat → Bool
-has_publisher seat = session_passes (λ t. publishes t.role) seat.session
+has_publisher seat = session_passes (λ t. publishes (role_of t.part)) seat.session
 
 -- whether a seat's session is a publisher's that sends packets, and whether it drains
 abbrev pub has_speaker : Seat → Bool
-has_speaker seat = session_passes (λ t. publishes t.role && not (is_some t.drains)) seat.session
+has_speaker seat = session_passes (λ t. publishes (role_of t.part) && not (is_some (until_of t.part))) seat.session
 
 abbrev pub has_draining : Seat → Bool
-has_draining seat = session_passes (λ t. is_some t.drains) seat.session
+has_draining seat = session_passes (λ t. is_some (until_of t.part)) seat.session
 
 -- whether a seat's session is a publisher's with these buffers
 abbrev pub publishes_from : (which : PublisherBuffers) → Seat → Bool
-publishes_from which seat = session_passes (λ t. publishes t.role && is_same t.buffers which) seat.session
+publishes_from which seat = session_passes (λ t. publishes (role_of t.part) && is_same (buffers_used t.part) which) seat.session
 
 -- whether a session of this address's site is open in a seat
 abbrev pub has_address : (ip : List ℕ) → Seat → Bool
 has_address ip seat = session_passes (λ t. is_same_site t.peer.ip ip) seat.session
 
 abbrev pub has_subscriber : Seat → Bool
-has_subscriber seat = session_passes (λ t. not (publishes t.role)) seat.session
+has_subscriber seat = session_passes (λ t. not (publishes (role_of t.part))) seat.session
 
 abbrev pub is_vacant : Seat → Bool
 is_vacant seat = no_session seat.session
@@ -180,7 +181,7 @@ with_stored session seat = record { generation = seat.generation; session = sess
 abbrev pub stored_settled : (ends : Bool) → Mode → (delivered : Bool) → (clock : ℕ) → Option TheSession → Option TheSession
 stored_settled ends mode given clock None = None
 stored_settled ends mode given clock (Some t) =
-    if ends then None else Some (record t { drains = option_map (renewed mode given clock) t.drains })
+    if ends then None else Some (record t { part = part_extended (renewed mode given clock) t.part })
 
 abbrev pub seat_settled : (ends : Bool) → Mode → (delivered : Bool) → (clock : ℕ) → Seat → Seat
 seat_settled ends mode given clock seat = with_stored (stored_settled ends mode given clock seat.session) seat
@@ -196,26 +197,26 @@ again_of peer (Some t) = sent (record { peer = peer; packet = Answers t.caller t
 
 -- whether a packet is for a stored session
 abbrev pub is_stored_for : Peer → (dest : ℕ) → TheSession → Bool
-is_stored_for peer dest t = is_same_peer t.peer peer && t.id == dest && not (is_some t.drains)
+is_stored_for peer dest t = is_same_peer t.peer peer && t.id == dest && not (is_some (until_of t.part))
 
 -- the stored session after such a packet, from which on it drains or not
 abbrev pub stored_after : (ends : Bool) → (drains : Option ℕ) → (clock : ℕ) → Option TheSession → Option TheSession
 stored_after ends drains clock None = None
-stored_after ends drains clock (Some t) = if ends then None else Some (record t { heard = clock; drains = drains })
+stored_after ends drains clock (Some t) = if ends then None else Some (record t { heard = clock; part = part_after drains t.part })
 
 -- the stored session of a seat after a publisher's session ended, by its own SHUTDOWN or not
 abbrev pub stored_end : (by_shutdown : Bool) → TheSession → TheSession
-stored_end by_shutdown t = record t { file_ended = by_shutdown }
+stored_end by_shutdown t = record t { part = part_with_end by_shutdown t.part }
 
 abbrev pub seat_with_end : (by_shutdown : Bool) → Seat → Seat
 seat_with_end by_shutdown seat = with_stored (option_map (stored_end by_shutdown) seat.session) seat
 
 -- whether a stored session has expired (our choice), and whether because its peer sent nothing for 5 s
 abbrev pub is_stored_over : (clock : ℕ) → TheSession → Bool
-is_stored_over clock t = is_over_at t.drains t.heard clock
+is_stored_over clock t = is_over_at (until_of t.part) t.heard clock
 
 abbrev pub peer_idle : (clock : ℕ) → TheSession → Bool
-peer_idle clock t = is_silent_at t.drains t.heard clock
+peer_idle clock t = is_silent_at (until_of t.part) t.heard clock
 
 -- whether the peer of a stored session was heard less than a second ago, and whether that of a seat's session was
 abbrev pub is_heard_recently : (clock : ℕ) → TheSession → Bool
@@ -242,4 +243,4 @@ stored_aged clock (Some t) = if is_stored_over clock t then None else Some t
 
 -- whether a stored session is a subscriber's that hasn't expired
 abbrev pub is_kept_subscriber : (clock : ℕ) → TheSession → Bool
-is_kept_subscriber clock t = not (is_stored_over clock t) && not (publishes t.role)
+is_kept_subscriber clock t = not (is_stored_over clock t) && not (publishes (role_of t.part))

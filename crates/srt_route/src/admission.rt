@@ -15,6 +15,7 @@ use crate::answer::{accepted, answer_to, refusal};
 use crate::arrival::Arrival;
 use crate::conclusion::Conclusion;
 use crate::ledger::Ledger;
+use crate::part::Part;
 use crate::refusals::RefusalCause;
 use crate::replies::Reply;
 use crate::seat::{Seat, Session, count_from, count_publishers, count_vacant, free_slot, slot_of};
@@ -141,12 +142,9 @@ fn open_session(
         peer: arrival.peer,
         caller,
         id,
-        role,
-        buffers,
+        part: Part::opened(role, buffers),
         opened: arrival.clock,
         heard: arrival.clock,
-        drains: None,
-        file_ended: false,
         answer,
     });
 }

@@ -6,6 +6,7 @@ ghost use Rattle.std.specs.Prelude.{◌≡◌, ◌<◌, ◌^◌, length};
 ghost use Rattle.srt_packet.specs.View.{body_of};
 ghost use Rattle.srt_route.specs.Route.{drain_end};
 ghost use Rattle.srt_route.specs.Ledgers.{CountsStay};
+ghost use Rattle.srt_route.specs.Parts.{part_extended};
 ghost use Rattle.srt_route.specs.Sessions.{renewed};
 ghost use Rattle.srt_route.specs.Tables.{seat_settled};
 ghost use Rattle.srt_route.specs.Totals.{SumsGrow};
@@ -16,7 +17,8 @@ ghost use Rattle.srt_route.specs.inside.OneSession.{end_unless};
 use crate::delivery::{deliver, room_of_all};
 use crate::files::note_end;
 use crate::ledger::{Ledger, drained_cause};
-use crate::seat::{Seat, count_draining, count_publishers, publishes};
+use crate::part::Part;
+use crate::seat::{Seat, count_draining, count_publishers};
 use crate::standby::{active_buffers, is_active_by};
 use crate::table::Table;
 use crate::view::latency_in;
@@ -71,10 +73,10 @@ fn has_left(table: &Table, at: usize) -> bool
 {
     match &table.seats[at].session {
         Some(session) => {
-            if !publishes(session.role) {
+            if !session.part.publishes() {
                 return false;
             }
-            table.publishers[session.buffers.place()].has_undelivered()
+            table.publishers[session.part.buffers().place()].has_undelivered()
         }
         None => false,
     }
@@ -112,10 +114,12 @@ fn is_drained(table: &Table, at: usize) -> bool
     ensures { IsDrained at table.now result }
 {
     match &table.seats[at].session {
-        Some(session) => match session.drains {
-            Some(_) => !has_left(table, at),
-            None => false,
-        },
+        Some(session) => {
+            if !session.part.drains() {
+                return false;
+            }
+            !has_left(table, at)
+        }
         None => false,
     }
 }
@@ -138,6 +142,21 @@ fn renewed(mode: Mode, delivered: bool, clock: u64, until: u64) -> u64
     }
 }
 
+/// Returns the part of a session after an event's deliveries: if it drains, its time is extended.
+fn extended(part: Part, mode: Mode, delivered: bool, clock: u64) -> Part
+    requires { clock < 2 ^ 62 }
+    ensures { result ≡ part_extended (renewed mode delivered clock) part }
+{
+    match part {
+        Part::Publisher { .. } => part,
+        Part::Draining { buffers, until } => Part::Draining {
+            buffers,
+            until: renewed(mode, delivered, clock, until),
+        },
+        Part::Subscriber { .. } => part,
+    }
+}
+
 impl Seat {
     /// After an event's deliveries: ends the session here if it `ends`; otherwise, if it drains, extends its time.
     fn settle(&mut self, ends: bool, mode: Mode, delivered: bool, clock: u64)
@@ -149,9 +168,7 @@ impl Seat {
             return;
         }
         if let Some(session) = &mut self.session {
-            if let Some(until) = session.drains {
-                session.drains = Some(renewed(mode, delivered, clock, until));
-            }
+            session.part = extended(session.part, mode, delivered, clock);
         }
     }
 }

@@ -8,7 +8,7 @@ ghost use Rattle.srt_route.specs.Tables.{seat_with_end};
 ghost use Rattle.srt_route.specs.inside.Calls.{TableBecomes};
 ghost use Rattle.srt_route.specs.inside.Files.{HasWhole, IsOver, shutdown_end};
 
-use crate::seat::{Seat, count_publishers, publishes};
+use crate::seat::{Seat, count_publishers};
 use crate::table::Table;
 use srt_pub::PubEnd;
 use srt_types::{Callers, Mode};
@@ -48,7 +48,7 @@ impl Seat {
         ensures { self.new ≡ seat_with_end by_shutdown self.old }
     {
         if let Some(session) = &mut self.session {
-            session.file_ended = by_shutdown;
+            session.part = session.part.with_end(by_shutdown);
         }
     }
 
@@ -62,10 +62,7 @@ impl Seat {
         }
         match &self.session {
             Some(session) => {
-                if publishes(session.role) {
-                    return false;
-                }
-                if !session.file_ended {
+                if !session.part.saw_end() {
                     return false;
                 }
                 self.subscriber.is_all_acknowledged()

@@ -16,7 +16,7 @@ use crate::files::{note_end, of_libsrt, silent_end};
 use crate::ledger::{EndCause, Ledger};
 use crate::replies::Reply;
 use crate::reply_queue::ReplyQueue;
-use crate::seat::{Seat, Session, count_expired, count_publishers, publishes};
+use crate::seat::{Seat, Session, count_expired, count_publishers};
 use crate::standby::take_over;
 use crate::table::Table;
 use srt_types::Callers;
@@ -29,13 +29,23 @@ fn has_fallen_silent(heard: u64, clock: u64) -> bool
     clock.saturating_sub(heard) >= PEER_IDLE_TIMEOUT_US
 }
 
+/// Whether the session's peer sent nothing for five seconds; false for a session that drains, whose packets are ignored.
+fn is_silent(session: &Session, clock: u64) -> bool
+    ensures { result ≡ peer_idle clock session.now }
+{
+    match session.part.until() {
+        Some(_) => false,
+        None => has_fallen_silent(session.heard, clock),
+    }
+}
+
 /// Whether the session has expired: its peer sent nothing for five seconds, or it drains and its time has expired.
 fn is_over(session: &Session, clock: u64) -> bool
     ensures { result ≡ is_stored_over clock session.now }
 {
-    match session.drains {
+    match session.part.until() {
         Some(until) => clock >= until,
-        None => has_fallen_silent(session.heard, clock),
+        None => is_silent(session, clock),
     }
 }
 
@@ -55,10 +65,7 @@ impl Seat {
         ensures { result ≡ session_passes (peer_idle clock) self.now.session }
     {
         match &self.session {
-            Some(session) => match session.drains {
-                Some(_) => false,
-                None => has_fallen_silent(session.heard, clock),
-            },
+            Some(session) => is_silent(session, clock),
             None => false,
         }
     }
@@ -70,7 +77,7 @@ impl Seat {
         match &self.session {
             Some(session) => {
                 if is_over(session, clock) {
-                    Some(time_cause(session.drains))
+                    Some(time_cause(session.part.until()))
                 } else {
                     None
                 }
@@ -103,7 +110,7 @@ impl Seat {
         ensures { result ≡ session_passes (is_kept_subscriber clock) self.now.session }
     {
         match &self.session {
-            Some(session) => !is_over(session, clock) && !publishes(session.role),
+            Some(session) => !is_over(session, clock) && !session.part.publishes(),
             None => false,
         }
     }

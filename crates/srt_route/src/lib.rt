@@ -7,7 +7,8 @@
 //! single session is in `srt_pub` and `srt_sub`.
 //!
 //! Types: a `Route` contains a `ReplyQueue` and, until it is closed, a `Table`, with the seats of its slots and the
-//! publishers' buffers (`stage.rt`). A `Seat` has a session and its buffers. A `Reply` is a packet and its receiver. A `SessionView` is a snapshot of an
+//! publishers' buffers (`stage.rt`). A `Seat` has a session, whose `Part` is a publisher's, a draining
+//! publisher's or a subscriber's, and its buffers. A `Reply` is a packet and its receiver. A `SessionView` is a snapshot of an
 //! open session with its counts, an `EndedSession` one of a session that ended. A `Ledger` keeps the last ended session
 //! of each slot, and the route's counts.
 //!
@@ -47,6 +48,7 @@ mod idle;
 pub mod laws;
 mod ledger;
 mod opening;
+mod part;
 mod publisher_buffers;
 mod refusals;
 mod replies;

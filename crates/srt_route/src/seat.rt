@@ -3,18 +3,19 @@
 ghost use Rattle.std.specs.Prelude.{◌≡◌, ℕ, ◌+◌, ◌*◌, ◌%◌, ◌^◌, ◌<◌, ◌≤◌, true, false, None, Some, position, length, option_map, count_by, if◌then◌else◌};
 ghost use Rattle.std.specs.List.{list_all, list_any};
 ghost use Rattle.srt_types.specs.Given.{given};
-ghost use Rattle.srt_route.specs.Sessions.{is_same_peer, publishes};
+ghost use Rattle.srt_route.specs.Sessions.{is_same_peer};
 ghost use Rattle.srt_route.specs.Tables.{is_session_of, session_passes, holds, has_address, has_publisher, has_subscriber, used_buffers, publishes_from};
 ghost use Rattle.srt_types.specs.Capped.{one_if};
 ghost use Rattle.srt_route.specs.Tables.{has_draining, has_expired, has_speaker, is_of_sort, is_vacant, heard_at, again_of, is_stored_for};
 ghost use Rattle.srt_route.specs.Tables.{stored_after, with_stored, written_of};
 
 use crate::answer::answer_to;
+use crate::part::Part;
 use crate::publisher_buffers::PublisherBuffers;
 use crate::replies::Reply;
 use srt_hs::HsAnswer;
 use srt_sub::Subscriber;
-use srt_types::{Peer, Role, is_same_site};
+use srt_types::{Peer, is_same_site};
 
 /// An open session.
 #[derive(Drop)]
@@ -25,20 +26,12 @@ pub struct Session {
     pub caller: u32,
     /// The session's own SRT socket ID, the destination of the caller's packets; see `socket_ids.rt`.
     pub id: u32,
-    /// Whether the caller publishes or subscribes.
-    pub role: Role,
-    /// Which of the route's two publisher buffers a publisher's session uses; without meaning for a subscriber.
-    pub buffers: PublisherBuffers,
+    /// Whether it is a publisher's, a draining publisher's or a subscriber's session, and what only such a one has.
+    pub part: Part,
     /// The time at which it was opened, in microseconds: its packets' timestamps count from it.
     pub opened: u64,
     /// The time of the last packet or conclusion from the peer, in microseconds.
     pub heard: u64,
-    /// Of a draining publisher's session, the time at which it ends if something is still left to deliver, in
-    /// microseconds. It drains from its SHUTDOWN on.
-    pub drains: Option<u64>,
-    /// Whether publishers' sessions ended while this one was open, the last of them by its own SHUTDOWN; on a route for
-    /// libsrt callers only.
-    pub file_ended: bool,
     /// The answer to its conclusion, kept to answer a repeated conclusion with the same bytes (section 4.3.1.2).
     pub answer: HsAnswer,
 }
@@ -70,13 +63,6 @@ pub enum Sort {
     Vacant,
 }
 
-/// Whether a role is a publisher's.
-pub fn publishes(role: Role) -> bool
-    ensures { result ≡ publishes role }
-{
-    matches!(role, Role::Publish)
-}
-
 /// Whether two addresses are equal: same IP and same UDP port.
 pub fn is_same_peer(peer: Peer, other: Peer) -> bool
     ensures { result ≡ is_same_peer peer other }
@@ -92,7 +78,7 @@ impl Seat {
             Some(session) => {
                 is_same_peer(session.peer, peer)
                     && session.caller == caller
-                    && session.drains.is_none()
+                    && !session.part.drains()
             }
             None => false,
         }
@@ -103,7 +89,7 @@ impl Seat {
         ensures { result ≡ has_publisher self.now }
     {
         match &self.session {
-            Some(session) => publishes(session.role),
+            Some(session) => session.part.publishes(),
             None => false,
         }
     }
@@ -123,7 +109,7 @@ impl Seat {
         ensures { result ≡ has_subscriber self.now }
     {
         match &self.session {
-            Some(session) => !publishes(session.role),
+            Some(session) => !session.part.publishes(),
             None => false,
         }
     }
@@ -133,7 +119,7 @@ impl Seat {
         ensures { result ≡ used_buffers self.now }
     {
         match &self.session {
-            Some(session) => session.buffers,
+            Some(session) => session.part.buffers(),
             None => PublisherBuffers::First,
         }
     }
@@ -143,7 +129,7 @@ impl Seat {
         ensures { result ≡ publishes_from which self.now }
     {
         match &self.session {
-            Some(session) => publishes(session.role) && session.buffers.same_as(which),
+            Some(session) => session.part.publishes_from(which),
             None => false,
         }
     }
@@ -195,7 +181,7 @@ impl Seat {
     {
         match &self.session {
             Some(session) => {
-                is_same_peer(session.peer, peer) && session.id == dest && session.drains.is_none()
+                is_same_peer(session.peer, peer) && session.id == dest && !session.part.drains()
             }
             None => false,
         }
@@ -212,7 +198,7 @@ impl Seat {
         }
         if let Some(session) = &mut self.session {
             session.heard = clock;
-            session.drains = drains;
+            session.part = session.part.after(drains);
         }
     }
 
@@ -221,7 +207,7 @@ impl Seat {
         ensures { result ≡ has_speaker self.now }
     {
         match &self.session {
-            Some(session) => publishes(session.role) && session.drains.is_none(),
+            Some(session) => session.part.speaks(),
             None => false,
         }
     }
@@ -231,7 +217,7 @@ impl Seat {
         ensures { result ≡ has_draining self.now }
     {
         match &self.session {
-            Some(session) => session.drains.is_some(),
+            Some(session) => session.part.drains(),
             None => false,
         }
     }

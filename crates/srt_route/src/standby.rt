@@ -10,7 +10,7 @@ ghost use Rattle.srt_route.specs.inside.OneSession.{PublisherStoodBy};
 ghost use Rattle.srt_route.specs.inside.Standby.{active_in, unused_buffers, leading_after, is_active_by, HasFailed, HasNone, IsActiveOf, IsDue, StandsBy};
 
 use crate::publisher_buffers::PublisherBuffers;
-use crate::seat::{Seat, Session, count_draining, have_publisher, publishes};
+use crate::seat::{Seat, Session, count_draining, have_publisher};
 use crate::table::Table;
 use srt_pub::Publisher;
 use srt_types::limits::MAX_PAYLOADS;
@@ -123,7 +123,7 @@ pub fn is_active_by(active: Option<PublisherBuffers>, session: &Session) -> bool
     ensures { result ≡ is_active_by active session.now }
 {
     match active {
-        Some(which) => publishes(session.role) && session.buffers.same_as(which),
+        Some(which) => session.part.publishes_from(which),
         None => false,
     }
 }

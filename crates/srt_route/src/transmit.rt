@@ -87,7 +87,7 @@ fn transmit_publisher(
         return;
     };
     transmit_reports(
-        &mut table.publishers[session.buffers.place()],
+        &mut table.publishers[session.part.buffers().place()],
         session.peer,
         clock,
         scratch,

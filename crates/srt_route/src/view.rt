@@ -138,22 +138,25 @@ impl Table {
     {
         let seat = &self.seats[slot];
         match &seat.session {
-            Some(session) => Some(SessionView {
-                peer: session.peer,
-                caller: session.caller,
-                id: session.id,
-                role: session.role,
-                is_active: is_active_by(active, session),
-                is_draining: session.drains.is_some(),
-                opened: session.opened,
-                heard: session.heard,
-                latency_ms: latency_in(session.role, &session.answer),
-                traffic: traffic_of(
-                    session.role,
-                    &self.publishers[session.buffers.place()],
-                    &seat.subscriber,
-                ),
-            }),
+            Some(session) => {
+                let role = session.part.role();
+                Some(SessionView {
+                    peer: session.peer,
+                    caller: session.caller,
+                    id: session.id,
+                    role,
+                    is_active: is_active_by(active, session),
+                    is_draining: session.part.drains(),
+                    opened: session.opened,
+                    heard: session.heard,
+                    latency_ms: latency_in(role, &session.answer),
+                    traffic: traffic_of(
+                        role,
+                        &self.publishers[session.part.buffers().place()],
+                        &seat.subscriber,
+                    ),
+                })
+            }
             None => None,
         }
     }

@@ -9,6 +9,7 @@ use Rattle.srt_route.specs.declared.seat.Session.{Session as TheSession}
 use Rattle.srt_route.specs.declared.seat.Seat.{Seat}
 use Rattle.srt_route.specs.Sessions.{Session, is_draining, is_over_at, is_open_in, is_over, publishes, time_in, aged, aged_at}
 use Rattle.srt_route.specs.Buffers.{ExpiresTo}
+use Rattle.srt_route.specs.Parts.{role_of, until_of}
 use Rattle.srt_route.specs.Tables.{IsSession, IsStored, IsSeat, is_stored_over, stored_aged, is_kept_subscriber, session_passes}
 use Rattle.srt_route.proofs.model.Found.{found_passes, open_parts, Keeps, changed, while_open}
 use Rattle.srt_route.proofs.model.TakeOver.{KeepsMarks}
@@ -60,7 +61,7 @@ ages_marks e clock s = by (s.is_open && not (is_over s clock))
 -- a session has expired exactly if its stored session has
 pub stale_is : (e : Terms) (index clock : ℕ) (t : TheSession) (s : Session) → IsSession e index t s → is_over s clock ≡ is_stored_over clock t
 stale_is e index clock t s is =
-    ap (λ (d : Option ℕ). is_over_at d s.heard clock) (sym is.drains_is) ∙ ap (λ (n : ℕ). is_over_at t.drains n clock) (sym is.heard_is)
+    ap (λ (d : Option ℕ). is_over_at d s.heard clock) (sym is.drains_is) ∙ ap (λ (n : ℕ). is_over_at (until_of t.part) n clock) (sym is.heard_is)
 
 -- a stored session after time advanced
 aged_stored : (e : Terms) (index clock : ℕ) (o : Option TheSession) (g : Option Session) → ((s : Session) → g ≡ Some s → s.is_open ≡ true)
@@ -89,7 +90,7 @@ kept_is e index clock None s o is h role = absurd is
 kept_is e index clock (Some t) s o is h role = by (is_over s clock) (stale_is e index clock t s is) h
   where
     by : (idle : Bool) → idle ≡ is_stored_over clock t → (aged_at e (s.is_open && not idle) (time_in s clock) s).is_open ≡ true
-        → (not (is_stored_over clock t) && not (publishes t.role)) ≡ true
+        → (not (is_stored_over clock t) && not (publishes (role_of t.part))) ≡ true
     by true same k = absurd (let closed : (aged_at e (s.is_open && not true) (time_in s clock) s).is_open ≡ false = rw (o) refl in cc)
     by false same k = rw (← same, is.role_is, role) refl
 
@@ -138,7 +139,7 @@ aged_becomes e index before clock at p x y ss later is h =
     kept_wide expires None g there stored kept = absurd (let bad : false ≡ true = kept in cc)
     kept_wide expires (Some t) None there stored kept = absurd stored
     kept_wide expires (Some t) (Some s) there stored kept =
-        let role : publishes t.role ≡ false = not_true (publishes t.role) (and_parts (not (is_stored_over clock t)) (not (publishes t.role)) kept).1 in
+        let role : publishes (role_of t.part) ≡ false = not_true (publishes (role_of t.part)) (and_parts (not (is_stored_over clock t)) (not (publishes (role_of t.part))) kept).1 in
         expired_wide e before clock p x.subscriber y.subscriber s later expires (ap publishes (sym stored.role_is) ∙ role) (is.seated s there)
 
 -- a subscriber's session that hasn't expired stays
@@ -146,6 +147,6 @@ pub kept_stays : (clock : ℕ) (o : Option TheSession) → session_passes (is_ke
 kept_stays clock None h = refl
 kept_stays clock (Some t) h = by (is_stored_over clock t) h
   where
-    by : (idle : Bool) → (not idle && not (publishes t.role)) ≡ true → Some t ≡ cond idle None (Some t)
+    by : (idle : Bool) → (not idle && not (publishes (role_of t.part))) ≡ true → Some t ≡ cond idle None (Some t)
     by true k = absurd (let bad : false ≡ true = k in cc)
     by false k = refl

@@ -34,6 +34,7 @@ use Rattle.srt_route.specs.Sessions.{settled, settled_at, terms_of, time_in}
 use Rattle.srt_route.specs.Route.{delivered, delivery, drain_end, room_if, settled_by}
 use Rattle.srt_route.specs.Route.{delivery_of, drain_if, gives_some, is_some_payload, least_room}
 use Rattle.srt_route.specs.Buffers.{IsPast, IsSeated}
+use Rattle.srt_route.specs.Parts.{buffers_used, role_of, until_of}
 use Rattle.srt_route.specs.PublisherBuffers.{place_of}
 use Rattle.srt_route.specs.Tables.{AreWide, has_draining, IsSeat, IsSession, IsStored, IsTable, buffers_of, buffers_by, seat_settled, stored_settled}
 use Rattle.srt_route.specs.Ends.{EndsAre, EndsIn, Kept, cause_in, cause_of_slot, kept_of, settled_end, settled_ending}
@@ -48,6 +49,7 @@ use Rattle.srt_route.proofs.model.FileEnds.{settles, settles_marks}
 use Rattle.srt_route.proofs.model.Found.{changed, open_parts, while_open}
 use Rattle.srt_route.proofs.model.Lists.{how_many, one_more}
 use Rattle.srt_route.proofs.stored.Kept.{Becomes, KeepsBuffers, UpTo, below_seats, seat_at, seat_stays, some_buffers, table_kept}
+use Rattle.srt_route.proofs.stored.Parts.{extended_buffers, extended_records, extended_role, extended_until}
 use Rattle.srt_route.proofs.steps.Noting.{end_grows, grow_both, one_summed}
 use Rattle.srt_route.proofs.steps.Passing.{publisher_at}
 use Rattle.srt_route.proofs.steps.Notified.{none_notified, same_role, slot_notified}
@@ -79,7 +81,7 @@ none_left publishers x none e index clock at p ss is =
     by None h = refl
     by (Some s) h = absurd h
 
-pub subscriber_left : (publishers : List Publisher) (x : Seat) (t : TheSession) → x.session ≡ Some t → publishes t.role ≡ false
+pub subscriber_left : (publishers : List Publisher) (x : Seat) (t : TheSession) → x.session ≡ Some t → publishes (role_of t.part) ≡ false
     → TellsOf publishers x (λ e o. false ≡ left_in e o)
 subscriber_left publishers x t stored role e index clock at p ss is =
     by (find (is_open_in at) ss) refl (subst (λ (o : Option TheSession). IsStored e index o (find (is_open_in at) ss)) stored is.session_is)
@@ -94,7 +96,7 @@ subscriber_left publishers x t stored role e index clock at p ss is =
     by (Some s) found h = one s h s.past (is.seated s found).past_is
 
 pub publisher_left : (publishers : List Publisher) (x : Seat) (t : TheSession) (place : ℕ) (b : Publisher) (left : Bool)
-    → x.session ≡ Some t → publishes t.role ≡ true → place ≡ place_of t.buffers → b ≡ get_or publishers place b → place < length publishers
+    → x.session ≡ Some t → publishes (role_of t.part) ≡ true → place ≡ place_of (buffers_used t.part) → b ≡ get_or publishers place b → place < length publishers
     → HoldsOf b (λ terms initial m. left ≡ has_undelivered terms.mode m.receiving)
     → TellsOf publishers x (λ e o. left ≡ left_in e o)
 publisher_left publishers x t place b left stored role place_is there inside holds e index clock at p ss is =
@@ -164,10 +166,10 @@ drains_now a b c now until x y z same =
     ∙ (ap (λ (k : Bool). drain_if Libsrt (k && c) until) y ∙ ap (λ (k : Bool). drain_if Libsrt k until) z))
 
 -- the session of a seat drains and has nothing left
-pub draining_ends : (publishers : List Publisher) (x : Seat) (t : TheSession) (until : ℕ) (left : Bool)
-    → x.session ≡ Some t → t.drains ≡ Some until → TellsOf publishers x (λ e o. left ≡ left_in e o)
+pub draining_ends : (publishers : List Publisher) (x : Seat) (t : TheSession) (left : Bool)
+    → x.session ≡ Some t → is_some (until_of t.part) ≡ true → TellsOf publishers x (λ e o. left ≡ left_in e o)
     → TellsOf publishers x (λ e o. not left ≡ drained_in e o)
-draining_ends publishers x t until left stored drains tells e index clock at p ss is =
+draining_ends publishers x t left stored drains tells e index clock at p ss is =
     by (find (is_open_in at) ss) (subst (λ (o : Option TheSession). IsStored e index o (find (is_open_in at) ss)) stored is.session_is)
     (tells e index clock at p ss is)
   where
@@ -175,16 +177,16 @@ draining_ends publishers x t until left stored drains tells e index clock at p s
     by None h k = absurd h
     by (Some s) h k =
         ap not k
-        ∙ ap (λ (d : Option ℕ). is_some d && not (has_left (terms_of e s) s.past)) (sym (sym h.drains_is ∙ drains))
+        ∙ ap (λ (d : Bool). d && not (has_left (terms_of e s) s.past)) (sym (ap is_some (sym h.drains_is) ∙ drains))
 
-pub staying_ends : (publishers : List Publisher) (x : Seat) (t : TheSession) → x.session ≡ Some t → t.drains ≡ None
+pub staying_ends : (publishers : List Publisher) (x : Seat) (t : TheSession) → x.session ≡ Some t → is_some (until_of t.part) ≡ false
     → TellsOf publishers x (λ e o. false ≡ drained_in e o)
 staying_ends publishers x t stored drains e index clock at p ss is =
     by (find (is_open_in at) ss) (subst (λ (o : Option TheSession). IsStored e index o (find (is_open_in at) ss)) stored is.session_is)
   where
     by : (f : Option Session) → IsStored e index (Some t) f → false ≡ drained_in e f
     by None h = absurd h
-    by (Some s) h = ap (λ (d : Option ℕ). is_some d && not (has_left (terms_of e s) s.past)) (sym (sym h.drains_is ∙ drains))
+    by (Some s) h = ap (λ (d : Bool). d && not (has_left (terms_of e s) s.past)) (sym (ap is_some (sym h.drains_is) ∙ drains))
 
 pub vacant_ends : (publishers : List Publisher) (x : Seat) → x.session ≡ None → TellsOf publishers x (λ e o. false ≡ drained_in e o)
 vacant_ends publishers x none e index clock at p ss is =
@@ -255,11 +257,11 @@ settled_stored e index ends given clock t s None opens is drains same =
       peer_is = is.peer_is;
       caller_is = is.caller_is;
       id_is = is.id_is;
-      role_is = is.role_is;
+      role_is = extended_role (renewed e.mode given clock) t.part ∙ is.role_is;
       opened_is = is.opened_is;
       heard_is = is.heard_is;
-      drains_is = ap (option_map (renewed e.mode given clock)) (is.drains_is ∙ drains) ∙ sym drains;
-      file_is = is.file_is;
+      drains_is = extended_until (renewed e.mode given clock) t.part ∙ ap (option_map (renewed e.mode given clock)) (is.drains_is ∙ drains) ∙ sym drains;
+      file_is = extended_records (renewed e.mode given clock) t.part s.file_ended is.file_is;
       answer_is = is.answer_is;
     }))
 settled_stored e index ends given clock t s (Some until) opens is drains same =
@@ -281,11 +283,11 @@ settled_stored e index ends given clock t s (Some until) opens is drains same =
       peer_is = is.peer_is;
       caller_is = is.caller_is;
       id_is = is.id_is;
-      role_is = is.role_is;
+      role_is = extended_role (renewed e.mode given clock) t.part ∙ is.role_is;
       opened_is = is.opened_is;
       heard_is = is.heard_is;
-      drains_is = ap (option_map (renewed e.mode given clock)) (is.drains_is ∙ drains);
-      file_is = is.file_is;
+      drains_is = extended_until (renewed e.mode given clock) t.part ∙ ap (option_map (renewed e.mode given clock)) (is.drains_is ∙ drains);
+      file_is = extended_records (renewed e.mode given clock) t.part s.file_ended is.file_is;
       answer_is = is.answer_is;
     }
 
@@ -324,7 +326,7 @@ settled_becomes e index clock at publishers p given x y ss is h =
     keeps : (ends : Bool) (o : Option TheSession) → KeepsBuffers o (stored_settled ends e.mode given clock o)
     keeps ends None = tt
     keeps true (Some t) = tt
-    keeps false (Some t) = refl
+    keeps false (Some t) = extended_buffers (renewed e.mode given clock) t.part
 
 -- all seats
 pub all_settled : (e : Terms) (index clock at : ℕ) (given : Bool) (old new : Table) (ss : List Session) → IsTable e index clock old ss

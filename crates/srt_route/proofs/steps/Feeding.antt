@@ -17,6 +17,7 @@ use Rattle.srt_route.specs.declared.table.Table.{Table}
 use Rattle.srt_route.specs.Past.{Past, Publishes, Subscribes, least_with}
 use Rattle.srt_route.specs.Sessions.{Session, is_open_in, publishes, terms_of, time_in}
 use Rattle.srt_route.specs.Buffers.{IsPast, IsSeated}
+use Rattle.srt_route.specs.Parts.{role_of}
 use Rattle.srt_route.specs.Tables.{IsSession, IsStored, IsSeat, IsTable, buffers_of, has_subscriber, session_passes}
 use Rattle.srt_route.specs.inside.Delivery.{changed, fed, fed_past, HasRoom, HaveRoom, lesser}
 use Rattle.srt_route.proofs.model.Found.{changed as becomes}
@@ -24,7 +25,7 @@ use Rattle.srt_route.proofs.stored.Kept.{still_stored, Becomes, same_buffers, so
 use Rattle.srt_route.proofs.model.Changes.{is_there}
 
 abbrev pub subscribes : Option TheSession → Bool
-subscribes o = session_passes (λ t. not (publishes t.role)) o
+subscribes o = session_passes (λ t. not (publishes (role_of t.part))) o
 
 pub changed_is : (s : Session) (g : Session → Past) (past : Past) → s.is_open ≡ true → g s ≡ past → changed g s ≡ record s { past = past }
 changed_is s g past o is = ap (λ (b : Bool). cond b (record s { past = g s }) s) o ∙ ap (λ (p : Past). record s { past = p }) is

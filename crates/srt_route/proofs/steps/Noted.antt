@@ -1,6 +1,7 @@
 -- What sessions record of a publisher's end, and which have the whole file.
 use Rattle.std.proofs.Common.{◌≡◌, ℕ, Bool, true, false, ◌&&◌, not, cond, Option, None, Some, List, [], ◌∷◌, map, find, refl, sym, ap, subst, ◌∙◌}
 use Rattle.std.specs.Option.{option_map}
+use Rattle.std.proofs.lemmas.Bool.{and_parts}
 use Rattle.srt_types.specs.Terms.{Terms}
 use Rattle.srt_pub.specs.declared.session.Publisher.{Publisher}
 use Rattle.srt_sub.specs.declared.session.Subscriber.{Subscriber}
@@ -13,10 +14,12 @@ use Rattle.srt_route.specs.Past.{Past, Publishes, Subscribes, has_all}
 use Rattle.srt_route.specs.Sessions.{Session, is_open_in, is_subscriber, publishes, terms_of, with_end}
 use Rattle.srt_route.specs.inside.Files.{HasWhole, whole_in}
 use Rattle.srt_route.specs.Buffers.{IsPast, IsSeated}
+use Rattle.srt_route.specs.Parts.{saw_end}
 use Rattle.srt_route.specs.Tables.{IsSession, IsStored, IsSeat, IsTable, seat_with_end, stored_end}
 use Rattle.srt_route.proofs.model.Changes.{is_there}
 use Rattle.srt_route.proofs.model.Found.{changed as becomes}
 use Rattle.srt_route.proofs.stored.Kept.{Becomes, KeepsBuffers}
+use Rattle.srt_route.proofs.stored.Parts.{end_buffers, end_records, end_role, end_until, saw_is}
 
 -- a seat that has recorded it
 abbrev pub IsNoted : (by_shutdown : Bool) → (x y : Seat) → Type 0
@@ -29,11 +32,11 @@ end_stored e index b t s is =
       peer_is = is.peer_is;
       caller_is = is.caller_is;
       id_is = is.id_is;
-      role_is = is.role_is;
+      role_is = end_role b t.part ∙ is.role_is;
       opened_is = is.opened_is;
       heard_is = is.heard_is;
-      drains_is = is.drains_is;
-      file_is = refl;
+      drains_is = end_until b t.part ∙ is.drains_is;
+      file_is = end_records b t.part;
       answer_is = is.answer_is;
     }
 
@@ -68,7 +71,7 @@ noted_becomes e index clock at b p x y ss is h =
   where
     keeps : (o : Option TheSession) → KeepsBuffers o (option_map (stored_end b) o)
     keeps None = tt
-    keeps (Some t) = refl
+    keeps (Some t) = end_buffers b t.part
 
 -- nothing is recorded if none ended
 all_stay : (ss : List Session) → map (with_end None) ss ≡ ss
@@ -95,43 +98,31 @@ vacant_whole over x none e index clock at p ss is =
     by None stored = refl
     by (Some s) stored = absurd stored
 
-pub publishing_whole : (over : Bool) (x : Seat) (t : TheSession) → x.session ≡ Some t → publishes t.role ≡ true → HasWhole over x false
-publishing_whole over x t here role e index clock at p ss is =
-    by (find (is_open_in at) ss) (subst (λ (o : Option TheSession). IsStored e index o (find (is_open_in at) ss)) here is.session_is)
-  where
-    none : (a o d g : Bool) → (a && (o && false) && d && g) ≡ false
-    none true true d g = refl
-    none true false d g = refl
-    none false o d g = refl
-
-    by : (f : Option Session) → IsStored e index (Some t) f → false ≡ whole_in over f
-    by None stored = absurd stored
-    by (Some s) stored =
-        sym
-        (ap (λ (b : Bool). over && (s.is_open && not b) && s.file_ended && has_all s.past) (ap publishes (sym stored.role_is) ∙ role)
-        ∙ none over s.is_open s.file_ended (has_all s.past))
-
-pub unmarked_whole : (over : Bool) (x : Seat) (t : TheSession) → x.session ≡ Some t → t.file_ended ≡ false → HasWhole over x false
+pub unmarked_whole : (over : Bool) (x : Seat) (t : TheSession) → x.session ≡ Some t → saw_end t.part ≡ false → HasWhole over x false
 unmarked_whole over x t here unmarked e index clock at p ss is =
     by (find (is_open_in at) ss) (subst (λ (o : Option TheSession). IsStored e index o (find (is_open_in at) ss)) here is.session_is)
   where
-    none : (a b g : Bool) → (a && b && false && g) ≡ false
-    none true true g = refl
-    none true false g = refl
-    none false b g = refl
+    none : (a o reads f g : Bool) → (reads && f) ≡ false → false ≡ (a && (o && reads) && f && g)
+    none true true true f g h = rw h refl
+    none true true false f g h = refl
+    none true false reads f g h = refl
+    none false o reads f g h = refl
 
     by : (f : Option Session) → IsStored e index (Some t) f → false ≡ whole_in over f
     by None stored = absurd stored
     by (Some s) stored =
-        sym
-        (ap (λ (b : Bool). over && is_subscriber s && b && has_all s.past) (sym stored.file_is ∙ unmarked)
-        ∙ none over (is_subscriber s) (has_all s.past))
+        none over s.is_open (not (publishes s.conclusion.role)) s.file_ended (has_all s.past)
+        (sym (saw_is t.part s.conclusion.role s.file_ended stored.role_is stored.file_is) ∙ unmarked)
 
-pub acknowledged_whole : (x : Seat) (t : TheSession) (all : Bool) → x.session ≡ Some t → publishes t.role ≡ false → t.file_ended ≡ true
+pub acknowledged_whole : (x : Seat) (t : TheSession) (all : Bool) → x.session ≡ Some t → saw_end t.part ≡ true
     → ForWhatever x.subscriber (λ terms initial opening caller last m. all ≡ is_all_acknowledged m.sending) → HasWhole true x all
-acknowledged_whole x t all here role marked answer e index clock at p ss is =
+acknowledged_whole x t all here marked answer e index clock at p ss is =
     by (find (is_open_in at) ss) refl (subst (λ (o : Option TheSession). IsStored e index o (find (is_open_in at) ss)) here is.session_is)
   where
+    not_so : (b : Bool) → not b ≡ true → b ≡ false
+    not_so true h = absurd (let bad : false ≡ true = h in cc)
+    not_so false h = refl
+
     past_is : (s : Session) → publishes s.conclusion.role ≡ false → (past : Past) → IsPast e clock p x.subscriber s past → all ≡ has_all past
     past_is s reader (Publishes m) h = absurd (let bad : true ≡ false = sym h.0 ∙ reader in cc)
     past_is s reader (Subscribes m) h = answer (terms_of e s).subscriber s.conclusion.initial s.opening s.conclusion.caller clock m h.1
@@ -139,11 +130,13 @@ acknowledged_whole x t all here role marked answer e index clock at p ss is =
     by : (f : Option Session) → find (is_open_in at) ss ≡ f → IsStored e index (Some t) f → all ≡ whole_in true f
     by None found stored = absurd stored
     by (Some s) found stored =
-        let reader : publishes s.conclusion.role ≡ false = ap publishes (sym stored.role_is) ∙ role in
+        let saw = and_parts (not (publishes s.conclusion.role)) s.file_ended
+        (sym (saw_is t.part s.conclusion.role s.file_ended stored.role_is stored.file_is) ∙ marked) in
+        let reader : publishes s.conclusion.role ≡ false = not_so (publishes s.conclusion.role) saw.0 in
         let opens : s.is_open ≡ true = (is_there at ss s found).0 in
         let subscribes : is_subscriber s ≡ true =
         ap (λ (b : Bool). b && not (publishes s.conclusion.role)) opens ∙ ap not reader in
         past_is s reader s.past (is.seated s found).past_is
         ∙ sym
         (ap (λ (b : Bool). b && s.file_ended && has_all s.past) subscribes
-        ∙ ap (λ (b : Bool). b && has_all s.past) (sym stored.file_is ∙ marked))
+        ∙ ap (λ (b : Bool). b && has_all s.past) saw.1)

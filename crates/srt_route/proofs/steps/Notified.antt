@@ -30,6 +30,7 @@ use Rattle.srt_route.specs.Past.{Past, Publishes, Subscribes, Agreed, has_all, h
 use Rattle.srt_route.specs.Sessions.{Session, is_active, is_draining, is_open_in, is_over_at, is_subscriber, publishes, stamp_in, terms_of, time_in}
 use Rattle.srt_route.specs.Route.{Route, drain_if, drain_of, has_whole_file, is_for, clock_after, is_file_over}
 use Rattle.srt_route.specs.Buffers.{IsPast, IsSeated}
+use Rattle.srt_route.specs.Parts.{role_of}
 use Rattle.srt_route.specs.PublisherBuffers.{place_of}
 use Rattle.srt_route.specs.Tables.{IsSeat, IsSession, IsStored, IsTable, buffers_of, used_buffers}
 use Rattle.srt_route.specs.Totals.{sums_to, with_end}
@@ -107,7 +108,7 @@ causes_alike e index stored cause (Some t) None same is = absurd is
 causes_alike e index stored cause (Some t) (Some s) same is = same t s is
 
 pub same_role : (e : Terms) (index : ℕ) (o : Option TheSession) (f : Option Session) (t : TheSession) (s : Session)
-    → IsStored e index o f → o ≡ Some t → f ≡ Some s → t.role ≡ s.conclusion.role
+    → IsStored e index o f → o ≡ Some t → f ≡ Some s → (role_of t.part) ≡ s.conclusion.role
 same_role e index o f t s is here found =
     let both : IsStored e index (Some t) (Some s) =
     subst (λ (g : Option Session). IsStored e index (Some t) g) found (subst (λ (p : Option TheSession). IsStored e index p f) here is) in

@@ -38,6 +38,7 @@ use Rattle.srt_route.specs.Past.{Past, Publishes, Subscribes, Agreed, ToPublishe
 use Rattle.srt_route.specs.Sessions.{Session, is_draining, is_open_in, is_publisher, is_recent, is_subscriber, publishes, speaks, terms_of, time_in}
 use Rattle.srt_route.specs.Route.{Reply as Answer, sent, said_by, packets_at, packets_where}
 use Rattle.srt_route.specs.Buffers.{IsPast, IsSeated, datagrams_to}
+use Rattle.srt_route.specs.Parts.{buffers_used, role_of, until_of}
 use Rattle.srt_route.specs.Tables.{IsStored, IsSeat, IsTable, IsPublishing, Uses, session_passes, buffers_by, used_buffers, has_speaker}
 use Rattle.srt_route.specs.Tables.{is_heard_recently}
 use Rattle.srt_route.specs.inside.Delivery.{PublisherStands, IsPublisherOf, changed, amid}
@@ -247,42 +248,42 @@ pub seat_without : (e : Terms) (index clock : ℕ) (table : Table) (ss : List Se
     → speaks s ≡ false
 seat_without e index clock table ss at x body there none s found = by x.session (seat_session e index clock table ss at x s body there found) none
   where
-    by : (o : Option TheSession) → IsStored e index o (Some s) → session_passes (λ t. publishes t.role && not (is_some t.drains)) o ≡ false
+    by : (o : Option TheSession) → IsStored e index o (Some s) → session_passes (λ t. publishes (role_of t.part) && not (is_some (until_of t.part))) o ≡ false
         → speaks s ≡ false
     by None is h = absurd is
     by (Some t) is h =
         ap (λ (b : Bool). b && publishes s.conclusion.role && not (is_draining s)) (is_there at ss s found).0
         ∙ (ap (λ (b : Bool). b && not (is_draining s)) (ap publishes (sym is.role_is))
-        ∙ (ap (λ (d : Option ℕ). publishes t.role && not (is_some d)) (sym is.drains_is) ∙ h))
+        ∙ (ap (λ (d : Option ℕ). publishes (role_of t.part) && not (is_some d)) (sym is.drains_is) ∙ h))
 
 pub seat_with : (e : Terms) (index clock : ℕ) (table : Table) (ss : List Session) (at : ℕ) (x : Seat) (t : TheSession)
     → IsTable e index clock table ss → at < length table.seats.items → x ≡ get_or table.seats.items at x → has_speaker x ≡ true
     → x.session ≡ Some t
-    → (s : Session) × IsPublishing ss at s × (t.peer ≡ s.peer) × Uses table at t.buffers × (is_draining s ≡ false)
+    → (s : Session) × IsPublishing ss at s × (t.peer ≡ s.peer) × Uses table at (buffers_used t.part) × (is_draining s ≡ false)
 seat_with e index clock table ss at x t body below there some stored =
     by x.session stored (find (is_open_in at) ss) refl (seat_at e index clock table ss at x (some_buffers table) body below there).session_is some
   where
     by : (o : Option TheSession) → o ≡ Some t → (f : Option Session) → find (is_open_in at) ss ≡ f → IsStored e index o f
-        → session_passes (λ u. publishes u.role && not (is_some u.drains)) o ≡ true
-        → (s : Session) × IsPublishing ss at s × (t.peer ≡ s.peer) × Uses table at t.buffers × (is_draining s ≡ false)
+        → session_passes (λ u. publishes (role_of u.part) && not (is_some (until_of u.part))) o ≡ true
+        → (s : Session) × IsPublishing ss at s × (t.peer ≡ s.peer) × Uses table at (buffers_used t.part) × (is_draining s ≡ false)
     by None same f found is h = absurd (let bad : None ≡ Some t = same in cc)
     by (Some u) same None found is h = absurd is
     by (Some u) same (Some s) found is h =
         let one : u ≡ t = some_same u t same in
-        let parts = and_parts (publishes u.role) (not (is_some u.drains)) h in
+        let parts = and_parts (publishes (role_of u.part)) (not (is_some (until_of u.part))) h in
         let role : publishes s.conclusion.role ≡ true = ap publishes (sym is.role_is) ∙ parts.0 in (
           s,
           record { found = found; publishes = ap (λ (b : Bool). b && publishes s.conclusion.role) (is_there at ss s found).0 ∙ role },
           ap (λ (v : TheSession). v.peer) (sym one) ∙ is.peer_is,
           λ d. sym (ap buffers_by stored) ∙ ap used_buffers (there ∙ get_or_default table.seats.items at x d below),
-          ap (λ (d : Option ℕ). is_some d) (sym is.drains_is) ∙ goes_on (is_some u.drains) parts.1,
+          ap (λ (d : Option ℕ). is_some d) (sym is.drains_is) ∙ goes_on (is_some (until_of u.part)) parts.1,
         )
 
 -- the publisher whose session is stored in a seat, with its buffers
 pub record IsReporting (e : Terms) (index clock : ℕ) (table : Table) (ss : List Session) (at : ℕ) (t : TheSession) (p : Publisher) : Type 0 where
   pub session : Session
   pub past : Publishing
-  pub its : IsPublisherOf e index clock table ss at session past t.buffers
+  pub its : IsPublisherOf e index clock table ss at session past (buffers_used t.part)
   pub speaking : is_draining session ≡ false
   pub peer_is : t.peer ≡ session.peer
   pub buffers : Publishing_is e clock p session past
@@ -290,26 +291,26 @@ pub record IsReporting (e : Terms) (index clock : ℕ) (table : Table) (ss : Lis
 pub reporting_at : (e : Terms) (index clock : ℕ) (table : Table) (ss : List Session) (at place : ℕ) (x y : Seat) (t : TheSession)
     (p : Publisher)
     → IsTable e index clock table ss → at < length table.seats.items → x ≡ get_or table.seats.items at x → y ≡ get_or table.seats.items at y
-    → has_speaker x ≡ true → y.session ≡ Some t → place ≡ place_of t.buffers → p ≡ get_or table.publishers.items place p
+    → has_speaker x ≡ true → y.session ≡ Some t → place ≡ place_of (buffers_used t.part) → p ≡ get_or table.publishers.items place p
     → IsReporting e index clock table ss at t p
 reporting_at e index clock table ss at place x y t p body below first again some stored place_is there =
     let same = same_read table.seats.items at y x below again first in
     let it = seat_with e index clock table ss at y t body below again (ap has_speaker same ∙ some) stored in
     let past = has_past e index clock table ss at it.0 body it.1 in
-    let its : IsPublisherOf e index clock table ss at it.0 past.0 t.buffers = record { body = body; here = past.1; uses = it.3 } in
+    let its : IsPublisherOf e index clock table ss at it.0 past.0 (buffers_used t.part) = record { body = body; here = past.1; uses = it.3 } in
     record {
       session = it.0;
       past = past.0;
       its = its;
       speaking = it.4;
       peer_is = it.2;
-      buffers = publisher_at e index clock table ss at it.0 past.0 t.buffers place p its place_is there;
+      buffers = publisher_at e index clock table ss at it.0 past.0 (buffers_used t.part) place p its place_is there;
     }
 
 pub has_none : (x y : Seat) → y ≡ x → y.session ≡ None → has_speaker x ≡ true → ⊥
 has_none x y same none some =
     let bad : false ≡ true =
-    sym (ap (session_passes (λ (t : TheSession). publishes t.role && not (is_some t.drains))) none) ∙ (ap has_speaker same ∙ some) in cc
+    sym (ap (session_passes (λ (t : TheSession). publishes (role_of t.part) && not (is_some (until_of t.part)))) none) ∙ (ap has_speaker same ∙ some) in cc
 
 -- the publishers of the slots below `at` have sent their packets
 abbrev pub below_notified : Terms → (clock at : ℕ) → Session → Past

@@ -25,6 +25,7 @@ use Rattle.srt_route.specs.inside.Notes.{NotesAt, cause_if}
 use Rattle.srt_route.specs.inside.Notes.{TellsOf as TellsEndOf}
 use Rattle.srt_route.specs.inside.Standby.{is_active_by}
 use Rattle.srt_route.specs.Buffers.{IsSeated}
+use Rattle.srt_route.specs.Parts.{role_of}
 use Rattle.srt_route.specs.Tables.{buffers_of, IsStored, IsSeat, IsTable, with_stored}
 use Rattle.srt_route.specs.Waits.{replies_of, places_of}
 use Rattle.srt_route.specs.inside.Delivery.{changed, after_publisher, after_subscriber, publisher_reported}
@@ -271,11 +272,11 @@ pub no_ends : (e : Terms) (index : ℕ) (over : Bool) (moment : ℕ) (ss : List 
 no_ends e index over moment ss ledger = record { done = λ k lt. absurd (omega (arith, lt)); ahead = λ k le. refl; sums = refl }
 
 -- a subscriber is never the active publisher
-reader_flag : (active : Option PublisherBuffers) (t : TheSession) (s : Session) (flag : Bool) → t.role ≡ s.conclusion.role
+reader_flag : (active : Option PublisherBuffers) (t : TheSession) (s : Session) (flag : Bool) → (role_of t.part) ≡ s.conclusion.role
     → not (publishes s.conclusion.role) ≡ true → is_active_by active t ≡ (publishes s.conclusion.role && flag)
 reader_flag active t s flag role reads = by active (publishes s.conclusion.role) (ap publishes role) reads
   where
-    by : (o : Option PublisherBuffers) (b : Bool) → publishes t.role ≡ b → not b ≡ true → is_active_by o t ≡ (b && flag)
+    by : (o : Option PublisherBuffers) (b : Bool) → publishes (role_of t.part) ≡ b → not b ≡ true → is_active_by o t ≡ (b && flag)
     by o true same k = absurd (let bad : false ≡ true = k in cc)
     by None false same k = refl
     by (Some which) false same k = rw same refl

@@ -32,6 +32,7 @@ use Rattle.srt_route.specs.Admission.{agreement_of}
 use Rattle.srt_route.specs.inside.Standby.{leading_after}
 use Rattle.srt_route.specs.Buffers.{IsPast, IsSeated}
 use Rattle.srt_route.specs.declared.publisher_buffers.PublisherBuffers.{PublisherBuffers}
+use Rattle.srt_route.specs.Parts.{buffers_used}
 use Rattle.srt_route.specs.PublisherBuffers.{place_of, other_buffers}
 use Rattle.srt_route.specs.Tables.{IsSession, IsStored, IsSeat, IsTable, IsPublishing, AreWide, used_buffers, buffers_of}
 use Rattle.srt_route.specs.inside.OneSession.{Begins, BeginsAs}
@@ -262,6 +263,11 @@ has_begun e index clock peer stamp c at generation old which p q x y ss is there
               (sym (set_again old.publishers.items which (used_buffers (get_or old.seats.items k d)) q p old.two same)) was;
         }
 
+leading_alike : (leading : PublisherBuffers) (role : Role) (a b : PublisherBuffers)
+    → (publishes role ≡ true → a ≡ b) → leading_after leading role a ≡ leading_after leading role b
+leading_alike leading Publish a b same = ap other_buffers (same refl)
+leading_alike leading Request a b same = refl
+
 -- the session is stored in the seat whose buffers have begun
 pub session_stored : (e : Terms) (index clock : ℕ) (peer : Peer) (stamp : ℕ) (c : Conclusion) (old new : Table) (ss : List Session) (at : ℕ)
     (which : PublisherBuffers) (q : Publisher) (x w v y : Seat) (t : TheSession)
@@ -270,7 +276,7 @@ pub session_stored : (e : Terms) (index clock : ℕ) (peer : Peer) (stamp : ℕ)
     → y ≡ record { generation = (v.generation + 1) % 65536; session = Some t; subscriber = v.subscriber }
     → new.seats.items ≡ set (set old.seats.items at w) at y → SameEntry old new
     → new.publishers.items ≡ set old.publishers.items (place_of which) q → new.leading ≡ leading_after old.leading c.role which
-    → t.buffers ≡ which → HasBegun e clock old which q x w (session_opened clock peer stamp c at (generation_of ss at)) ss
+    → (publishes c.role ≡ true → buffers_used t.part ≡ which) → HasBegun e clock old which q x w (session_opened clock peer stamp c at (generation_of ss at)) ss
     → IsSession e index t (session_opened clock peer stamp c at (generation_of ss at)) → find (is_open_in at) ss ≡ None
     → find (is_of peer c.caller) ss ≡ None
     → (publishes c.role ≡ true
@@ -289,14 +295,16 @@ session_stored e index clock peer stamp c old new ss at which q x w v y t h insi
     (record {
       publishers_wide = subst (λ (ps : List Publisher). AreWide e.buffer ps) (sym turned) begun.publishers_wide;
       seated = λ p.
-          subst (λ (x : Publisher). IsSeated e clock x y.subscriber s) (sym (mine p))
-          (subst (λ (z : Subscriber). IsSeated e clock q z s) (sym same_subscriber) begun.seated);
+          elim (cases_Bool (publishes c.role)) [
+            | inl role ↦ subst (λ (x : Publisher). IsSeated e clock x y.subscriber s) (sym (mine role p)) begun_here
+            | inr no_one ↦ other_publisher e clock q (buffers_of new.publishers.items y p) y.subscriber s no_one begun_here
+          ];
       others = λ k d p u here was. subst
           (λ (ps : List Publisher).
           IsSeated e clock (buffers_of ps (get_or old.seats.items k d) p) (get_or old.seats.items k d).subscriber u)
           (sym turned) (begun.others k d p u here was);
-      leading_is = leading ∙ ap (leading_after old.leading c.role) (sym uses);
-      unused = λ role k d u one. unused role k d u one ∙ ap other_buffers (sym uses);
+      leading_is = leading ∙ leading_alike old.leading c.role which (used_buffers y) (λ role. sym (uses role));
+      unused = λ role k d u one. unused role k d u one ∙ ap other_buffers (sym (uses role));
     })
   where
     s : Session
@@ -308,16 +316,19 @@ session_stored e index clock peer stamp c old new ss at which q x w v y t h insi
     same : v ≡ w
     same = next ∙ get_or-set_same old.seats.items at w v inside
 
-    uses : used_buffers y ≡ which
-    uses = ap used_buffers y_is ∙ which_is
+    uses : publishes c.role ≡ true → used_buffers y ≡ which
+    uses role = ap used_buffers y_is ∙ which_is role
 
-    mine : (p : Publisher) → buffers_of new.publishers.items y p ≡ q
-    mine p = ap (λ (ps : List Publisher). buffers_of ps y p) turned
-        ∙ (ap (λ (b : PublisherBuffers). get_or (set old.publishers.items (place_of which) q) (place_of b) p) uses
+    mine : publishes c.role ≡ true → (p : Publisher) → buffers_of new.publishers.items y p ≡ q
+    mine role p = ap (λ (ps : List Publisher). buffers_of ps y p) turned
+        ∙ (ap (λ (b : PublisherBuffers). get_or (set old.publishers.items (place_of which) q) (place_of b) p) (uses role)
         ∙ set_here old.publishers.items which q p old.two)
 
     same_subscriber : y.subscriber ≡ w.subscriber
     same_subscriber = ap (λ (z : Seat). z.subscriber) y_is ∙ ap (λ (z : Seat). z.subscriber) same
+
+    begun_here : IsSeated e clock q y.subscriber s
+    begun_here = subst (λ (z : Subscriber). IsSeated e clock q z s) (sym same_subscriber) begun.seated
 
     count : y.generation ≡ (generation_of ss at + 1) % 65536
     count = omega (

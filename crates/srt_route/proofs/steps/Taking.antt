@@ -43,6 +43,7 @@ use Rattle.srt_route.specs.inside.Calls.{TableBecomes}
 use Rattle.srt_route.specs.inside.Files.{shutdown_end}
 use Rattle.srt_route.specs.Route.{Reply, is_for, took_if, notified_if, lost_notified, said_by, sent, answered_by, arrived, concludes}
 use Rattle.srt_route.specs.Buffers.{IsPast, IsSeated, datagrams_to}
+use Rattle.srt_route.specs.Parts.{role_of}
 use Rattle.srt_route.specs.PublisherBuffers.{place_of}
 use Rattle.srt_route.specs.Tables.{IsSeat, IsTable, IsTaken, IsPublishing, AreWide, Uses, used_buffers, buffers_of, has_publisher}
 use Rattle.srt_route.specs.Tables.{session_passes, stored_after, with_stored}
@@ -417,7 +418,7 @@ publisher_arrived e index clock peer packet old new last drains noted ss at whic
         (λ o. subst (λ (z : Publisher). Becomes (λ u. took_if drains (is_for index peer packet.dest u) e clock packet u) e index clock at z x y ss) (sym
         (mine o))
         (took_becomes drains e index clock q ss peer packet at x y t s here (ap (λ (z : Seat). z.generation) now.seat_is)
-        (ap (λ (z : Seat). z.session) now.seat_is)
+        (ap (λ (z : Seat). z.session) now.seat_is) (λ no_one. absurd (let bad : true ≡ false = sym role ∙ no_one in cc))
         (subst (λ (z : Subscriber). subscriber.IsWide e.buffer z) (sym (ap (λ (z : Seat). z.subscriber) now.seat_is)) seat.wide) (now.seated y.subscriber)))
         (λ k u other below found. none_changes drains e index clock peer packet u (here.others k u other below found))
         (λ k d o u other found h. others_stay e index clock old new.publishers.items ss at s which q is publishing uses turned k d o u
@@ -442,7 +443,7 @@ subscriber_arrived e index clock peer packet old new ss at x y replies t s is th
           old new ss at x y is alike same inside there put
           (λ p.
           let now = one p in
-          took_becomes None e index clock (buffers_of old.publishers.items x p) ss peer packet at x y t s here count now.stored now.wide
+          took_becomes None e index clock (buffers_of old.publishers.items x p) ss peer packet at x y t s here count now.stored (λ no_one. refl) now.wide
           now.seated)
           (λ k u other below found. none_changes None e index clock peer packet u (here.others k u other below found)));
       replies_are = (one (some_buffers old)).answered
@@ -467,7 +468,7 @@ pub stored_role : (e : Terms) (index : ℕ) (ss : List Session) (peer : Peer) (d
     → IsHere e index ss peer dest at seat t s → has_publisher seat ≡ b
     → publishes s.conclusion.role ≡ b
 stored_role e index ss peer dest at seat t s b here h =
-    ap publishes (sym here.session_is.role_is) ∙ (sym (ap (session_passes (λ (u : TheSession). publishes u.role)) here.stored_is) ∙ h)
+    ap publishes (sym here.session_is.role_is) ∙ (sym (ap (session_passes (λ (u : TheSession). publishes (role_of u.part))) here.stored_is) ∙ h)
 
 -- a packet that isn't a handshake isn't a conclusion
 pub no_conclusion : (kind : Kind) → ((info : Bor (List ℕ)) → kind ≡ kinds.Handshake info → ⊥) → concludes (body_of kind) ≡ None

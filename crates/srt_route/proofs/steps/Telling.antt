@@ -10,6 +10,7 @@ use Rattle.srt_route.specs.declared.seat.Session.{Session as TheSession}
 use Rattle.srt_route.specs.declared.seat.Seat.{Seat}
 use Rattle.srt_route.specs.Sessions.{Session, is_idle, is_open_in, is_over_at, is_silent_at, publishes}
 use Rattle.srt_route.specs.Route.{Reply as Answer, sent, notified_if}
+use Rattle.srt_route.specs.Parts.{role_of, until_of}
 use Rattle.srt_route.specs.Tables.{IsSeat, IsSession, IsStored, is_kept_subscriber, is_stored_over, peer_idle, session_passes}
 use Rattle.srt_route.specs.inside.OneSession.{shutdowns_if}
 use Rattle.srt_route.specs.inside.Reports.{AreSaid}
@@ -67,8 +68,8 @@ pub kept_unnotified : (clock : ℕ) (callers : Callers) (o : Option TheSession) 
 kept_unnotified clock callers None kept = absurd (let bad : false ≡ true = kept in cc)
 kept_unnotified clock callers (Some t) kept =
     ap (λ (b : Bool). shutdowns_if callers b clock (Some t))
-    (not_idle t.drains t.heard clock
-    (not_true (is_stored_over clock t) (and_parts (not (is_stored_over clock t)) (not (publishes t.role)) kept).0))
+    (not_idle (until_of t.part) t.heard clock
+    (not_true (is_stored_over clock t) (and_parts (not (is_stored_over clock t)) (not (publishes (role_of t.part))) kept).0))
     ∙ by callers
   where
     by : (c : Callers) → shutdowns_if c false clock (Some t) ≡ []

@@ -20,6 +20,7 @@ use Rattle.srt_route.specs.Past.{Past, Publishes, Subscribes}
 use Rattle.srt_route.specs.Sessions.{Session, has_slot, is_active, is_open_in, publishes, terms_of, answer_of}
 use Rattle.srt_route.specs.Buffers.{IsPast, IsSeated}
 use Rattle.srt_route.specs.declared.publisher_buffers.PublisherBuffers.{PublisherBuffers}
+use Rattle.srt_route.specs.Parts.{buffers_used, role_of}
 use Rattle.srt_route.specs.PublisherBuffers.{place_of, is_same, other_buffers}
 use Rattle.srt_route.specs.Tables.{IsSeat, IsSession, IsStored, IsTable, IsPublishing, buffers_of, buffers_by, publishes_from, used_buffers}
 use Rattle.srt_route.specs.inside.Notes.{IsSeen, Sees, SeesSeat}
@@ -58,10 +59,10 @@ notified_subscriber e clock p x s v (Publishes m) h role look = absurd (let bad 
 active_by : (e : Terms) (index clock : ℕ) (table : Table) (ss : List Session) (at : ℕ) (d : Seat) (s : Session) (t : TheSession)
     (which : PublisherBuffers)
     → IsTable e index clock table ss → IsPublishing ss at s → (get_or table.seats.items at d).session ≡ Some t → HasActive ss table which
-    → is_same t.buffers which ≡ is_active ss s
-active_by e index clock table ss at d s t which is there stored h = by (is_same t.buffers which) refl
+    → is_same (buffers_used t.part) which ≡ is_active ss s
+active_by e index clock table ss at d s t which is there stored h = by (is_same (buffers_used t.part) which) refl
   where
-    uses : used_buffers (get_or table.seats.items at d) ≡ t.buffers
+    uses : used_buffers (get_or table.seats.items at d) ≡ (buffers_used t.part)
     uses = ap buffers_by stored
 
     here : s.slot ≡ at
@@ -70,17 +71,17 @@ active_by e index clock table ss at d s t which is there stored h = by (is_same 
     other : h.session.slot ≡ h.at
     other = (open_parts h.at h.session (found_passes (is_open_in h.at) ss h.session h.here.found)).1
 
-    by : (b : Bool) → is_same t.buffers which ≡ b → b ≡ is_active ss s
+    by : (b : Bool) → is_same (buffers_used t.part) which ≡ b → b ≡ is_active ss s
     by true y =
         let publishing : IsPublishing ss h.at h.session = record { found = h.here.found; publishes = h.here.publishes } in
-        let place : at ≡ h.at = is.publishers_are.apart at h.at d s h.session there publishing (uses ∙ is_same_from t.buffers which y ∙ h.uses d) in
+        let place : at ≡ h.at = is.publishers_are.apart at h.at d s h.session there publishing (uses ∙ is_same_from (buffers_used t.part) which y ∙ h.uses d) in
         let slots : h.session.slot ≡ s.slot = omega (arith, place, here, other) in
         sym (ap (λ (o : Option Session). has_slot o s.slot) h.active_is ∙ eq-eqb h.session.slot s.slot slots)
     by false n =
         sym (ap (λ (o : Option Session). has_slot o s.slot) h.active_is ∙ ne_eqb h.session.slot s.slot (λ slots.
         let place : h.at ≡ at = omega (arith, slots, here, other) in
-        let both : which ≡ t.buffers = h.uses d ∙ ap (λ (k : ℕ). used_buffers (get_or table.seats.items k d)) place ∙ uses in
-        let bad : false ≡ true = sym n ∙ same_is t.buffers which (sym both) in cc))
+        let both : which ≡ (buffers_used t.part) = h.uses d ∙ ap (λ (k : ℕ). used_buffers (get_or table.seats.items k d)) place ∙ uses in
+        let bad : false ≡ true = sym n ∙ same_is (buffers_used t.part) which (sym both) in cc))
 
 first_false : (a b : Bool) → a ≡ false → false ≡ (a && b)
 first_false a b e = rw e refl
@@ -92,7 +93,7 @@ both_flags false b c e = refl
 pub active_is : (e : Terms) (index clock : ℕ) (table : Table) (ss : List Session) (at : ℕ) (d : Seat) (s : Session) (t : TheSession)
     (o : Option PublisherBuffers)
     → IsTable e index clock table ss → find (is_open_in at) ss ≡ Some s → (get_or table.seats.items at d).session ≡ Some t
-    → t.role ≡ s.conclusion.role → (o ≡ None → HasNone table) → ((which : PublisherBuffers) → o ≡ Some which → IsActiveOf table which)
+    → (role_of t.part) ≡ s.conclusion.role → (o ≡ None → HasNone table) → ((which : PublisherBuffers) → o ≡ Some which → IsActiveOf table which)
     → is_active_by o t ≡ (publishes s.conclusion.role && is_active ss s)
 active_is e index clock table ss at d s t o is found stored role none some = by o none some
   where
@@ -106,8 +107,8 @@ active_is e index clock table ss at d s t o is found stored role none some = by 
         let silent : publishes s.conclusion.role ≡ false = rw opens at not_it in
         first_false (publishes s.conclusion.role) (is_active ss s) silent
     by (Some which) none some =
-        ap (λ (r : Role). publishes r && is_same t.buffers which) role
-        ∙ both_flags (publishes s.conclusion.role) (is_same t.buffers which) (is_active ss s) (λ it_does.
+        ap (λ (r : Role). publishes r && is_same (buffers_used t.part) which) role
+        ∙ both_flags (publishes s.conclusion.role) (is_same (buffers_used t.part) which) (is_active ss s) (λ it_does.
         active_by e index clock table ss at d s t which is (record { found = found; publishes = rw (opens, it_does) refl }) stored
         (some which refl e index clock ss is))
 
@@ -153,7 +154,7 @@ active_some table which h e index clock ss is =
 -- whether the session of a slot is the active publisher's
 pub active_stored : (e : Terms) (index clock : ℕ) (table : Table) (ss : List Session) (at : ℕ) (d : Seat) (s : Session) (t : TheSession)
     → IsTable e index clock table ss → find (is_open_in at) ss ≡ Some s → (get_or table.seats.items at d).session ≡ Some t
-    → t.role ≡ s.conclusion.role
+    → (role_of t.part) ≡ s.conclusion.role
     → is_active_by (active_in table) t ≡ (publishes s.conclusion.role && is_active ss s)
 active_stored e index clock table ss at d s t is found stored role =
     active_is e index clock table ss at d s t (active_in table) is found stored role (active_none table) (active_some table)
@@ -162,7 +163,7 @@ active_stored e index clock table ss at d s t is found stored role =
 pub one_seen : (active : Option PublisherBuffers) (publishers : List Publisher) (seats : List Seat) (slot : ℕ) (x d : Seat) (p : Publisher)
     (t : TheSession) (v : SessionView)
     → length publishers ≡ 2 → slot < length seats → x ≡ get_or seats slot x → x.session ≡ Some t
-    → p ≡ get_or publishers (place_of t.buffers) p → IsSeen active p x.subscriber t t.heard v
+    → p ≡ get_or publishers (place_of (buffers_used t.part)) p → IsSeen active p x.subscriber t t.heard v
     → SeesSeat active publishers (get_or seats slot d) (Some v)
 one_seen active publishers seats slot x d p t v two below there stored buffers seen =
     subst (λ (z : Seat). SeesSeat active publishers z (Some v)) (there ∙ get_or_default seats slot x d below)
@@ -171,7 +172,7 @@ one_seen active publishers seats slot x d p t v two below there stored buffers s
   where
     same : (q : Publisher) → p ≡ buffers_of publishers x q
     same q =
-        buffers ∙ get_or_default publishers (place_of t.buffers) p q (omega (arith, two, below_two t.buffers))
+        buffers ∙ get_or_default publishers (place_of (buffers_used t.part)) p q (omega (arith, two, below_two (buffers_used t.part)))
         ∙ ap (λ (b : PublisherBuffers). get_or publishers (place_of b) q) (sym (ap buffers_by stored))
 
 pub none_seen : (active : Option PublisherBuffers) (publishers : List Publisher) (seats : List Seat) (slot : ℕ) (x d : Seat)
@@ -196,7 +197,7 @@ seen_is e index clock ss active p x t s q heard later v is flag seated same seen
       draining_is = seen.draining_is ∙ ap (λ (d : Option ℕ). is_some d) is.drains_is;
       opened_is = seen.opened_is ∙ is.opened_is;
       heard_is = seen.heard_is ∙ same;
-      latency_is = seen.latency_is ∙ ap (latency_in t.role) is.answer_is ∙ ap (λ (r : Role). latency_in r (answer_of e index s)) is.role_is
+      latency_is = seen.latency_is ∙ ap (latency_in (role_of t.part)) is.answer_is ∙ ap (λ (r : Role). latency_in r (answer_of e index s)) is.role_is
           ∙ latency_is e index s s.conclusion.role;
       traffic_is = seen.traffic_is e clock (record s { past = q }) is.role_is seated;
     }

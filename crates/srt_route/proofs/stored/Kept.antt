@@ -13,6 +13,7 @@ use Rattle.srt_route.specs.declared.table.Table.{Table}
 use Rattle.srt_route.specs.Sessions.{Session, is_open_in, is_publisher, publishes}
 use Rattle.srt_route.specs.Buffers.{IsSeated}
 use Rattle.srt_route.specs.declared.publisher_buffers.PublisherBuffers.{PublisherBuffers}
+use Rattle.srt_route.specs.Parts.{buffers_used}
 use Rattle.srt_route.specs.PublisherBuffers.{place_of}
 use Rattle.srt_route.specs.Past.{Past}
 use Rattle.srt_route.specs.Tables.{IsSession, IsStored, IsSeat, AreSeats, AreAlone, IsTable, IsPublishing, ArePublishers, AreWide, UseSameBuffers}
@@ -54,7 +55,7 @@ some_buffers table = by table.publishers.items (omega (arith, table.two))
 abbrev pub KeepsBuffers : (old new : Option TheSession) → Type 0
 KeepsBuffers o None = ⊤
 KeepsBuffers None (Some t) = ⊥
-KeepsBuffers (Some u) (Some t) = t.buffers ≡ u.buffers
+KeepsBuffers (Some u) (Some t) = (buffers_used t.part) ≡ (buffers_used u.part)
 
 pub same_buffers : (o n : Option TheSession) → n ≡ o → KeepsBuffers o n
 same_buffers o n same = subst (λ (x : Option TheSession). KeepsBuffers o x) (sym same) (by o)

@@ -16,6 +16,7 @@ use Rattle.srt_route.specs.Sessions.{Session, is_open_in, publishes, open_publis
 use Rattle.srt_route.specs.Buffers.{IsSeated}
 use Rattle.srt_route.specs.declared.publisher_buffers.PublisherBuffers.{PublisherBuffers}
 use Rattle.srt_route.specs.declared.publisher_buffers.PublisherBuffers.TheVariants.{First, Second}
+use Rattle.srt_route.specs.Parts.{buffers_used, role_of}
 use Rattle.srt_route.specs.PublisherBuffers.{place_of, is_same, other_buffers}
 use Rattle.srt_route.specs.Tables.{IsStored, IsTable, IsPublishing, AreWide, Uses}
 use Rattle.srt_route.specs.Tables.{session_passes, buffers_by, used_buffers, buffers_of, publishes_from}
@@ -71,14 +72,14 @@ publishing_from e index clock table ss b at d is below h =
     by (get_or table.seats.items at d).session (find (is_open_in at) ss) refl (is.seats_are at d (some_buffers table) below).session_is h
   where
     by : (o : Option TheSession) (f : Option Session) → find (is_open_in at) ss ≡ f → IsStored e index o f
-        → session_passes (λ t. publishes t.role && is_same t.buffers b) o ≡ true
+        → session_passes (λ t. publishes (role_of t.part) && is_same (buffers_used t.part) b) o ≡ true
         → (s : Session) × IsPublishing ss at s × (buffers_by o ≡ b)
     by None f found stored k = absurd (let bad : false ≡ true = k in cc)
     by (Some t) None found stored k = absurd stored
     by (Some t) (Some s) found stored k =
-        let parts = and_parts (publishes t.role) (is_same t.buffers b) k in
+        let parts = and_parts (publishes (role_of t.part)) (is_same (buffers_used t.part) b) k in
         let opens : s.is_open ≡ true = (open_parts at s (found_passes (is_open_in at) ss s found)).0 in
-        (s, record { found = found; publishes = rw (opens, ← stored.role_is) parts.0 }, is_same_from t.buffers b parts.1)
+        (s, record { found = found; publishes = rw (opens, ← stored.role_is) parts.0 }, is_same_from (buffers_used t.part) b parts.1)
 
 -- the seat of a publisher's session
 pub seat_publishes : (e : Terms) (index clock : ℕ) (table : Table) (ss : List Session) (b : PublisherBuffers) (at : ℕ) (d : Seat) (s : Session)
@@ -91,11 +92,11 @@ seat_publishes e index clock table ss b at d s is here uses =
     uses
   where
     by : (o : Option TheSession) → IsStored e index o (Some s) → buffers_by o ≡ b
-        → session_passes (λ t. publishes t.role && is_same t.buffers b) o ≡ true
+        → session_passes (λ t. publishes (role_of t.part) && is_same (buffers_used t.part) b) o ≡ true
     by None stored k = absurd stored
     by (Some t) stored k =
-        let role : publishes t.role ≡ true = ap publishes stored.role_is ∙ (and_parts s.is_open (publishes s.conclusion.role) here.publishes).1 in
-        rw (role) (same_is t.buffers b k)
+        let role : publishes (role_of t.part) ≡ true = ap publishes stored.role_is ∙ (and_parts s.is_open (publishes s.conclusion.role) here.publishes).1 in
+        rw (role) (same_is (buffers_used t.part) b k)
 
 pub some_seat : (e : Terms) (index clock : ℕ) (table : Table) (ss : List Session) (b : PublisherBuffers) (at : ℕ) (d : Seat) (s : Session)
     → IsTable e index clock table ss → IsPublishing ss at s → used_buffers (get_or table.seats.items at d) ≡ b

@@ -25,6 +25,7 @@ use Rattle.srt_route.specs.Sessions.{is_from, sessions_from}
 use Rattle.srt_route.specs.Sessions.{drains_open, ends_unless, is_draining, is_over, number_draining, session_id, terms_of, took}
 use Rattle.srt_route.specs.Route.{is_of, is_for, heard_if, took_if}
 use Rattle.srt_route.specs.Buffers.{IsPast, IsSeated}
+use Rattle.srt_route.specs.Parts.{role_of, until_of}
 use Rattle.srt_route.specs.Tables.{IsSession, IsStored, IsSeat, IsTable, AreAlone, holds, has_address, has_draining, has_expired, has_publisher}
 use Rattle.srt_route.specs.Tables.{is_vacant, buffers_of}
 use Rattle.srt_route.specs.Tables.{session_passes, is_session_of, heard_at, is_stored_for, is_stored_over, stored_after, with_stored}
@@ -33,6 +34,7 @@ use Rattle.srt_route.proofs.model.Found.{found_passes, any_is, found_in_place, f
 use Rattle.srt_route.proofs.model.Found.{of_parts, Keeps, changed, while_open}
 use Rattle.srt_route.proofs.model.TakeOver.{AreApart, AreInside, KeepsMarks, one_if, counted, count_at, count_next, counted_slots}
 use Rattle.srt_route.proofs.stored.Kept.{Becomes, KeepsBuffers, some_buffers, seat_at}
+use Rattle.srt_route.proofs.stored.Parts.{after_buffers, after_records, after_role, after_until}
 
 -- a list in which something is found, or that is long enough, has an element
 pub some_found : {A : Type 0} (p : A → Bool) (xs : List A) (i : ℕ) → position p xs ≡ Some i → A
@@ -77,7 +79,7 @@ of_alike : (e : Terms) (index : ℕ) (peer : Peer) (caller : ℕ) (t : TheSessio
     → IsSession e index t s → s.is_open ≡ true → is_of peer caller s ≡ is_session_of peer caller t
 of_alike e index peer caller t s is o = rw (o, is.peer_is, is.caller_is, is.drains_is) refl
 
-pub publisher_alike : (e : Terms) (index : ℕ) (t : TheSession) (s : Session) → IsSession e index t s → s.is_open ≡ true → is_publisher s ≡ publishes t.role
+pub publisher_alike : (e : Terms) (index : ℕ) (t : TheSession) (s : Session) → IsSession e index t s → s.is_open ≡ true → is_publisher s ≡ publishes (role_of t.part)
 publisher_alike e index t s is o = rw (o, is.role_is) refl
 
 pub seat_passes : (e : Terms) (index clock : ℕ) (table : Table) (ss : List Session) → IsTable e index clock table ss
@@ -194,7 +196,7 @@ among e index clock table ss stored test alike opens are =
 pub publishers_among : (e : Terms) (index clock : ℕ) (table : Table) (ss : List Session)
     → IsTable e index clock table ss → count_by has_publisher table.seats.items ≡ open_publishers ss
 publishers_among e index clock table ss are =
-    among e index clock table ss (λ t. publishes t.role) is_publisher (publisher_alike e index)
+    among e index clock table ss (λ t. publishes (role_of t.part)) is_publisher (publisher_alike e index)
     (λ s h. (and_parts s.is_open (publishes s.conclusion.role) h).0) are
 
 pub address_among : (e : Terms) (index clock : ℕ) (table : Table) (ss : List Session) (ip : List ℕ)
@@ -207,7 +209,7 @@ address_among e index clock table ss ip are =
 pub draining_among : (e : Terms) (index clock : ℕ) (table : Table) (ss : List Session)
     → IsTable e index clock table ss → count_by has_draining table.seats.items ≡ number_draining ss
 draining_among e index clock table ss are =
-    among e index clock table ss (λ t. is_some t.drains) drains_open (λ t s is o. rw (o, is.drains_is) refl)
+    among e index clock table ss (λ t. is_some (until_of t.part)) drains_open (λ t s is o. rw (o, is.drains_is) refl)
     (λ s h. (and_parts s.is_open (is_draining s) h).0) are
 
 -- the expired sessions
@@ -592,9 +594,10 @@ pub took_becomes : (drains : Option ℕ) (e : Terms) (index clock : ℕ) (q : Pu
     (t : TheSession) (s : Session)
     → IsHere e index ss peer packet.dest at x t s → y.generation ≡ x.generation
     → y.session ≡ stored_after (ends_unless drains (ends_with (terms_of e s) s.conclusion.initial packet.body s.past)) drains clock x.session
+    → (publishes s.conclusion.role ≡ false → drains ≡ None)
     → subscriber.IsWide e.buffer y.subscriber → IsSeated e clock q y.subscriber (took drains e clock packet.stamp packet.body s)
     → Becomes (λ u. took_if drains (is_for index peer packet.dest u) e clock packet u) e index clock at q x y ss
-took_becomes drains e index clock q ss peer packet at x y t s here count stored wide seated =
+took_becomes drains e index clock q ss peer packet at x y t s here count stored never wide seated =
     record {
       count_is = count;
       session_is =
@@ -619,7 +622,10 @@ took_becomes drains e index clock q ss peer packet at x y t s here count stored 
     after_keeps : (b : Bool) (o : Option TheSession) → KeepsBuffers o (stored_after b drains clock o)
     after_keeps b None = tt
     after_keeps true (Some u) = tt
-    after_keeps false (Some u) = refl
+    after_keeps false (Some u) = after_buffers drains u.part
+
+    stays : is_some (until_of t.part) ≡ false
+    stays = ap is_some here.session_is.drains_is ∙ (for_parts index peer packet.dest s here.for_it).3
 
     ended : (b : Bool) → ends_unless drains (ends_with (terms_of e s) s.conclusion.initial packet.body s.past) ≡ b
         → IsStored e index (stored_after b drains clock (Some t)) (while_open (took drains e clock packet.stamp packet.body s))
@@ -629,11 +635,11 @@ took_becomes drains e index clock q ss peer packet at x y t s here count stored 
           peer_is = here.session_is.peer_is;
           caller_is = here.session_is.caller_is;
           id_is = here.session_is.id_is;
-          role_is = here.session_is.role_is;
+          role_is = after_role drains t.part ∙ here.session_is.role_is;
           opened_is = here.session_is.opened_is;
           heard_is = refl;
-          drains_is = refl;
-          file_is = here.session_is.file_is;
+          drains_is = after_until drains t.part stays (λ no_one. never (ap publishes (sym here.session_is.role_is) ∙ no_one));
+          file_is = after_records drains t.part s.file_ended here.session_is.file_is;
           answer_is = here.session_is.answer_is;
         })
 

@@ -12,6 +12,7 @@ use Rattle.srt_route.specs.declared.seat.Session.{Session as TheSession}
 use Rattle.srt_route.specs.declared.table.Table.{Table}
 use Rattle.srt_route.specs.declared.view.SessionView.{SessionView}
 use Rattle.srt_route.specs.Ledgers.{CountsStay, entry_of, heard_at_end}
+use Rattle.srt_route.specs.Parts.{role_of, until_of}
 use Rattle.srt_route.specs.Tables.{buffers_of}
 use Rattle.srt_route.specs.Totals.{sums_to, with_end}
 use Rattle.srt_route.specs.Viewing.{TellsTraffic, latency_in}
@@ -23,13 +24,13 @@ pub record IsSeen (active : Option PublisherBuffers) (p : Publisher) (x : Subscr
   pub peer_is : v.peer ≡ t.peer
   pub caller_is : v.caller ≡ t.caller
   pub id_is : v.id ≡ t.id
-  pub role_is : v.role ≡ t.role
+  pub role_is : v.role ≡ role_of t.part
   pub active_is : v.is_active ≡ is_active_by active t
-  pub draining_is : v.is_draining ≡ is_some t.drains
+  pub draining_is : v.is_draining ≡ is_some (until_of t.part)
   pub opened_is : v.opened ≡ t.opened
   pub heard_is : v.heard ≡ heard
-  pub latency_is : v.latency_ms ≡ latency_in t.role t.answer
-  pub traffic_is : TellsTraffic t.role p x v.traffic
+  pub latency_is : v.latency_ms ≡ latency_in (role_of t.part) t.answer
+  pub traffic_is : TellsTraffic (role_of t.part) p x v.traffic
 
 -- the same of a seat's session, or None if none is open there
 abbrev pub Sees : (active : Option PublisherBuffers) → List Publisher → Seat → Option TheSession → Option SessionView → Type 0

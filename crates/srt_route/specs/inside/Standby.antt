@@ -12,6 +12,7 @@ use Rattle.srt_route.specs.declared.seat.Session.{Session as TheSession}
 use Rattle.srt_route.specs.declared.table.Table.{Table}
 use Rattle.srt_route.specs.Past.{Past, Publishes, Subscribes, Agreed}
 use Rattle.srt_route.specs.Sessions.{Session, active, has_failed, is_open_in, is_publisher, publishes, standby, takes_over, terms_of, time_in}
+use Rattle.srt_route.specs.Parts.{buffers_used, role_of}
 use Rattle.srt_route.specs.PublisherBuffers.{is_same, other_buffers}
 use Rattle.srt_route.specs.Tables.{IsTable, Uses, publishes_from}
 use Rattle.srt_route.specs.inside.Delivery.{IsPublisherAt, IsPublisherOf, changed}
@@ -28,7 +29,7 @@ leading_after leading Request opened = leading
 -- whether a stored session is the active publisher's, given the buffers that the active one uses
 abbrev pub is_active_by : Option PublisherBuffers → TheSession → Bool
 is_active_by None t = false
-is_active_by (Some which) t = publishes t.role && is_same t.buffers which
+is_active_by (Some which) t = publishes (role_of t.part) && is_same (buffers_used t.part) which
 
 -- the buffers of the active publisher: the leading ones if a publisher is open that uses them, otherwise the other ones
 abbrev pub active_in : Table → Option PublisherBuffers

@@ -1,4 +1,4 @@
-use Rattle.std.proofs.Common.{◌≡◌, ℕ, true, ◌∷◌, [], ◌%◌, ◌∙◌, get_or, set, refl, ap, subst}
+use Rattle.std.proofs.Common.{◌≡◌, ℕ, true, false, ◌∷◌, [], ◌%◌, ◌∙◌, get_or, set, refl, sym, ap, subst}
 use Rattle.srt_pub.specs.Stands.{width_of}
 use Rattle.srt_route.specs.inside.Standby.{unused_buffers}
 use Rattle.srt_types.specs.Items.{Datagram}
@@ -7,6 +7,9 @@ use Rattle.srt_route.specs.Sessions.{Session, publishes, agreed, answer_of, gene
 use Rattle.srt_route.specs.Route.{Answers, sent, session_opened}
 use Rattle.srt_route.proofs.stored.Kept.{some_buffers, seat_at}
 use Rattle.srt_route.proofs.stored.Publishers.{unused}
+use Rattle.srt_route.specs.Parts.{RecordsEnd, buffers_used, role_of, until_of}
+use Rattle.srt_route.specs.declared.part.Part.{Part}
+use Rattle.srt_route.proofs.stored.Parts.{opened_buffers, opened_records, opened_role, opened_until}
 use Rattle.srt_route.proofs.steps.Starting.{buffer_fits, has_begun, session_stored}
 use Rattle.srt_route.proofs.admission.open_session.Goals as goal
 
@@ -37,16 +40,17 @@ returns c e index ss h agrees first free few =
       table_is = session_stored e index clock peer c.args.arrival.stamp c.args.c old _ ss at which c.start_buffers.new.publisher x
           c.start_buffers.new.seat c.index_mut-3.result.now c.fill.new.self _ h c.requires.inside c.index_mut.ensures.value
           c.index_mut-3.ensures.value c.fill.ensures refl (refl, refl, refl, refl, refl)
-          (ap (λ (n : ℕ). set old.publishers.items n c.start_buffers.new.publisher) place) c.leading_after-table.ensures refl begun
+          (ap (λ (n : ℕ). set old.publishers.items n c.start_buffers.new.publisher) place) c.leading_after-table.ensures
+          (λ publishing. ap buffers_used c.opened.ensures ∙ opened_buffers c.args.c.role which publishing) begun
           (record {
             peer_is = refl;
             caller_is = refl;
             id_is = id;
-            role_is = refl;
+            role_is = ap role_of c.opened.ensures ∙ opened_role c.args.c.role which;
             opened_is = refl;
             heard_is = refl;
-            drains_is = refl;
-            file_is = refl;
+            drains_is = ap until_of c.opened.ensures ∙ opened_until c.args.c.role which;
+            file_is = subst (λ (p : Part). RecordsEnd p false) (sym c.opened.ensures) (opened_records c.args.c.role which);
             answer_is = answer;
           })
           free first free_buffers;

@@ -4,12 +4,12 @@ use Rattle.srt_route.specs.declared.seat.Seat.{Seat}
 use Rattle.srt_route.proofs.steps.Draining.{draining_ends}
 use Rattle.srt_route.proofs.draining.is_drained.Goals as goal
 
-pub returns-in-Some-drains : goal.returns-in-Some-drains
-returns-in-Some-drains c d =
+pub returns-else-not-drains : goal.returns-else-not-drains
+returns-else-not-drains c d =
     let table = c.args.table.now in
     let x = c.index.result.now in
     let t = c.in-Some.session in
     let stored : (get_or table.seats.items c.args.at d).session ≡ Some t =
     ap (λ (z : Seat). z.session) (sym (c.index.ensures ∙ get_or_default table.seats.items c.args.at x d c.requires)) ∙ c.in-Some.is in
-    draining_ends table.publishers.items (get_or table.seats.items c.args.at d) t c.in-Some-drains.field-0 c.has_left.result stored
-    c.in-Some-drains.is (c.has_left.ensures d)
+    draining_ends table.publishers.items (get_or table.seats.items c.args.at d) t c.has_left.result stored
+    (sym c.drains.ensures ∙ c.if-not-drains.false) (c.has_left.ensures d)

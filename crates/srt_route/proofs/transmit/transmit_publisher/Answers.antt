@@ -1,5 +1,7 @@
 use Rattle.std.proofs.Common.{ℕ, List, ◌∙◌, set, refl, sym, ap, subst}
 use Rattle.srt_route.specs.Sessions.{Session, terms_of, time_in}
+use Rattle.srt_route.specs.Parts.{buffers_used}
+use Rattle.srt_route.specs.PublisherBuffers.{place_of}
 use Rattle.srt_route.specs.Tables.{IsTable}
 use Rattle.srt_route.specs.Waits.{replies_of}
 use Rattle.srt_route.proofs.stored.Kept.{table_same}
@@ -39,13 +41,14 @@ returns-clause-table c e index ss body =
     let clock = c.args.clock in
     let it = reporting_at e index clock table ss c.args.at _ c.index.result.now c.index-2.result.now c.in-Some.session
     c.index_mut.result.now body c.requires.inside c.index.ensures c.index-2.ensures (sym c.speaks.ensures ∙ c.if-not-speaks.false)
-    c.in-Some.is c.place.ensures.value c.index_mut.ensures.value in
+    c.in-Some.is (c.place.ensures.value ∙ ap place_of c.buffers.ensures) c.index_mut.ensures.value in
     let s = it.session in
-    publisher_gone e index clock table _ ss c.args.at s it.past c.in-Some.session.buffers c.transmit_reports.new.publisher it.its it.speaking
+    publisher_gone e index clock table _ ss c.args.at s it.past (buffers_used c.in-Some.session.part) c.transmit_reports.new.publisher it.its it.speaking
     (record {
       alike = (refl, refl, refl, refl, refl, refl);
       seats_are = refl;
-      publishers_are = ap (λ (n : ℕ). set table.publishers.items n c.transmit_reports.new.publisher) c.place.ensures.value;
+      publishers_are = ap (λ (n : ℕ). set table.publishers.items n c.transmit_reports.new.publisher)
+          (c.place.ensures.value ∙ ap place_of c.buffers.ensures);
     })
     (c.transmit_reports.ensures.stands (terms_of e s).publisher s.conclusion.initial s.opening s.stamp s.conclusion.caller (time_in s clock)
     it.past it.buffers.moment it.buffers.stands)
@@ -56,7 +59,7 @@ returns-clause-said c e index ss body =
     let clock = c.args.clock in
     let it = reporting_at e index clock table ss c.args.at _ c.index.result.now c.index-2.result.now c.in-Some.session
     c.index_mut.result.now body c.requires.inside c.index.ensures c.index-2.ensures (sym c.speaks.ensures ∙ c.if-not-speaks.false)
-    c.in-Some.is c.place.ensures.value c.index_mut.ensures.value in
+    c.in-Some.is (c.place.ensures.value ∙ ap place_of c.buffers.ensures) c.index_mut.ensures.value in
     let s = it.session in
     publisher_queued e clock ss c.args.at s it.past c.in-Some.session.peer (replies_of c.args.waiting.now)
     (replies_of c.transmit_reports.new.waiting) _ _ it.its.here it.speaking it.peer_is
