@@ -2,6 +2,7 @@
 
 ghost use Rattle.std.specs.Prelude.{◌≡◌, ◌<◌, ◌≤◌, ◌+◌, ◌-◌, ◌*◌, ◌/◌, ◌%◌, ◌++◌, ◌∷◌, [], ℕ, List, length, take, bit_xor};
 ghost use lib.Lanes.{zip2};
+ghost use Rattle.srt_aes.specs.Aes.{IsKeyLength};
 ghost use Rattle.srt_aes.specs.Counter.{nonce, counter_mode};
 ghost use Rattle.srt_aes.specs.Keys.{key_of};
 ghost use Rattle.srt_aes.specs.inside.Planes.{joined, sums, counter_planes, block_in, HoldsKey, numbered_stream};
@@ -98,7 +99,8 @@ fn write_blocks(stream: &mut [u8; 2048], at: usize, turn: usize, planes: &[u64; 
 
 /// Appends eight blocks to a key stream that has `8 * batch` blocks; `base` holds the block with the counter 0.
 fn write_batch(stream: &mut [u8; 2048], keys: &RoundKeys, base: &[u64; 8], batch: usize)
-    requires { batch < 16 }
+    requires batches { batch < 16 }
+    requires whole { IsKeyLength (length (key_of keys.now)) }
     ensures { (block : List ℕ) → HoldsKey base.now 0 block →
         take (128 * batch) stream.old ≡ numbered_stream (key_of keys.now) block (8 * batch) →
         take (128 * (batch + 1)) stream.new ≡ numbered_stream (key_of keys.now) block (8 * (batch + 1)) }
@@ -114,7 +116,8 @@ fn write_batch(stream: &mut [u8; 2048], keys: &RoundKeys, base: &[u64; 8], batch
 
 /// A key stream of `8 * batches` blocks; `block` is the one with the counter 0.
 fn key_stream(keys: &RoundKeys, block: &[u8; 16], batches: usize) -> [u8; 2048]
-    requires { batches ≤ 16 }
+    requires batches { batches ≤ 16 }
+    requires whole { IsKeyLength (length (key_of keys.now)) }
     ensures { take (128 * batches) result ≡ numbered_stream (key_of keys.now) block.now (8 * batches) }
 {
     let base = spread(0, block);
@@ -139,7 +142,8 @@ impl RoundKeys {
     /// Encrypts the payload of the packet with a sequence number, or decrypts it, in place. Its time doesn't depend on the key,
     /// the salt or the bytes.
     pub fn apply(&self, salt: &[u8; 16], number: u32, payload: &mut [u8])
-        requires { length payload.old < 2032 }
+        requires whole { IsKeyLength (length (key_of self.now)) }
+        requires short { length payload.old < 2032 }
         ensures { payload.new ≡ counter_mode (key_of self.now) salt.now number payload.old }
     {
         let block = first_block(salt, number);

@@ -1,6 +1,6 @@
 //! Round keys, and what they make of blocks.
 
-ghost use Rattle.std.specs.Prelude.{◌≡◌, ◌<◌, ◌≤◌, ◌+◌, ◌*◌, ◌/◌, ℕ, List, take, length, replicate};
+ghost use Rattle.std.specs.Prelude.{◌≡◌, ◌<◌, ◌≤◌, ◌+◌, ◌*◌, ◌/◌, ℕ, List, take, length};
 ghost use Rattle.srt_aes.specs.Aes.{schedule_of, IsKeyLength, aes, inv_aes};
 ghost use Rattle.srt_aes.specs.inside.Planes.{HoldKeys};
 
@@ -9,20 +9,31 @@ use crate::planes::{doubled, first, gather, spread};
 use crate::rounds::close;
 use crate::schedule::{expand, plane_keys};
 
-/// The key schedule of a key of 16, 24 or 32 bytes.
+/// The key schedule of a key of 16, 24 or 32 bytes, or room for one. Its size is fixed.
 #[derive(Drop)]
 pub struct RoundKeys {
     pub(crate) words: [u8; 240],
     pub(crate) size: usize,
     pub(crate) planes: [[u64; 8]; 15],
-    ghost whole: { IsKeyLength size },
+    ghost few: { size ≤ 32 },
     ghost sized: { length (take size words) ≡ size },
-    ghost scheduled: { take (4 * size + 112) words ≡ schedule_of (take size words) },
-    ghost held: { HoldKeys planes (schedule_of (take size words)) (size / 4 + 6) },
+    ghost scheduled: { IsKeyLength (length (take size words)) → take (4 * size + 112) words ≡ schedule_of (take size words) },
+    ghost held: { IsKeyLength (length (take size words)) → HoldKeys planes (schedule_of (take size words)) (size / 4 + 6) },
 }
 
 impl RoundKeys {
-    ghost use Rattle.srt_aes.specs.Keys.{key_of};
+    ghost use Rattle.srt_aes.specs.Keys.{key_of, IsErased};
+
+    /// Returns room for a key: no key, and zeros.
+    pub fn none() -> RoundKeys
+        ensures { IsErased result }
+    {
+        RoundKeys {
+            words: [0; 240],
+            size: 0,
+            planes: [[0; 8]; 15],
+        }
+    }
 
     /// Makes the schedule of a key. Takes the same time for all keys of one length.
     pub fn new(key: &[u8]) -> RoundKeys
@@ -39,12 +50,13 @@ impl RoundKeys {
         }
     }
 
-    /// Overwrites the key with zeros, and the schedule with that of the zeros.
+    /// Overwrites the key and all words of its schedule with zeros. There is no key then.
     pub fn forget(&mut self)
-        ensures { key_of self.new ≡ replicate (length (key_of self.old)) 0 }
+        ensures { IsErased self.new }
     {
-        let zeros = [0u8; 32];
-        *self = RoundKeys::new(&zeros[..self.size]);
+        self.size = 0;
+        self.words = [0; 240];
+        self.planes = [[0; 8]; 15];
     }
 
     /// Nr, the number of rounds.
@@ -59,6 +71,7 @@ impl RoundKeys {
     /// The block that the key makes of a block (Cipher() of FIPS 197). Its time doesn't depend on the key or
     /// on the block.
     pub fn encrypt(&self, block: &[u8; 16]) -> [u8; 16]
+        requires { IsKeyLength (length (key_of self.now)) }
         ensures { result ≡ aes (key_of self.now) block.now }
     {
         let last = self.size / 4 + 6;
@@ -70,6 +83,7 @@ impl RoundKeys {
     /// The block of which the key makes a block (InvCipher() of FIPS 197). It reads a table, so its time may
     /// depend on the key and on the block.
     pub fn decrypt(&self, block: &[u8; 16]) -> [u8; 16]
+        requires { IsKeyLength (length (key_of self.now)) }
         ensures { result ≡ inv_aes (key_of self.now) block.now }
     {
         open(

@@ -1,6 +1,8 @@
 //! The examples of RFC 2202, RFC 4231 and RFC 3394, keys from Python's hashlib, and wraps from OpenSSL.
 
 ghost use Rattle.std.specs.Prelude.{◌≡◌, ◌≤◌, ◌+◌, ◌%◌, length};
+ghost use Rattle.srt_aes.specs.Aes.{IsKeyLength};
+ghost use Rattle.srt_aes.specs.Keys.{key_of};
 
 use crate::{HmacKey, hmac_sha256, kek, unwrap, wrap};
 use srt_aes::RoundKeys;
@@ -25,6 +27,7 @@ const TEXT: [u8; 32] = [
 
 /// Whether the text is wrapped as expected, and unwrapped again.
 fn gives(keys: &RoundKeys, text: &[u8], wrapped: &[u8]) -> bool
+    requires key { IsKeyLength (length (key_of keys.now)) }
     requires whole { length text.now % 8 ≡ 0 }
     requires few { length text.now ≤ 64 }
     requires longer { length wrapped.now ≡ length text.now + 8 }

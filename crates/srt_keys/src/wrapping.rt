@@ -2,6 +2,7 @@
 
 ghost use Rattle.std.specs.Prelude.{◌≡◌, ◌<◌, ◌≤◌, ◌+◌, ◌*◌, ◌/◌, ◌%◌, ◌++◌, length, take, drop, bit_xor, option_map, IfSome, IfNone};
 ghost use lib.Lanes.{zip2};
+ghost use Rattle.srt_aes.specs.Aes.{IsKeyLength};
 ghost use Rattle.srt_aes.specs.Keys.{key_of};
 ghost use Rattle.std.specs.Int.{w64, to_be_bytes};
 ghost use Rattle.std.specs.Str.{bytes_eq};
@@ -51,6 +52,7 @@ fn second_half(block: &[u8; 16]) -> &[u8]
 
 /// Step `count` of wrapping, which is about block `index`, 1 for the first of the text.
 fn close_block(key: &RoundKeys, state: &mut [u8], index: usize, count: usize)
+    requires key { IsKeyLength (length (key_of key.now)) }
     requires some { 1 ≤ index }
     requires within { 8 * index + 8 ≤ length state.old }
     ensures step { state.new ≡ wrap_step (key_of key.now) state.old index count }
@@ -66,6 +68,7 @@ fn close_block(key: &RoundKeys, state: &mut [u8], index: usize, count: usize)
 
 /// All steps of wrapping a text of `blocks` blocks, which stands behind the initial value.
 fn close_blocks(key: &RoundKeys, state: &mut [u8], blocks: usize)
+    requires key { IsKeyLength (length (key_of key.now)) }
     requires whole { length state.old ≡ 8 * blocks + 8 }
     requires few { blocks ≤ 8 }
     ensures steps { state.new ≡ wrap_after (key_of key.now) state.old blocks (6 * blocks) }
@@ -77,6 +80,7 @@ fn close_blocks(key: &RoundKeys, state: &mut [u8], blocks: usize)
 
 /// Step `count` of unwrapping, which is about block `index`, 1 for the first of the text.
 fn open_block(key: &RoundKeys, state: &mut [u8], index: usize, count: usize)
+    requires key { IsKeyLength (length (key_of key.now)) }
     requires some { 1 ≤ index }
     requires within { 8 * index + 8 ≤ length state.old }
     ensures step { state.new ≡ unwrap_step (key_of key.now) state.old index count }
@@ -92,6 +96,7 @@ fn open_block(key: &RoundKeys, state: &mut [u8], index: usize, count: usize)
 
 /// All steps of unwrapping a text of `blocks` blocks, which stands behind its check value.
 fn open_blocks(key: &RoundKeys, state: &mut [u8], blocks: usize)
+    requires key { IsKeyLength (length (key_of key.now)) }
     requires whole { length state.old ≡ 8 * blocks + 8 }
     requires few { blocks ≤ 8 }
     ensures steps { state.new ≡ unwrap_after (key_of key.now) state.old blocks (6 * blocks) (6 * blocks) }
@@ -105,6 +110,7 @@ fn open_blocks(key: &RoundKeys, state: &mut [u8], blocks: usize)
 
 /// The wrap of a text of whole 64-bit blocks, at most eight: the first bytes, 8 more than the text has.
 pub fn wrap(key: &RoundKeys, text: &[u8]) -> [u8; 72]
+    requires key { IsKeyLength (length (key_of key.now)) }
     requires whole { length text.now % 8 ≡ 0 }
     requires few { length text.now ≤ 64 }
     ensures { take (length text.now + 8) result ≡ wrap (key_of key.now) text.now }
@@ -118,6 +124,7 @@ pub fn wrap(key: &RoundKeys, text: &[u8]) -> [u8; 72]
 
 /// What unwrapping makes of a wrapped text, in the first bytes: the check value, and the text behind it.
 fn opened(key: &RoundKeys, wrapped: &[u8]) -> [u8; 72]
+    requires key { IsKeyLength (length (key_of key.now)) }
     requires whole { length wrapped.now % 8 ≡ 0 }
     requires some { 8 ≤ length wrapped.now }
     requires few { length wrapped.now ≤ 72 }
@@ -142,6 +149,7 @@ fn has_initial_value(state: &[u8; 72]) -> bool
 /// has. None if the key is another, or if the wrapped text was changed: the initial value that comes out is wrong, and
 /// nothing is written. The wrapped text has whole 64-bit blocks, one to nine.
 pub fn unwrap(key: &RoundKeys, wrapped: &[u8], out: &mut [u8; 64]) -> Option<usize>
+    requires key { IsKeyLength (length (key_of key.now)) }
     requires whole { length wrapped.now % 8 ≡ 0 }
     requires some { 8 ≤ length wrapped.now }
     requires few { length wrapped.now ≤ 72 }

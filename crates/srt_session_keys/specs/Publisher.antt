@@ -1,11 +1,11 @@
 -- The keys of a publisher's session, and key material messages that arrive during the session (section 6.1; the answers to
 -- faulty ones are our choice).
-use Rattle.std.specs.Prelude.{◌≡◌, ℕ, ◌==◌, List, length, replicate, Option, Some, None, option_map, if◌then◌else◌, Result, Ok, Err}
+use Rattle.std.specs.Prelude.{◌≡◌, ℕ, ◌==◌, List, length, Option, Some, None, option_map, if◌then◌else◌, Result, Ok, Err}
 use Rattle.srt_aes.specs.Counter.{counter_mode}
-use Rattle.srt_aes.specs.Keys.{key_of}
+use Rattle.srt_aes.specs.Keys.{key_of, IsErased}
 use Rattle.srt_hs.specs.KeyMessage.{KeyMessage}
 use Rattle.srt_hs.specs.declared.key_message.KeyFault.{KeyFault}
-use Rattle.srt_session_keys.specs.Wrapping.{StreamKeys, kek_of, salt_of, fits, brings}
+use Rattle.srt_session_keys.specs.Wrapping.{StreamKeys, kek_of, salt_of, fits, brings, WrappingKeyIsErased}
 use Rattle.srt_session_keys.specs.declared.slot.KeySlot.{KeySlot}
 use Rattle.srt_session_keys.specs.declared.publisher.KeyAnswer.{KeyAnswer}
 use Rattle.srt_session_keys.specs.declared.publisher.KeyAnswer.TheVariants.{Taken, NoSecret, BadSecret}
@@ -70,11 +70,9 @@ keys_after p (Err fault) = p.keys
 keys_after p (Ok message) =
     if fits p.kek p.salt (length p.kek) message then keys_by (brings p.kek message) p.keys else p.keys
 
--- all key bytes are zeros
-abbrev pub IsErased : List ℕ → Type 0
-IsErased bytes = bytes ≡ replicate (length bytes) 0
-
+-- no byte of a key or of the salt is left: there are no keys, and what stores them is zeros
 pub record PublisherIsErased (p : PublisherKeys) : Type 0 where
-  pub kek : IsErased (kek_of p.kek)
-  pub even : IsErased (key_of p.even.keys)
-  pub odd : IsErased (key_of p.odd.keys)
+  pub kek : WrappingKeyIsErased p.kek
+  pub even : IsErased p.even.keys
+  pub odd : IsErased p.odd.keys
+  pub none : keys_of p.even p.odd ≡ record { even = None; odd = None }

@@ -1,13 +1,12 @@
 -- The keys of a subscriber's session: which are announced, confirmed and used (our choice). Payloads and keys count from 0; key j
 -- is that of the payloads from 2^24 j on. Times are in microseconds.
 use Rattle.std.specs.Prelude.{◌≡◌, ◌<◌, ◌≤◌, ℕ, ◌+◌, ◌/◌, ◌^◌, Bool, true, false, nat_le, nat_lt, if◌then◌else◌}
-use Rattle.std.specs.Prelude.{List, Option, Some, None, is_some}
+use Rattle.std.specs.Prelude.{List, replicate, Option, Some, None, is_some}
 use Rattle.std.specs.Str.{bytes_eq}
-use Rattle.srt_aes.specs.Keys.{key_of}
-use Rattle.srt_session_keys.specs.Wrapping.{kek_of}
+use Rattle.srt_aes.specs.Keys.{IsErased}
+use Rattle.srt_session_keys.specs.Wrapping.{WrappingKeyIsErased}
 use Rattle.srt_session_keys.specs.Source.{Source, source_of, own_message}
 use Rattle.srt_session_keys.specs.Announced.{made_with, is_repeated, announced_at}
-use Rattle.srt_session_keys.specs.Publisher.{IsErased}
 use Rattle.srt_session_keys.specs.declared.announcement.Announcement.{Announcement}
 use Rattle.srt_session_keys.specs.declared.subscriber.SubscriberKeys.{SubscriberKeys}
 
@@ -65,8 +64,15 @@ WindowHasItsKeys =
     (s : Subscriber) (queued payload : ℕ) → IsAhead s queued → queued ≤ payload + 8192 → may_send s payload ≡ true →
     (index_of payload < made s) × (made s ≤ index_of payload + 2)
 
--- all bytes of keys are zeros
+-- no byte of what the session's keys are made of, of a key or of the message is left: there are no keys, and what stores them is
+-- zeros
 pub record SubscriberIsErased (s : SubscriberKeys) : Type 0 where
-  pub kek : IsErased (kek_of s.source.kek)
-  pub even : IsErased (key_of s.even)
-  pub odd : IsErased (key_of s.odd)
+  pub kek : WrappingKeyIsErased s.source.kek
+  pub session : s.source.session ≡ 0
+  pub count : s.source.count ≡ 0
+  pub hash : s.source.hash ≡ replicate 32 0
+  pub even : IsErased s.even
+  pub odd : IsErased s.odd
+  pub message : s.message ≡ replicate 104 0
+  pub confirmed : s.confirmed ≡ 0
+  pub announced : s.announced ≡ None

@@ -1,5 +1,5 @@
 -- The key that wraps a session's stream encrypting keys (KEK), and the keys that a key material message brings.
-use Rattle.std.specs.Prelude.{ℕ, ◌==◌, ◌&&◌, Bool, List, take, drop, Option, Some, None, option_map}
+use Rattle.std.specs.Prelude.{◌≡◌, ℕ, ◌==◌, ◌&&◌, Bool, List, take, drop, replicate, Option, Some, None, option_map}
 use Rattle.std.specs.Str.{bytes_eq}
 use Rattle.srt_keys.specs.Wrap.{unwrap}
 use Rattle.srt_hs.specs.KeyMessage.{KeyMessage}
@@ -14,6 +14,11 @@ kek_of key = take key.size key.bytes
 -- the session's salt
 abbrev pub salt_of : WrappingKey → List ℕ
 salt_of key = key.salt
+
+-- all bytes of the key and of the salt are zeros
+pub record WrappingKeyIsErased (key : WrappingKey) : Type 0 where
+  pub bytes : key.bytes ≡ replicate 32 0
+  pub salt : key.salt ≡ replicate 16 0
 
 -- a message has the session's salt and length of keys
 abbrev pub fits : (kek salt : List ℕ) → (key_length : ℕ) → KeyMessage → Bool

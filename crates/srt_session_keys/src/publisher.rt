@@ -129,7 +129,7 @@ impl PublisherKeys {
         }
     }
 
-    /// Overwrites all keys with zeros, when the session ends.
+    /// Overwrites all keys, their schedules and the salt with zeros, when the session ends.
     pub fn forget(&mut self)
         ensures { PublisherIsErased self.new }
     {

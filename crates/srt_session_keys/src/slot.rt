@@ -1,6 +1,6 @@
 //! Room for a stream encrypting key.
 
-ghost use Rattle.std.specs.Prelude.{◌≡◌, ◌<◌, length, is_some, Some, None, replicate};
+ghost use Rattle.std.specs.Prelude.{◌≡◌, ◌<◌, true, length, is_some, Some, None};
 ghost use Rattle.srt_aes.specs.Aes.{IsKeyLength};
 ghost use Rattle.srt_aes.specs.Keys.{key_of};
 
@@ -11,10 +11,12 @@ use srt_aes::RoundKeys;
 pub(crate) struct KeySlot {
     is_held: bool,
     keys: RoundKeys,
+    ghost whole: { is_held ≡ true → IsKeyLength (length (key_of keys)) },
 }
 
 impl KeySlot {
-    ghost use Rattle.srt_session_keys.specs.Publisher.{slot_key, with_key, IsErased};
+    ghost use Rattle.srt_aes.specs.Keys.{IsErased};
+    ghost use Rattle.srt_session_keys.specs.Publisher.{slot_key, with_key};
 
     /// Returns an empty slot.
     pub(crate) fn new() -> KeySlot
@@ -22,7 +24,7 @@ impl KeySlot {
     {
         KeySlot {
             is_held: false,
-            keys: RoundKeys::new(&[0; 16]),
+            keys: RoundKeys::none(),
         }
     }
 
@@ -47,12 +49,12 @@ impl KeySlot {
         self.is_held
     }
 
-    /// Overwrites the key with zeros.
+    /// Overwrites the key and its schedule with zeros.
     pub(crate) fn forget(&mut self)
         ensures none { slot_key self.new ≡ None }
-        ensures erased { IsErased (key_of self.new.keys) }
+        ensures erased { IsErased self.new.keys }
     {
-        self.keys.forget();
         self.is_held = false;
+        self.keys.forget();
     }
 }

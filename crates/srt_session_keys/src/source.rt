@@ -41,6 +41,8 @@ fn own_text(source: &KeySource, index: u64) -> [u8; 52]
 }
 
 impl KeySource {
+    ghost use Rattle.std.specs.Prelude.{replicate};
+    ghost use Rattle.srt_session_keys.specs.Wrapping.{WrappingKeyIsErased};
     ghost use Rattle.srt_session_keys.specs.Source.{own, own_message};
 
     /// The session's key with an index, in the first bytes.
@@ -68,5 +70,18 @@ impl KeySource {
             wrapped: &wrapped[..size + 8],
         };
         write_key_message(&message, out)
+    }
+
+    /// Overwrites everything with zeros.
+    pub(crate) fn forget(&mut self)
+        ensures kek { WrappingKeyIsErased self.new.kek }
+        ensures session { self.new.session ≡ 0 }
+        ensures count { self.new.count ≡ 0 }
+        ensures hash { self.new.hash ≡ replicate 32 0 }
+    {
+        self.kek.forget();
+        self.session = 0;
+        self.count = 0;
+        self.hash = [0; 32];
     }
 }

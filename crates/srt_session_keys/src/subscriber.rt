@@ -98,8 +98,8 @@ impl SubscriberKeys {
                 count,
                 hash: pool.hash,
             },
-            even: RoundKeys::new(&[0; 16]),
-            odd: RoundKeys::new(&[0; 16]),
+            even: RoundKeys::none(),
+            odd: RoundKeys::none(),
             message: [0; 104],
             message_len: 0,
             confirmed: 0,
@@ -209,13 +209,13 @@ impl SubscriberKeys {
         name_of(index)
     }
 
-    /// Overwrites all keys with zeros, when the session ends.
+    /// Overwrites all keys, their schedules, what they are made of and the stored message with zeros, when the session ends.
     pub fn forget(&mut self)
         ensures { SubscriberIsErased self.new }
     {
         self.confirmed = 0;
         self.announced = None;
-        self.source.kek.forget();
+        self.source.forget();
         self.even.forget();
         self.odd.forget();
         self.message = [0; 104];

@@ -1,6 +1,6 @@
 //! The key that wraps the stream encrypting keys of a session.
 
-ghost use Rattle.std.specs.Prelude.{◌≡◌, ◌≤◌, ℕ, List, length, take, replicate, ◌+◌, option_map, is_some, IfSome};
+ghost use Rattle.std.specs.Prelude.{◌≡◌, ◌≤◌, ℕ, List, length, take, ◌+◌, option_map, is_some, IfSome};
 ghost use Rattle.srt_aes.specs.Aes.{IsKeyLength};
 ghost use Rattle.srt_aes.specs.Keys.{key_of};
 ghost use Rattle.srt_keys.specs.Pbkdf2.{kek};
@@ -31,7 +31,7 @@ pub struct WrappingKey {
 }
 
 impl WrappingKey {
-    ghost use Rattle.srt_session_keys.specs.Wrapping.{kek_of, salt_of, fits, brings};
+    ghost use Rattle.srt_session_keys.specs.Wrapping.{kek_of, salt_of, fits, brings, WrappingKeyIsErased};
 
     /// Derives the key from a passphrase, for the salt and the length of keys of the caller's message: PBKDF2 with 2048 rounds,
     /// which takes milliseconds.
@@ -65,7 +65,8 @@ impl WrappingKey {
 
     /// The key schedule.
     pub(crate) fn round_keys(&self) -> RoundKeys
-        ensures { key_of result ≡ kek_of self.now }
+        ensures key { key_of result ≡ kek_of self.now }
+        ensures whole { IsKeyLength (length (key_of result)) }
     {
         RoundKeys::new(&self.bytes[..self.size])
     }
@@ -94,11 +95,12 @@ impl WrappingKey {
         self.unwrapped(message, &mut text).is_some()
     }
 
-    /// Overwrites the key with zeros.
+    /// Overwrites the key and the salt with zeros.
     pub fn forget(&mut self)
-        ensures kek { kek_of self.new ≡ replicate (length (kek_of self.old)) 0 }
-        ensures salt { salt_of self.new ≡ salt_of self.old }
+        ensures erased { WrappingKeyIsErased self.new }
+        ensures long { length (kek_of self.new) ≡ length (kek_of self.old) }
     {
         self.bytes = [0; 32];
+        self.salt = [0; 16];
     }
 }

@@ -19,7 +19,8 @@ returns c block holds so_far =
     let n : ℕ = 8 * batch in
     let rounds : last ≡ rounds_of key = c.rounds-last.ensures.value ∙ ap (λ (v : ℕ). v / 4 + 6) (sym keys.sized) in
     let hold : HoldKeys keys.planes (schedule_of key) last =
-    subst (λ (v : ℕ). HoldKeys keys.planes (schedule_of key) v) (sym c.rounds-last.ensures.value) keys.held in
+    subst (λ (v : ℕ). HoldKeys keys.planes (schedule_of key) v) (sym c.rounds-last.ensures.value)
+    (keys.held c.requires.whole) in
     let cl = closed_words keys.planes last low in
     let ch = closed_words keys.planes last high in
     let closed = c.close-closed.ensures low high c.paired.ensures in

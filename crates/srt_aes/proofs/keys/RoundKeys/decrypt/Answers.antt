@@ -11,5 +11,5 @@ returns c =
     let block = c.args.block.now in
     let last : ℕ = keys.size / 4 + 6 in
     let rounds : last ≡ rounds_of (key_of keys) = ap (λ (n : ℕ). n / 4 + 6) (sym keys.sized) in
-    c.open.ensures ∙ ap (λ (v : List ℕ). inv_cipher v last block) keys.scheduled ∙
+    c.open.ensures ∙ ap (λ (v : List ℕ). inv_cipher v last block) (keys.scheduled c.requires) ∙
     ap (λ (n : ℕ). inv_cipher (schedule_of (key_of keys)) n block) rounds

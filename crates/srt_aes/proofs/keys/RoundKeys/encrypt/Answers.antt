@@ -22,6 +22,6 @@ returns c =
     block-spread 0 block 0 small c.told-block (omega arith) (omega arith) in
     let rounds : last ≡ rounds_of (key_of keys) = ap (λ (n : ℕ). n / 4 + 6) (sym keys.sized) in
     c.gather.ensures ∙ ap (block_in (last % 4) 0) closed ∙ block_in-items (last % 4) 0 words ∙
-    held-closed keys.planes schedule last keys.held (omega arith) planes
+    held-closed keys.planes schedule last (keys.held c.requires) (omega arith) planes
     (narrow-words planes 0 block c.spread-planes.ensures) 0 (omega arith) ∙
     ap (cipher schedule last) held ∙ ap (λ (n : ℕ). cipher schedule n block) rounds

@@ -32,11 +32,12 @@ invariant_of-result c =
     let key = c.args.key.now in
     let words = c.expand-words.result in
     let same = key_is key words c.expand-words.ensures in
+    let bounds = key_bounds (length key) c.requires in
     record {
-      whole = c.requires;
+      few = omega arith;
       sized = ap (length {A = ℕ}) same;
-      scheduled = c.expand-words.ensures ∙ ap schedule_of (sym same);
-      held = λ round few.
+      scheduled = λ whole. c.expand-words.ensures ∙ ap schedule_of (sym same);
+      held = λ whole round few.
           subst (λ (v : List ℕ). HoldsKey (key_planes c.plane_keys-planes.result round) (round % 4) (round_key v round))
           (c.expand-words.ensures ∙ ap schedule_of (sym same)) (c.plane_keys-planes.ensures round few);
     }
