@@ -161,9 +161,3 @@ held-closed keys schedule rounds hold some words narrow block small =
     block_in-sums turn block s (key_planes keys rounds) ∙
     ap (λ (v : List ℕ). add_round_key v (block_in turn block (key_planes keys rounds))) bytes ∙
     ap (λ (v : List ℕ). add_round_key (shift_rows (sub_bytes (state_after schedule (block_in 0 block words) (rounds - 1)))) v) keyed
-
--- planes copied word by word hold the same blocks
-pub block_in-items : (turn block : ℕ) (words : List ℕ) →
-    block_in turn block (map (λ k. slice_index words k) (range_with_len 0 8)) ≡ block_in turn block words
-unfolding block_in byte_at
-block_in-items turn block words = refl

@@ -17,7 +17,7 @@ use Rattle.srt_aes.proofs.AllBelow.{all_to, all_to-at, same_over_range}
 use Rattle.srt_aes.proofs.Bits.{byte_at-sums}
 use Rattle.srt_aes.proofs.Turning.{cut-narrow, IsNarrow}
 use Rattle.srt_aes.proofs.Mixing.{narrow-sums}
-use Rattle.srt_aes.proofs.Blocks.{held-closed, block_in-items}
+use Rattle.srt_aes.proofs.Blocks.{held-closed}
 
 is_counted : (m block index : ℕ) → Bool
 is_counted m block index =
@@ -93,13 +93,11 @@ stream-numbered key salt number (suc blocks) few =
     ap (λ (v : List ℕ). key_stream key salt number blocks ++ aes key v) (numbered-nonce salt number blocks (omega arith))
 
 -- a block of the key stream, from the words that the rounds leave
-pub lane : (keys : List (List ℕ)) (key : List ℕ) (last : ℕ) (base block : List ℕ) (m : ℕ) (planes got : List ℕ) →
+pub lane : (keys : List (List ℕ)) (key : List ℕ) (last : ℕ) (base block : List ℕ) (m : ℕ) (planes : List ℕ) →
     HoldKeys keys (schedule_of key) last → last ≡ rounds_of key → HoldsKey base 0 block → m < 32 →
     planes ≡ sums base (counter_planes (4 * m)) →
-    got ≡ map (λ k. slice_index (closed_words keys last planes) k) (range_with_len 0 8) →
-    (b n : ℕ) → b < 4 → 4 * m + b ≡ n → block_in (last % 4) b got ≡ aes key (numbered block n)
-lane keys key last base block m planes got hold rounds holds few made closed b n small same =
-    ap (block_in (last % 4) b) closed ∙ block_in-items (last % 4) b (closed_words keys last planes) ∙
+    (b n : ℕ) → b < 4 → 4 * m + b ≡ n → block_in (last % 4) b (closed_words keys last planes) ≡ aes key (numbered block n)
+lane keys key last base block m planes hold rounds holds few made b n small same =
     ap (λ (v : List ℕ). block_in (last % 4) b (closed_words keys last v)) made ∙
     block-closed keys key last base block m b hold rounds holds few small ∙
     ap (λ (k : ℕ). aes key (numbered block k)) same

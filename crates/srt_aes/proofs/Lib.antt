@@ -8,3 +8,4 @@ pub mod Blocks
 pub mod Spreading
 pub mod Lengths
 pub mod Counting
+pub mod Swapping

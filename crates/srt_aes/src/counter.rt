@@ -6,10 +6,12 @@ ghost use Rattle.srt_aes.specs.Aes.{IsKeyLength};
 ghost use Rattle.srt_aes.specs.Counter.{nonce, counter_mode};
 ghost use Rattle.srt_aes.specs.Keys.{key_of};
 ghost use Rattle.srt_aes.specs.inside.Planes.{joined, sums, counter_planes, block_in, HoldsKey, numbered_stream};
+ghost use Rattle.srt_aes.specs.inside.Transposing.{transposed_words};
 
 use crate::keys::RoundKeys;
 use crate::planes::{first, gather, nibble, second, spread};
 use crate::rounds::close;
+use crate::transposing::transposed;
 use std::simd::prelude::*;
 
 /// The nonce of a packet, and two zeros where the counter goes.
@@ -79,21 +81,21 @@ fn write_block(stream: &mut [u8; 2048], at: usize, block: &[u8; 16])
     stream[at..at + 16].copy_from_slice(block);
 }
 
-/// Copies the four blocks that planes hold to the offset `at` of a key stream.
-fn write_blocks(stream: &mut [u8; 2048], at: usize, turn: usize, planes: &[u64; 8])
+/// Copies the four blocks that planes hold, whose transposition these words are, to the offset `at` of a key stream.
+fn write_blocks(stream: &mut [u8; 2048], at: usize, turn: usize, words: &[u64; 8])
     requires room { at + 64 ≤ 2048 }
     requires turns { turn < 4 }
-    ensures { take (at + 64) stream.new ≡
-        take at stream.old ++ block_in turn 0 planes.now ++ block_in turn 1 planes.now ++ block_in turn 2 planes.now ++
-        block_in turn 3 planes.now }
+    requires even { turn % 2 ≡ 0 }
+    ensures { (planes : List ℕ) → words.now ≡ transposed_words planes → take (at + 64) stream.new ≡
+        take at stream.old ++ block_in turn 0 planes ++ block_in turn 1 planes ++ block_in turn 2 planes ++ block_in turn 3 planes }
 {
-    let block = gather(turn, 0, planes);
+    let block = gather(turn, 0, words);
     write_block(stream, at, &block);
-    let block = gather(turn, 1, planes);
+    let block = gather(turn, 1, words);
     write_block(stream, at + 16, &block);
-    let block = gather(turn, 2, planes);
+    let block = gather(turn, 2, words);
     write_block(stream, at + 32, &block);
-    let block = gather(turn, 3, planes);
+    let block = gather(turn, 3, words);
     write_block(stream, at + 48, &block);
 }
 
@@ -110,8 +112,9 @@ fn write_batch(stream: &mut [u8; 2048], keys: &RoundKeys, base: &[u64; 8], batch
     let low = counted(base, from as u8);
     let high = counted(base, (from + 4) as u8);
     let closed = close(paired(&low, &high), &keys.planes, last);
-    write_blocks(stream, 128 * batch, last % 4, &first(closed));
-    write_blocks(stream, 128 * batch + 64, last % 4, &second(closed));
+    let words = transposed(closed);
+    write_blocks(stream, 128 * batch, last % 4, &first(words));
+    write_blocks(stream, 128 * batch + 64, last % 4, &second(words));
 }
 
 /// A key stream of `8 * batches` blocks; `block` is the one with the counter 0.

@@ -8,6 +8,7 @@ use crate::inverse::open;
 use crate::planes::{doubled, first, gather, spread};
 use crate::rounds::close;
 use crate::schedule::{expand, plane_keys};
+use crate::transposing::transposed;
 
 /// The key schedule of a key of 16, 24 or 32 bytes, or room for one. Its size is fixed.
 #[derive(Drop)]
@@ -76,8 +77,8 @@ impl RoundKeys {
     {
         let last = self.size / 4 + 6;
         let planes = spread(0, block);
-        let closed = first(close(doubled(&planes), &self.planes, last));
-        gather(last % 4, 0, &closed)
+        let closed = close(doubled(&planes), &self.planes, last);
+        gather(last % 4, 0, &first(transposed(closed)))
     }
 
     /// The block of which the key makes a block (InvCipher() of FIPS 197). It reads a table, so its time may

@@ -3,7 +3,8 @@
 ghost use Rattle.std.specs.Prelude.{◌≡◌, ◌<◌, ◌≤◌, ◌+◌, ◌*◌, ◌%◌, ◌^◌, ℕ, List, map, slice_index};
 ghost use Rattle.std.specs.Int.{bit_at};
 ghost use Rattle.std.specs.List.{range_with_len};
-ghost use Rattle.srt_aes.specs.inside.Planes.{joined, sums, nibble, nibbles, slot, place, spread_words, byte_at, block_in};
+ghost use Rattle.srt_aes.specs.inside.Planes.{joined, sums, nibble, nibbles, slot, spread_words, byte_at, block_in};
+ghost use Rattle.srt_aes.specs.inside.Transposing.{transposed_words};
 
 use std::simd::prelude::*;
 
@@ -128,15 +129,24 @@ pub(crate) fn byte(planes: &[u64; 8], position: usize) -> u8
     bit(planes[0], position) + 2 * (bit(planes[1], position) + 2 * high)
 }
 
-/// A block that planes hold.
-pub(crate) fn gather(turn: usize, block: usize, planes: &[u64; 8]) -> [u8; 16]
+/// A block that planes hold, whose transposition these words are.
+pub(crate) fn gather(turn: usize, block: usize, words: &[u64; 8]) -> [u8; 16]
     requires turns { turn < 4 }
+    requires even { turn % 2 ≡ 0 }
     requires blocks { block < 4 }
-    ensures { result ≡ block_in turn block planes.now }
+    ensures { (planes : List ℕ) → words.now ≡ transposed_words planes → result ≡ block_in turn block planes }
 {
-    let mut bytes = [0u8; 16];
-    for index in 0..16 {
-        bytes[index] = byte(planes, 4 * slot(turn, index) + block);
+    let a = words[block].to_le_bytes();
+    let b = words[block + 4].to_le_bytes();
+    if turn == 0 {
+        [
+            a[0], a[2], a[4], a[6], b[0], b[2], b[4], b[6], a[1], a[3], a[5], a[7], b[1], b[3],
+            b[5], b[7],
+        ]
+    } else {
+        [
+            a[0], a[3], a[4], a[7], b[0], b[3], b[4], b[7], a[1], a[2], a[5], a[6], b[1], b[2],
+            b[5], b[6],
+        ]
     }
-    bytes
 }

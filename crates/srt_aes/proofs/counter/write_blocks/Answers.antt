@@ -20,7 +20,8 @@ chain at s0 s1 s2 s3 s4 a b c d e f g h p q r t w1 w2 w3 w4 =
     ap (λ (v : List ℕ). take at s0 ++ e ++ f ++ g ++ v) t
 
 pub returns : goal.returns
-returns c =
+returns c planes is =
     chain c.args.at c.args.stream.now c.write_block.new.stream c.write_block-2.new.stream c.write_block-3.new.stream
-    c.write_block-4.new.stream _ _ _ _ _ _ _ _ c.gather-block.ensures c.gather-block-2.ensures c.gather-block-3.ensures
-    c.gather-block-4.ensures c.write_block.ensures c.write_block-2.ensures c.write_block-3.ensures c.write_block-4.ensures
+    c.write_block-4.new.stream _ _ _ _ _ _ _ _ (c.gather-block.ensures planes is) (c.gather-block-2.ensures planes is)
+    (c.gather-block-3.ensures planes is) (c.gather-block-4.ensures planes is) c.write_block.ensures c.write_block-2.ensures
+    c.write_block-3.ensures c.write_block-4.ensures
