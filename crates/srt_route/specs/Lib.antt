@@ -13,6 +13,7 @@ pub mod Waits
 pub mod Buffers
 pub mod Parts
 pub mod PublisherBuffers
+pub mod Seats
 pub mod Tables
 pub mod Admission
 pub mod Stages

@@ -24,6 +24,7 @@ use Rattle.srt_route.specs.Route.{Taken, Answers, is_of, sent}
 use Rattle.srt_route.specs.Buffers.{IsSeated}
 use Rattle.srt_route.specs.declared.publisher_buffers.PublisherBuffers.{PublisherBuffers}
 use Rattle.srt_route.specs.declared.publisher_buffers.PublisherBuffers.TheVariants.{First}
+use Rattle.srt_route.specs.Seats.{has_publisher, session_passes}
 use Rattle.srt_route.specs.Parts.{RecordsEnd, buffers_used, part_after, part_extended, part_with_end, role_of, until_of}
 use Rattle.srt_route.specs.PublisherBuffers.{place_of, is_same}
 
@@ -44,11 +45,6 @@ IsStored e index None None = ⊤
 IsStored e index (Some t) (Some s) = IsSession e index t s
 IsStored e index None (Some s) = ⊥
 IsStored e index (Some t) None = ⊥
-
--- whether a session is stored and passes a test
-abbrev pub session_passes : (TheSession → Bool) → Option TheSession → Bool
-session_passes test None = false
-session_passes test (Some t) = test t
 
 -- which of the route's two publisher buffers a stored session uses, and which a seat's session; the first if none is
 -- open
@@ -144,9 +140,6 @@ is_session_of peer caller t = is_same_peer t.peer peer && t.caller == caller && 
 
 abbrev pub holds : Peer → (caller : ℕ) → Seat → Bool
 holds peer caller seat = session_passes (is_session_of peer caller) seat.session
-
-abbrev pub has_publisher : Seat → Bool
-has_publisher seat = session_passes (λ t. publishes (role_of t.part)) seat.session
 
 -- whether a seat's session is a publisher's that sends packets, and whether it drains
 abbrev pub has_speaker : Seat → Bool

@@ -87,7 +87,7 @@ fn admit(table: &Table, peer: Peer, c: &Conclusion) -> Result<Admission, Refusal
     ensures inside { IfOk result (λ a. a.at < length table.now.seats.items) }
     ensures value { Admits table.now peer c.now result }
 {
-    let publishers = count_publishers(&table.seats);
+    let publishers = table.open_publishers;
     if let Some(cause) = refused(table.mode, publishers, c) {
         return Err(cause);
     }
@@ -147,6 +147,7 @@ fn open_session(
         heard: arrival.clock,
         answer,
     });
+    table.open_publishers = count_publishers(&table.seats);
 }
 
 /// Admits or refuses a conclusion of a caller without a session, and writes the answer into `reply`.

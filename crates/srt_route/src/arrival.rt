@@ -1,6 +1,15 @@
-//! Arrival time and sender of a packet.
+//! Arrival time and sender of a datagram, and of a packet.
 
 use srt_types::Peer;
+
+/// When a datagram arrived at a route, and from whom.
+#[derive(Clone, Copy)]
+pub struct Receipt {
+    /// The route's clock, in microseconds: below 2^62.
+    pub clock: u64,
+    /// The sender's address.
+    pub peer: Peer,
+}
 
 /// The arrival of a packet at a route.
 #[derive(Clone, Copy)]

@@ -16,7 +16,7 @@ ghost use Rattle.srt_route.specs.inside.Calls.{TableBecomes, Transmits};
 
 use crate::replies::Reply;
 use crate::reply_queue::ReplyQueue;
-use crate::seat::{Seat, Session};
+use crate::seat::{Seat, Session, recounted};
 use crate::table::Table;
 use srt_packet::{Body, EncodedPacket, Packet};
 use srt_pub::PubEnd;
@@ -134,6 +134,8 @@ pub fn close_seats(table: &mut Table, clock: u64, hand: &mut Box<Reply>, waiting
     ensures said { Transmits clock table.old waiting.old waiting.new (λ e sessions. map (shutdown_to clock) (by_slot e sessions)) }
 {
     for at in 0..table.seats.len() {
+        let before = table.seats[at].has_publisher();
         close_seat(&mut table.seats[at], clock, hand, waiting);
+        table.open_publishers = recounted(table.open_publishers, before, false);
     }
 }

@@ -1,12 +1,13 @@
 //! Step 4 of an event, delivery (sections 4.2, 4.5 and 4.6): the active publisher's payloads are queued for every open
 //! subscriber, those of the standby for none (`standby.rt`).
 
-ghost use Rattle.std.specs.Prelude.{◌≡◌, ℕ, ◌<◌, ◌≤◌, ◌^◌, true, false, None, List, is_some, length};
+ghost use Rattle.std.specs.Prelude.{◌≡◌, ℕ, ◌<◌, ◌≤◌, ◌^◌, true, false, None, List, count_by, is_some, length};
 ghost use Rattle.srt_types.specs.Terms.{Terms};
 ghost use Rattle.srt_pub.specs.Calls.{room_after, next_delivery, after_delivery};
 ghost use Rattle.srt_pub.specs.Changes.{BecomesAt, HoldsOfAt};
 ghost use Rattle.srt_route.specs.Sessions.{Session};
 ghost use Rattle.srt_route.specs.Route.{least_room, delivered};
+ghost use Rattle.srt_route.specs.Seats.{has_publisher};
 ghost use Rattle.srt_route.specs.Tables.{IsTable, UseTheSame, UseSameBuffers, has_subscriber};
 ghost use Rattle.srt_route.specs.inside.OneSession.{IsRoomOf, SubscriberFed};
 ghost use Rattle.srt_route.specs.inside.Delivery.{lesser, AreFed, AreGiven, GivesNext, TurnsTo, IsRoomOfAll, PassesOn};
@@ -99,6 +100,7 @@ fn pass_on(publisher: &mut Publisher, seats: &mut [Seat], clock: u64, room: u32)
     ensures publisher { BecomesAt clock publisher.old publisher.new (λ terms time q. after_delivery terms (next_delivery terms time room q) q) }
     ensures seats { HoldsOfAt clock publisher.old (λ terms time q. AreGiven clock (next_delivery terms time room q) seats.old seats.new) }
     ensures same_length { length seats.new ≡ length seats.old }
+    ensures publishers { count_by has_publisher seats.new ≡ count_by has_publisher seats.old }
     ensures stays { UseSameBuffers seats.old seats.new }
 {
     let Some(payload) = publisher.next_due(clock, room) else {

@@ -18,7 +18,7 @@ ghost use Rattle.srt_route.specs.Tallies.{Tallies, item_tally, packet_tally, rea
 ghost use Rattle.srt_route.specs.inside.Calls.{AnswersItem, AnswersPacket, TakenBySession, TakesDatagram, TakesItem, TakesPacket};
 
 use crate::admission::conclude;
-use crate::arrival::Arrival;
+use crate::arrival::{Arrival, Receipt};
 use crate::closing::{close_seats, tell_lost};
 use crate::conclusion::conclusion_in;
 use crate::draining::{drains_after, end_unless};
@@ -26,7 +26,7 @@ use crate::files::{note_end, of_libsrt, shutdown_end};
 use crate::ledger::{Ledger, cause_of, shutdown_cause};
 use crate::replies::Reply;
 use crate::reply_queue::ReplyQueue;
-use crate::seat::Seat;
+use crate::seat::{Seat, recounted};
 use crate::socket_ids::slot_in;
 use crate::table::Table;
 use srt_packet::{Kind, PacketRef, decode_parts};
@@ -121,6 +121,8 @@ fn to_session(
             reply,
         );
         table.seats[at].keep_or_end(arrival.clock, end.is_some(), drains);
+        let after = table.seats[at].has_publisher();
+        table.open_publishers = recounted(table.open_publishers, true, after);
         note_end(table, of_libsrt(table.rules.callers, shutdown_end(end)));
         return notified;
     }
@@ -162,23 +164,24 @@ fn to_destination(
 fn take_datagram(
     table: &mut Table,
     ledger: &mut Ledger,
-    clock: u64,
-    peer: Peer,
+    receipt: Receipt,
     head: &[u8; 16],
     body: &[u8],
     reply: &mut Reply,
 ) -> bool
-    requires { clock < 2 ^ 62 }
-    ensures taken { TakesDatagram clock peer (head.now ++ body.now) table.old table.new (written_of (given result reply.new)) }
-    ensures ends { Ends clock (λ e index. read_ending e index clock peer (packet_in (head.now ++ body.now))) table.old ledger.old ledger.new }
-    ensures tally { Tallies clock (λ e sessions. read_tally e peer (packet_in (head.now ++ body.now)) sessions) table.old ledger.old ledger.new }
+    requires { receipt.clock < 2 ^ 62 }
+    ensures taken { TakesDatagram receipt.clock receipt.peer (head.now ++ body.now) table.old table.new (written_of (given result reply.new)) }
+    ensures ends { Ends receipt.clock (λ e index. read_ending e index receipt.clock receipt.peer (packet_in (head.now ++ body.now)))
+        table.old ledger.old ledger.new }
+    ensures tally { Tallies receipt.clock (λ e sessions. read_tally e receipt.peer (packet_in (head.now ++ body.now)) sessions)
+        table.old ledger.old ledger.new }
     ensures sums { SumsGrow ledger.old.totals ledger.new.totals }
 {
     match decode_parts(head, body) {
         Ok(packet) => {
             let arrival = Arrival {
-                clock,
-                peer,
+                clock: receipt.clock,
+                peer: receipt.peer,
                 stamp: packet.stamp,
             };
             to_destination(table, ledger, arrival, &packet, reply)
@@ -215,7 +218,8 @@ pub fn dispatch(
             head,
             body,
         } => {
-            let answered = take_datagram(table, ledger, clock, *peer, head, body, hand);
+            let receipt = Receipt { clock, peer: *peer };
+            let answered = take_datagram(table, ledger, receipt, head, body, hand);
             waiting.put_if(hand, answered);
         }
     }

@@ -18,7 +18,7 @@ use crate::delivery::{deliver, room_of_all};
 use crate::files::note_end;
 use crate::ledger::{Ledger, drained_cause};
 use crate::part::Part;
-use crate::seat::{Seat, count_draining, count_publishers};
+use crate::seat::{Seat, count_draining, recounted};
 use crate::standby::{active_buffers, is_active_by};
 use crate::table::Table;
 use crate::view::latency_in;
@@ -194,7 +194,10 @@ fn settle_each(table: &mut Table, ledger: &mut Ledger, delivered: bool, clock: u
     for at in 0..table.seats.len() {
         let ends = is_drained(table, at);
         ledger.note_by(table, active, at, drained_cause(ends), clock);
+        let before = table.seats[at].has_publisher();
         table.seats[at].settle(ends, mode, delivered, clock);
+        let after = table.seats[at].has_publisher();
+        table.open_publishers = recounted(table.open_publishers, before, after);
     }
 }
 
@@ -227,8 +230,8 @@ fn deliver_and_end(table: &mut Table, ledger: &mut Ledger, clock: u64)
     }
     let delivered = gives_some(table, clock);
     deliver(table, clock);
-    let before = count_publishers(&table.seats);
+    let before = table.open_publishers;
     settle_each(table, ledger, delivered, clock);
-    let end = drain_end(before, count_publishers(&table.seats));
+    let end = drain_end(before, table.open_publishers);
     note_end(table, end);
 }

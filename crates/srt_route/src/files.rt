@@ -1,14 +1,15 @@
 //! The end of a file, on a route for libsrt callers: how a publisher's session ended, and which subscribers have
 //! everything that it sent in buffer mode.
 
-ghost use Rattle.std.specs.Prelude.{◌≡◌, ℕ, Some, map};
+ghost use Rattle.std.specs.Prelude.{◌≡◌, ℕ, Some, map, true, false};
+ghost use Rattle.srt_route.specs.Seats.{has_publisher};
 ghost use Rattle.srt_route.specs.Sessions.{of_libsrt, silent_end, with_end};
 ghost use Rattle.srt_route.specs.Route.{sends_files};
 ghost use Rattle.srt_route.specs.Tables.{seat_with_end};
 ghost use Rattle.srt_route.specs.inside.Calls.{TableBecomes};
 ghost use Rattle.srt_route.specs.inside.Files.{HasWhole, IsOver, shutdown_end};
 
-use crate::seat::{Seat, count_publishers};
+use crate::seat::Seat;
 use crate::table::Table;
 use srt_pub::PubEnd;
 use srt_types::{Callers, Mode};
@@ -55,7 +56,8 @@ impl Seat {
     /// Whether a subscriber's session is open here that has the whole file, if no publisher is open (`over`): it was
     /// open when the last publisher's session ended by its own SHUTDOWN, and has acknowledged all that was queued.
     pub fn has_whole_file(&self, over: bool) -> bool
-        ensures { HasWhole over self.now result }
+        ensures whole { HasWhole over self.now result }
+        ensures reads { result ≡ true → has_publisher self.now ≡ false }
     {
         if !over {
             return false;
@@ -111,5 +113,5 @@ pub fn is_file_over(table: &Table) -> bool
     if !sends_files(table.rules.callers, table.mode) {
         return false;
     }
-    count_publishers(&table.seats) == 0
+    table.open_publishers == 0
 }

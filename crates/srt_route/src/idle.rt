@@ -4,7 +4,8 @@
 ghost use Rattle.std.specs.Prelude.{◌≡◌, ◌<◌, ◌^◌, true, false};
 ghost use Rattle.srt_route.specs.Buffers.{ExpiresTo};
 ghost use Rattle.srt_route.specs.Sessions.{has_fallen_silent};
-ghost use Rattle.srt_route.specs.Tables.{has_expired, session_passes, peer_idle, is_kept_subscriber, is_stored_over, stored_aged, with_stored};
+ghost use Rattle.srt_route.specs.Tables.{has_expired, peer_idle, is_kept_subscriber, is_stored_over, stored_aged, with_stored};
+ghost use Rattle.srt_route.specs.Seats.{session_passes};
 ghost use Rattle.srt_route.specs.Ledgers.{idle_cause, time_cause};
 ghost use Rattle.srt_route.specs.inside.Calls.{AdvancesTo, AgesAndLeads, AgesTo, TellsIdle};
 ghost use Rattle.srt_route.specs.inside.Notes.{NotesEach};
@@ -16,7 +17,7 @@ use crate::files::{note_end, of_libsrt, silent_end};
 use crate::ledger::{EndCause, Ledger};
 use crate::replies::Reply;
 use crate::reply_queue::ReplyQueue;
-use crate::seat::{Seat, Session, count_expired, count_publishers};
+use crate::seat::{Seat, Session, count_expired, recounted};
 use crate::standby::take_over;
 use crate::table::Table;
 use srt_types::Callers;
@@ -151,7 +152,10 @@ fn end_idle(table: &mut Table, clock: u64, hand: &mut Box<Reply>, waiting: &mut 
     let callers = table.rules.callers;
     let mut at = 0;
     while at < places {
+        let before = table.seats[at].has_publisher();
         pass_time(&mut table.seats[at], clock, callers, hand, waiting);
+        let after = table.seats[at].has_publisher();
+        table.open_publishers = recounted(table.open_publishers, before, after);
         at += 1;
     }
 }
@@ -187,8 +191,8 @@ pub fn advance(
         return;
     }
     ledger.note_idle(table, clock);
-    let before = count_publishers(&table.seats);
+    let before = table.open_publishers;
     age(table, clock, hand, waiting);
-    let end = silent_end(before, count_publishers(&table.seats));
+    let end = silent_end(before, table.open_publishers);
     note_end(table, of_libsrt(table.rules.callers, end));
 }

@@ -9,7 +9,6 @@ use crate::ledger::Ledger;
 use crate::opening::check_entry;
 use crate::replies::Reply;
 use crate::reply_queue::{ReplyQueue, ScratchBoxes};
-use crate::seat::count_publishers;
 use crate::stage::{Stage, generations_of};
 use crate::table::Table;
 use srt_types::{Entry, Item, OpenFault};
@@ -183,12 +182,12 @@ impl Route {
         *clock
     }
 
-    /// Returns the number of open publishers, at most 2 (`laws::open_sessions`). Linear in the seats.
+    /// Returns the number of open publishers, at most 2 (`laws::open_sessions`). O(1).
     pub fn publishers(&self) -> usize
         ensures { (e : Terms) (index : ℕ) (items : List TheItem) → stands self.now e index items → result ≡ open_publishers (after e index items).sessions }
     {
         match &self.stage {
-            Stage::Open { table, .. } => count_publishers(&table.seats),
+            Stage::Open { table, .. } => table.open_publishers,
             Stage::Closed(_) => 0,
         }
     }

@@ -4,7 +4,8 @@ ghost use Rattle.std.specs.Prelude.{◌≡◌, ℕ, ◌+◌, ◌*◌, ◌%◌, �
 ghost use Rattle.std.specs.List.{list_all, list_any};
 ghost use Rattle.srt_types.specs.Given.{given};
 ghost use Rattle.srt_route.specs.Sessions.{is_same_peer};
-ghost use Rattle.srt_route.specs.Tables.{is_session_of, session_passes, holds, has_address, has_publisher, has_subscriber, used_buffers, publishes_from};
+ghost use Rattle.srt_route.specs.Tables.{is_session_of, holds, has_address, has_subscriber, used_buffers, publishes_from};
+ghost use Rattle.srt_route.specs.Seats.{has_publisher, session_passes};
 ghost use Rattle.srt_types.specs.Capped.{one_if};
 ghost use Rattle.srt_route.specs.Tables.{has_draining, has_expired, has_speaker, is_of_sort, is_vacant, heard_at, again_of, is_stored_for};
 ghost use Rattle.srt_route.specs.Tables.{stored_after, with_stored, written_of};
@@ -250,6 +251,16 @@ fn one_if(yes: bool) -> usize
     if yes { 1 } else { 0 }
 }
 
+/// Returns the number of open publishers after one seat changed, from whether a publisher was open there before and
+/// whether one is.
+pub fn recounted(publishers: usize, before: bool, after: bool) -> usize
+    requires few { publishers ≤ 17 }
+    requires counted { one_if before ≤ publishers }
+    ensures { result + one_if before ≡ publishers + one_if after }
+{
+    publishers + one_if(after) - one_if(before)
+}
+
 /// Returns the number of seats of a sort.
 #[inline(always)]
 fn count(seats: &[Seat], sort: Sort) -> usize
@@ -262,7 +273,7 @@ fn count(seats: &[Seat], sort: Sort) -> usize
     count
 }
 
-/// Returns the number of open publishers.
+/// Counts the open publishers. A route keeps their number: `Table::open_publishers`.
 pub fn count_publishers(seats: &[Seat]) -> usize
     ensures { result ≡ count_by has_publisher seats.now }
 {

@@ -1,9 +1,10 @@
 //! A route's sessions and their buffers.
 
-ghost use Rattle.std.specs.Prelude.{◌≡◌, ◌<◌, ◌≤◌, ◌^◌, ℕ, None, length, slice_index_or, IfOk, IfErr};
+ghost use Rattle.std.specs.Prelude.{◌≡◌, ◌<◌, ◌≤◌, ◌^◌, ℕ, None, count_by, length, slice_index_or, IfOk, IfErr};
+ghost use Rattle.srt_route.specs.Seats.{has_publisher};
 
 use crate::publisher_buffers::PublisherBuffers;
-use crate::seat::Seat;
+use crate::seat::{Seat, count_publishers};
 use srt_pub::Publisher;
 use srt_sub::Subscriber;
 use srt_types::{Entry, Mode, OpenFault, Rules};
@@ -25,12 +26,15 @@ pub struct Table {
     pub rules: Rules,
     /// One seat for each slot: at most 17.
     pub seats: Vec<Seat>,
+    /// The number of publishers' sessions that are open in the seats, draining ones included.
+    pub open_publishers: usize,
     /// The first and the second publisher buffers; their content has no meaning while no session uses them.
     pub publishers: Vec<Publisher>,
     /// The buffers of the active publisher if two publishers are open: see `standby.rt`.
     pub leading: PublisherBuffers,
     pub ghost index_below: { index < 511 },
     pub ghost few: { length seats.items ≤ 17 },
+    pub ghost counted: { open_publishers ≡ count_by has_publisher seats.items },
     pub ghost two: { length publishers.items ≡ 2 },
 }
 
@@ -95,6 +99,7 @@ impl Table {
                 return Err(OpenFault::OutOfMemory);
             };
         }
+        let open_publishers = count_publishers(&seats);
         Ok(Table {
             index: index as u32,
             mode: entry.mode,
@@ -102,6 +107,7 @@ impl Table {
             buffer: entry.buffer,
             rules: entry.rules,
             seats,
+            open_publishers,
             publishers,
             leading: PublisherBuffers::First,
         })

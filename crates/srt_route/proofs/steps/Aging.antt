@@ -10,7 +10,8 @@ use Rattle.srt_route.specs.declared.seat.Seat.{Seat}
 use Rattle.srt_route.specs.Sessions.{Session, is_draining, is_over_at, is_open_in, is_over, publishes, time_in, aged, aged_at}
 use Rattle.srt_route.specs.Buffers.{ExpiresTo}
 use Rattle.srt_route.specs.Parts.{role_of, until_of}
-use Rattle.srt_route.specs.Tables.{IsSession, IsStored, IsSeat, is_stored_over, stored_aged, is_kept_subscriber, session_passes}
+use Rattle.srt_route.specs.Tables.{IsSession, IsStored, IsSeat, is_stored_over, stored_aged, is_kept_subscriber}
+use Rattle.srt_route.specs.Seats.{session_passes}
 use Rattle.srt_route.proofs.model.Found.{found_passes, open_parts, Keeps, changed, while_open}
 use Rattle.srt_route.proofs.model.TakeOver.{KeepsMarks}
 use Rattle.srt_route.proofs.stored.Kept.{still_stored, Becomes, KeepsBuffers}

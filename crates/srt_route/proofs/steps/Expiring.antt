@@ -16,7 +16,8 @@ use Rattle.srt_route.specs.declared.ledger.Ledger.{Ledger}
 use Rattle.srt_route.specs.Sessions.{Session, advanced, aged, aged_at, is_over, is_publisher, marked, marked_if, of_libsrt, open_publishers, silent_end}
 use Rattle.srt_route.specs.Sessions.{takes_over, time_end, time_in, with_end}
 use Rattle.srt_route.specs.Ledgers.{entry_of, idle_cause}
-use Rattle.srt_route.specs.Tables.{IsTable, has_expired, is_stored_over, session_passes}
+use Rattle.srt_route.specs.Tables.{IsTable, has_expired, is_stored_over}
+use Rattle.srt_route.specs.Seats.{session_passes}
 use Rattle.srt_route.specs.inside.Notes.{NotesEach, Tells, cause_at, cause_if}
 use Rattle.srt_route.specs.inside.Standby.{active_in}
 use Rattle.srt_route.proofs.model.Lists.{how_many, one_more}

@@ -18,7 +18,8 @@ use Rattle.srt_route.specs.Past.{Past, Publishes, Subscribes, least_with}
 use Rattle.srt_route.specs.Sessions.{Session, is_open_in, publishes, terms_of, time_in}
 use Rattle.srt_route.specs.Buffers.{IsPast, IsSeated}
 use Rattle.srt_route.specs.Parts.{role_of}
-use Rattle.srt_route.specs.Tables.{IsSession, IsStored, IsSeat, IsTable, buffers_of, has_subscriber, session_passes}
+use Rattle.srt_route.specs.Tables.{IsSession, IsStored, IsSeat, IsTable, buffers_of, has_subscriber}
+use Rattle.srt_route.specs.Seats.{session_passes}
 use Rattle.srt_route.specs.inside.Delivery.{changed, fed, fed_past, HasRoom, HaveRoom, lesser}
 use Rattle.srt_route.proofs.model.Found.{changed as becomes}
 use Rattle.srt_route.proofs.stored.Kept.{still_stored, Becomes, same_buffers, some_buffers, seat_at}

@@ -423,10 +423,12 @@ with_publishers old new = record {
   buffer = old.buffer;
   rules = old.rules;
   seats = old.seats;
+  open_publishers = old.open_publishers;
   publishers = new.publishers;
   leading = old.leading;
   index_below = old.index_below;
   few = old.few;
+  counted = old.counted;
   two = new.two;
 }
 

@@ -39,7 +39,8 @@ use Rattle.srt_route.specs.Sessions.{Session, is_draining, is_open_in, is_publis
 use Rattle.srt_route.specs.Route.{Reply as Answer, sent, said_by, packets_at, packets_where}
 use Rattle.srt_route.specs.Buffers.{IsPast, IsSeated, datagrams_to}
 use Rattle.srt_route.specs.Parts.{buffers_used, role_of, until_of}
-use Rattle.srt_route.specs.Tables.{IsStored, IsSeat, IsTable, IsPublishing, Uses, session_passes, buffers_by, used_buffers, has_speaker}
+use Rattle.srt_route.specs.Tables.{IsStored, IsSeat, IsTable, IsPublishing, Uses, buffers_by, used_buffers, has_speaker}
+use Rattle.srt_route.specs.Seats.{session_passes}
 use Rattle.srt_route.specs.Tables.{is_heard_recently}
 use Rattle.srt_route.specs.inside.Delivery.{PublisherStands, IsPublisherOf, changed, amid}
 use Rattle.srt_route.specs.inside.Delivery.{IsPublisherAt, after_publisher, publisher_reported, reported_in, after_publisher_in}

@@ -20,7 +20,8 @@ use Rattle.srt_route.specs.Admission.{agreement_of, admitted, admitted_by}
 use Rattle.srt_route.specs.declared.admission.Admission.{Admission}
 use Rattle.srt_route.specs.Route.{Answers, sent, is_of, code_of, decided, decision, is_crowded, is_reserved, refused, refusal, considered, opens}
 use Rattle.srt_route.specs.Route.{concluded, heard_if}
-use Rattle.srt_route.specs.Tables.{IsSession, IsTable, IsTaken, holds, has_address, has_publisher, is_vacant, buffers_of, again_of, heard_at, with_stored}
+use Rattle.srt_route.specs.Tables.{IsSession, IsTable, IsTaken, holds, has_address, is_vacant, buffers_of, again_of, heard_at, with_stored}
+use Rattle.srt_route.specs.Seats.{has_publisher}
 use Rattle.srt_route.proofs.model.Found.{of_parts}
 use Rattle.srt_route.proofs.stored.Kept.{Alike, seat_at, seat_put}
 use Rattle.srt_route.proofs.stored.Stored.{address_among, caller_at, publishers_among, vacant_among, hears, hears_marks, heard_becomes, not_of_caller}

@@ -45,8 +45,10 @@ use Rattle.srt_route.specs.Route.{Reply, is_for, took_if, notified_if, lost_noti
 use Rattle.srt_route.specs.Buffers.{IsPast, IsSeated, datagrams_to}
 use Rattle.srt_route.specs.Parts.{role_of}
 use Rattle.srt_route.specs.PublisherBuffers.{place_of}
-use Rattle.srt_route.specs.Tables.{IsSeat, IsTable, IsTaken, IsPublishing, AreWide, Uses, used_buffers, buffers_of, has_publisher}
-use Rattle.srt_route.specs.Tables.{session_passes, stored_after, with_stored}
+use Rattle.srt_route.specs.Tables.{IsSeat, IsTable, IsTaken, IsPublishing, AreWide, Uses, used_buffers, buffers_of}
+use Rattle.srt_route.specs.Seats.{has_publisher}
+use Rattle.srt_route.specs.Tables.{stored_after, with_stored}
+use Rattle.srt_route.specs.Seats.{session_passes}
 use Rattle.srt_route.specs.inside.OneSession.{PublisherTook, PublisherEnds, PublisherEndsFor, SubscriberTook, SubscriberAnswers}
 use Rattle.srt_route.specs.inside.OneSession.{end_unless, is_lost, shutdowns_if}
 use Rattle.srt_route.proofs.model.Ending.{notified_alike}

@@ -11,7 +11,8 @@ use Rattle.srt_route.specs.declared.seat.Seat.{Seat}
 use Rattle.srt_route.specs.Sessions.{Session, is_idle, is_open_in, is_over_at, is_silent_at, publishes}
 use Rattle.srt_route.specs.Route.{Reply as Answer, sent, notified_if}
 use Rattle.srt_route.specs.Parts.{role_of, until_of}
-use Rattle.srt_route.specs.Tables.{IsSeat, IsSession, IsStored, is_kept_subscriber, is_stored_over, peer_idle, session_passes}
+use Rattle.srt_route.specs.Tables.{IsSeat, IsSession, IsStored, is_kept_subscriber, is_stored_over, peer_idle}
+use Rattle.srt_route.specs.Seats.{session_passes}
 use Rattle.srt_route.specs.inside.OneSession.{shutdowns_if}
 use Rattle.srt_route.specs.inside.Reports.{AreSaid}
 use Rattle.srt_route.proofs.model.Ending.{notified_alike}

@@ -94,7 +94,12 @@ end_records by_shutdown (Publisher b) = tt
 end_records by_shutdown (Draining b until) = tt
 end_records by_shutdown (Subscriber f) = refl
 
--- whether the end of a file was recorded
+-- whether the end of a file was recorded: only by a subscriber's session
+pub saw_reads : (p : Part) → saw_end p ≡ true → publishes (role_of p) ≡ false
+saw_reads (Publisher b) h = absurd (let bad : false ≡ true = h in cc)
+saw_reads (Draining b until) h = absurd (let bad : false ≡ true = h in cc)
+saw_reads (Subscriber f) h = refl
+
 pub saw_is : (p : Part) (role : Role) (f : Bool) → role_of p ≡ role → RecordsEnd p f → saw_end p ≡ (not (publishes role) && f)
 saw_is (Publisher b) role f same h = ap (λ (r : Role). not (publishes r) && f) same
 saw_is (Draining b until) role f same h = ap (λ (r : Role). not (publishes r) && f) same

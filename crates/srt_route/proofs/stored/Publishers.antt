@@ -19,7 +19,8 @@ use Rattle.srt_route.specs.declared.publisher_buffers.PublisherBuffers.TheVarian
 use Rattle.srt_route.specs.Parts.{buffers_used, role_of}
 use Rattle.srt_route.specs.PublisherBuffers.{place_of, is_same, other_buffers}
 use Rattle.srt_route.specs.Tables.{IsStored, IsTable, IsPublishing, AreWide, Uses}
-use Rattle.srt_route.specs.Tables.{session_passes, buffers_by, used_buffers, buffers_of, publishes_from}
+use Rattle.srt_route.specs.Tables.{buffers_by, used_buffers, buffers_of, publishes_from}
+use Rattle.srt_route.specs.Seats.{session_passes}
 use Rattle.srt_route.specs.inside.Standby.{unused_buffers}
 use Rattle.srt_route.proofs.model.Found.{found_passes, open_parts}
 use Rattle.srt_route.proofs.stored.Kept.{some_buffers, below_seats}

@@ -26,9 +26,11 @@ use Rattle.srt_route.specs.Sessions.{drains_open, ends_unless, is_draining, is_o
 use Rattle.srt_route.specs.Route.{is_of, is_for, heard_if, took_if}
 use Rattle.srt_route.specs.Buffers.{IsPast, IsSeated}
 use Rattle.srt_route.specs.Parts.{role_of, until_of}
-use Rattle.srt_route.specs.Tables.{IsSession, IsStored, IsSeat, IsTable, AreAlone, holds, has_address, has_draining, has_expired, has_publisher}
+use Rattle.srt_route.specs.Tables.{IsSession, IsStored, IsSeat, IsTable, AreAlone, holds, has_address, has_draining, has_expired}
+use Rattle.srt_route.specs.Seats.{has_publisher}
 use Rattle.srt_route.specs.Tables.{is_vacant, buffers_of}
-use Rattle.srt_route.specs.Tables.{session_passes, is_session_of, heard_at, is_stored_for, is_stored_over, stored_after, with_stored}
+use Rattle.srt_route.specs.Tables.{is_session_of, heard_at, is_stored_for, is_stored_over, stored_after, with_stored}
+use Rattle.srt_route.specs.Seats.{session_passes}
 use Rattle.srt_route.proofs.model.Lists.{how_many, one_more}
 use Rattle.srt_route.proofs.model.Found.{found_passes, any_is, found_in_place, found_of_caller, found_narrower, for_open, for_parts, open_parts, open_from}
 use Rattle.srt_route.proofs.model.Found.{of_parts, Keeps, changed, while_open}

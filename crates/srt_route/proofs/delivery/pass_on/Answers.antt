@@ -5,6 +5,7 @@ use Rattle.srt_pub.specs.Calls.{next_delivery, after_delivery}
 use Rattle.srt_pub.specs.Stands as publishers
 use Rattle.srt_route.specs.inside.Delivery.{AreFed, AreGiven}
 use Rattle.srt_route.proofs.steps.Passing.{one_due, none_due, fed_use_the_same}
+use Rattle.srt_route.proofs.stored.Counting.{fed_counted}
 use Rattle.srt_route.proofs.delivery.pass_on.Goals as goal
 
 pub returns-in_default-clause-given : goal.returns-in_default-clause-given
@@ -35,6 +36,9 @@ returns-clause-seats c terms initial opening stamp caller time q n h =
     let some = c.in-Some.ensures.some terms initial opening stamp caller q (omega (arith, n)) h in
     subst (λ (o : Option Arrival). AreGiven c.args.clock o old c.feed.new.seats) (sym one.1)
     (subst (λ (x : List ℕ). (0 < length x) × AreFed c.args.clock x old c.feed.new.seats) one.2 (some, c.feed.ensures))
+
+pub returns-clause-publishers : goal.returns-clause-publishers
+returns-clause-publishers c = fed_counted c.args.clock c.in-Some.payload.now c.args.seats.now c.feed.new.seats c.feed.ensures
 
 pub returns-clause-stays : goal.returns-clause-stays
 returns-clause-stays c = fed_use_the_same c.args.clock c.in-Some.payload.now c.args.seats.now c.feed.new.seats c.feed.ensures

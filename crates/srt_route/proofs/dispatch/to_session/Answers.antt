@@ -9,7 +9,8 @@ use Rattle.srt_route.specs.Sessions.{of_libsrt}
 use Rattle.srt_route.specs.Ledgers.{cause_of}
 use Rattle.srt_route.specs.inside.Files.{shutdown_end}
 use Rattle.srt_route.specs.inside.OneSession.{end_unless, is_lost, shutdowns_if}
-use Rattle.srt_route.specs.Tables.{is_stored_for, session_passes, has_publisher, used_buffers, stored_after, with_stored, written_of}
+use Rattle.srt_route.specs.Tables.{is_stored_for, used_buffers, stored_after, with_stored, written_of}
+use Rattle.srt_route.specs.Seats.{has_publisher, session_passes}
 use Rattle.srt_route.proofs.stored.Stored.{for_none_beyond, for_none_stored, for_one, same_read}
 use Rattle.srt_route.proofs.steps.Taking.{none_arrived, publisher_arrived, subscriber_arrived, stored_role}
 use Rattle.srt_route.proofs.steps.Noting.{end_grows, same_grow}

@@ -3,7 +3,7 @@ use Rattle.std.specs.Prelude.{count_by}
 use Rattle.srt_route.specs.Ends.{kept_of}
 use Rattle.srt_route.specs.Route.{delivered, drain_end, gives_some}
 use Rattle.srt_route.specs.Sessions.{open_publishers, settled, with_end}
-use Rattle.srt_route.specs.Tables.{IsTable, has_draining, has_publisher}
+use Rattle.srt_route.specs.Tables.{IsTable, has_draining}
 use Rattle.srt_route.proofs.stored.Stored.{publishers_among}
 use Rattle.srt_route.proofs.steps.Draining.{none_drained, still_none, still_settled}
 use Rattle.srt_route.proofs.draining.deliver_and_end.Goals as goal
@@ -32,10 +32,10 @@ returns-clause-table c e index ss body =
     let settled_is = c.settle_each.ensures.table e index fed fed_is in
     let later = map (settled e c.gives_some-delivered.result clock) fed in
     let end = c.drain_end-end.ensures
-    ∙ ap (λ (n : ℕ). drain_end n c.count_publishers.result)
-    (c.count_publishers-before.ensures ∙ ap (count_by has_publisher) c.deref-2.ensures.value ∙ publishers_among e index clock _ fed fed_is)
+    ∙ ap (λ (n : ℕ). drain_end n c.settle_each.new.table.open_publishers)
+    (c.deliver-2.new.table.counted ∙ publishers_among e index clock _ fed fed_is)
     ∙ ap (drain_end (open_publishers fed))
-    (c.count_publishers.ensures ∙ ap (count_by has_publisher) c.deref-3.ensures.value ∙ publishers_among e index clock _ later settled_is) in
+    (c.settle_each.new.table.counted ∙ publishers_among e index clock _ later settled_is) in
     subst
     (λ (g : Bool). IsTable e index clock c.note_end.new.table
     (map (with_end (drain_end (open_publishers fed) (open_publishers (map (settled e g clock) fed)))) (map (settled e g clock) fed)))

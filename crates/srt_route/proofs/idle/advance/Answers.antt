@@ -3,7 +3,7 @@ use Rattle.std.specs.Prelude.{count_by}
 use Rattle.srt_types.specs.declared.shared.Callers.{Callers}
 use Rattle.srt_types.specs.declared.shared.Rules.{Rules}
 use Rattle.srt_route.specs.Sessions.{aged, marked_if, of_libsrt, open_publishers, silent_end, takes_over, with_end}
-use Rattle.srt_route.specs.Tables.{IsTable, has_expired, has_publisher}
+use Rattle.srt_route.specs.Tables.{IsTable, has_expired}
 use Rattle.srt_route.proofs.stored.Stored.{publishers_among}
 use Rattle.srt_route.proofs.steps.Expiring.{lead_publishes, none_expired, still_aged}
 use Rattle.srt_route.proofs.idle.advance.Goals as goal
@@ -28,10 +28,10 @@ returns-clause-table c e index before ss h later early =
     let end = c.of_libsrt.ensures
     ∙ ap (λ (k : Callers). of_libsrt k c.silent_end-end.result) (ap (λ (r : Rules). r.callers) took_is.rules_are)
     ∙ ap (of_libsrt e.rules.callers) (c.silent_end-end.ensures
-    ∙ ap (λ (n : ℕ). silent_end n c.count_publishers.result)
-    (c.count_publishers-before.ensures ∙ ap (count_by has_publisher) c.deref-2.ensures.value ∙ publishers_among e index _ _ _ h)
+    ∙ ap (λ (n : ℕ). silent_end n c.age-2.new.table.open_publishers)
+    (c.args.table.now.counted ∙ publishers_among e index _ _ _ h)
     ∙ ap (silent_end (open_publishers ss))
-    (c.count_publishers.ensures ∙ ap (count_by has_publisher) c.deref-3.ensures.value ∙ publishers_among e index _ _ _ took_is
+    (c.age-2.new.table.counted ∙ publishers_among e index _ _ _ took_is
     ∙ lead_publishes (takes_over e clock older) older)) in
     subst (λ (x : Option Bool). IsTable e index clock c.note_end.new.table (map (with_end x) marked_are)) end
     (c.note_end.ensures clock e index marked_are took_is)

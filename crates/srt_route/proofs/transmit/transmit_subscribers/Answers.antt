@@ -41,7 +41,7 @@ loop-at-preserved c =
     let whole = c.has_whole_file-whole.result in
     let same : c.index.result.now ≡ x = same_read c.loop-at.table.seats.items at c.index.result.now x
     (omega (arith, inside, h.seats.seats.same_length)) c.index.ensures c.index_mut.ensures.value in
-    let has : HasWhole over x whole = subst (λ (z : Seat). HasWhole over z whole) same c.has_whole_file-whole.ensures in
+    let has : HasWhole over x whole = subst (λ (z : Seat). HasWhole over z whole) same c.has_whole_file-whole.ensures.whole in
     let active = active_in c.loop-at.table in
     let noted : NotesAt active old.publishers.items at (file_cause whole) clock x c.loop-at.ledger c.note.new.self =
     subst (λ (v : _). NotesAt active v.items at (file_cause whole) clock x c.loop-at.ledger c.note.new.self) h.seats.publishers_are

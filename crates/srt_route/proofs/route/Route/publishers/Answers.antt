@@ -1,14 +1,12 @@
 use Rattle.std.proofs.Common.{◌∙◌, ap, sym}
-use Rattle.std.specs.Prelude.{count_by}
 use Rattle.srt_route.specs.Route.{after}
-use Rattle.srt_route.specs.Tables.{has_publisher}
 use Rattle.srt_route.proofs.steps.Closing.{all_ended, no_publishers, table_of}
 use Rattle.srt_route.proofs.stored.Stored.{publishers_among}
 use Rattle.srt_route.proofs.route.Route.publishers.Goals as goal
 
 pub returns-in-Open : goal.returns-in-Open
 returns-in-Open c e index items h =
-    c.count_publishers.ensures ∙ ap (count_by has_publisher) c.deref.ensures.value
+    c.in-Open.table.counted
     ∙ publishers_among e index _ _ _ (table_of e index c.args.self.now (after e index items) c.in-Open.table _ h c.in-Open.is)
 
 pub returns-in-Closed : goal.returns-in-Closed
