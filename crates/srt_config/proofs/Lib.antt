@@ -11,3 +11,5 @@ pub mod Changed
 pub mod Placed
 pub mod Completed
 pub mod Groups
+pub mod AllFaults
+pub mod Listed

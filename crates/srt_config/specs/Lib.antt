@@ -19,3 +19,5 @@ pub mod ChangeLaws
 pub mod KeyFaults
 pub mod FaultPlace
 pub mod PlaceLaws
+pub mod AllFaults
+pub mod AllFaultLaws

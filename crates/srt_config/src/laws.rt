@@ -1,6 +1,7 @@
 //! Laws of the definitions.
 
 ghost use Rattle.srt_config.specs.KeyFaults.{IsFirstFault};
+ghost use Rattle.srt_config.specs.AllFaultLaws.{FirstIsRead};
 ghost use Rattle.srt_config.specs.PlaceLaws.{PlacesTheFault, PlacesTheDefaults};
 ghost use Rattle.srt_config.specs.DefaultLaws.{OwnBeforeDefault, NoneWithoutDefaults, WrittenOutStays};
 ghost use Rattle.srt_config.specs.ChangeLaws.{SameKeysDecide, SameRequestsNothing, ChangesAreMeant, RunsTheFile};
@@ -36,4 +37,10 @@ pub fn changes()
     ensures same { SameRequestsNothing }
     ensures meant { ChangesAreMeant }
     ensures runs { RunsTheFile }
+{}
+
+/// The first of all faults of a configuration is the one that reading it returns, with the part that has it; there is none exactly if it
+/// is read without a fault.
+pub fn listing()
+    ensures { FirstIsRead }
 {}

@@ -3,6 +3,7 @@
 
 mod changes;
 mod configs;
+mod listing;
 
 use crate::{Config, read_config};
 use std::process::Abort;

@@ -176,7 +176,11 @@ fn list_value(alloc: Global, key: Key, value: &Value) -> Result<Vec<Network>, Co
 
 /// Returns the networks at a key that may be missing.
 #[tactic(auto, unfolding(crate::specs::Access::list_at))]
-fn list_at(alloc: Global, table: &Table, key: Key) -> Result<Option<Vec<Network>>, ConfigFault>
+pub(crate) fn list_at(
+    alloc: Global,
+    table: &Table,
+    key: Key,
+) -> Result<Option<Vec<Network>>, ConfigFault>
     ensures { Gives (option_map (λ networks. networks.items)) result (list_at key (table_view table.now)) }
 {
     match found_at(table, key) {
@@ -234,7 +238,7 @@ fn key_value(alloc: Global, key: Key, value: &Value) -> Result<String, ConfigFau
 
 /// Returns the key of a role, at a key that may be missing.
 #[tactic(auto, unfolding(crate::specs::Access::key_at))]
-fn key_at(alloc: Global, table: &Table, key: Key) -> Result<Option<String>, ConfigFault>
+pub(crate) fn key_at(alloc: Global, table: &Table, key: Key) -> Result<Option<String>, ConfigFault>
     ensures { Gives (option_map string_bytes) result (key_at key (table_view table.now)) }
 {
     match found_at(table, key) {

@@ -76,7 +76,7 @@ pub fn has_defaults(table: &Table) -> bool
 }
 
 /// Returns the table at a key; None if there is no value, or none that is a table.
-fn table_at(table: &Table, key: Key) -> Option<&Table>
+pub(crate) fn table_at(table: &Table, key: Key) -> Option<&Table>
     ensures { option_map (λ t. table_view t.now) result ≡ table_at key (table_view table.now) }
 {
     match found_at(table, key) {
@@ -86,7 +86,7 @@ fn table_at(table: &Table, key: Key) -> Option<&Table>
 }
 
 /// Returns the list at a key; None if there is no value, or none that is a list.
-fn items_at(table: &Table, key: Key) -> Option<&[Value]>
+pub(crate) fn items_at(table: &Table, key: Key) -> Option<&[Value]>
     ensures { option_map (λ items. items_view items.now) result ≡ items_at key (table_view table.now) }
 {
     match found_at(table, key) {
@@ -136,7 +136,7 @@ fn mode_value(value: &Value) -> Result<Mode, ConfigFault>
 }
 
 #[tactic(auto, unfolding(crate::specs::Defaults::optional_mode_at))]
-fn optional_mode_at(table: &Table) -> Result<Option<Mode>, ConfigFault>
+pub(crate) fn optional_mode_at(table: &Table) -> Result<Option<Mode>, ConfigFault>
     ensures { seen (λ m. m) result ≡ optional_mode_at (table_view table.now) }
 {
     match found_at(table, Key::Mode) {

@@ -15,7 +15,7 @@ use srt_types::is_between;
 use std::alloc::Global;
 use toml::{Table, Value};
 
-fn is_key(keys: &[Key], text: &str) -> bool
+pub(crate) fn is_key(keys: &[Key], text: &str) -> bool
     ensures { result ≡ is_key keys.now text.now }
 {
     keys.iter().any(|key| key.name() == text)

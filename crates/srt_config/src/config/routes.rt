@@ -63,7 +63,7 @@ pub(crate) fn read_mode(text: &str) -> Result<Mode, ConfigFault>
 }
 
 #[tactic(auto, unfolding(crate::specs::Routes::mode_at))]
-fn mode_at(table: &Table) -> Result<Mode, ConfigFault>
+pub(crate) fn mode_at(table: &Table) -> Result<Mode, ConfigFault>
     ensures { seen (λ m. m) result ≡ mode_at (table_view table.now) }
 {
     read_mode(text_at(table, Key::Mode)?)
@@ -204,7 +204,7 @@ fn route_at(alloc: Global, before: &[Entry], table: &Table) -> Result<ReadRoute,
 }
 
 #[tactic(auto, using(crate::proofs::RouteItems::items_step))]
-fn are_tables(values: &[Value]) -> bool
+pub(crate) fn are_tables(values: &[Value]) -> bool
     ensures { result ≡ are_tables (items_view values.now) }
 {
     let mut rest = values;
@@ -217,7 +217,7 @@ fn are_tables(values: &[Value]) -> bool
     true
 }
 
-fn is_count(values: &[Value]) -> bool
+pub(crate) fn is_count(values: &[Value]) -> bool
     ensures { result ≡ is_between 1 511 (count (items_view values.now)) }
 {
     let limits = Key::Route.limits();

@@ -43,7 +43,7 @@ pub(crate) fn callers_at(table: &Table) -> Result<Option<Callers>, ConfigFault>
 }
 
 /// Returns the greatest number of slots that may be kept for publishers in a route of this number of sessions.
-fn most_reserved(sessions: u32) -> usize
+pub(crate) fn most_reserved(sessions: u32) -> usize
     ensures value { result ≡ most_reserved sessions }
     ensures few { result ≤ 2 }
 {
