@@ -4,6 +4,7 @@ pub mod Origins
 pub mod Sums
 pub mod Growing
 pub mod Tallies
+pub mod Takings
 pub mod Endings
 pub mod Scripted
 pub mod ShownInRound

@@ -1,6 +1,7 @@
 pub mod inside
 pub mod Devices
 pub mod Openings
+pub mod Takings
 pub mod Schedules
 pub mod Plans
 pub mod Starts

@@ -33,6 +33,7 @@ impl Plans {
     ghost use Rattle.srt_poller.specs.Openings.{route_reports};
     ghost use Rattle.srt_poller.specs.Plans.{never, waiting, closed_from, update_at, AreTimely};
     ghost use Rattle.srt_poller.specs.Changes.{plans_in, TookAddedRoutes, TookClosings, TookMany, TookChanges, OpensOne, Opens, Started};
+    ghost use Rattle.srt_poller.specs.Takings.{recorded, facts_of, TookAll};
 
     /// Returns the plans of routes with these names and schedules, before the first round.
     pub(crate) fn new(names: &Names, schedules: &[Schedule]) -> Plans
@@ -108,6 +109,7 @@ impl Plans {
         ensures added { TookAddedRoutes (O.added openings.old) (O.added openings.new) (plans_in self.old) (plans_in self.new)
             (names_of names.old) (names_of names.new) ends.old.items ends.new.items }
         ensures requested { O.requested openings.new ≡ O.requested openings.old }
+        ensures answered { O.answers openings.new ≡ O.answers openings.old }
         ensures all { O.no_more openings.new ⊎ (511 ≤ length (names_of names.new)) }
         ensures room { 511 ≤ vec_capacity ends.new }
         ensures latest { self.new.latest ≡ self.old.latest }
@@ -134,6 +136,8 @@ impl Plans {
     fn take_closings<O: Openings>(&mut self, openings: &mut O, round: u64)
         ensures requested { TookClosings round (O.requested openings.old) (O.requested openings.new) (plans_in self.old) (plans_in self.new) }
         ensures added { O.added openings.new ≡ O.added openings.old }
+        ensures answered { O.answers openings.new ≡ O.answers openings.old }
+        ensures no_more { O.no_more openings.old → O.no_more openings.new }
         ensures all { O.none_to_close openings.new ⊎ TookMany (O.requested openings.old) (O.requested openings.new) }
         ensures latest { self.new.latest ≡ self.old.latest }
     {
@@ -162,6 +166,11 @@ impl Plans {
         ensures took { TookChanges round (route_reports (O.added openings.old) (O.requested openings.old))
             (route_reports (O.added openings.new) (O.requested openings.new))
             (plans_in self.old) (plans_in self.new) (names_of names.old) (names_of names.new) ends.old.items ends.new.items }
+        ensures taken { TookAll
+            (facts_of (λ (o : O). recorded (O.answers o) (route_reports (O.added o) (O.requested o))) O.unchanged O.no_more O.none_to_close)
+            (length (names_of names.old)) (length (names_of names.new))
+            (recorded (O.answers openings.old) (route_reports (O.added openings.old) (O.requested openings.old)))
+            (recorded (O.answers openings.new) (route_reports (O.added openings.new) (O.requested openings.new))) }
         ensures rest { RestBetween round self.new.due (plans_in self.new) (names_of names.new) }
         ensures room { 511 ≤ vec_capacity ends.new }
         ensures latest { self.new.latest ≡ self.old.latest }

@@ -8,6 +8,7 @@ ghost use Rattle.srt_poller.specs.Devices.{heard, carried};
 ghost use Rattle.srt_poller.specs.Pumped.{before, after};
 ghost use Rattle.srt_poller.specs.Openings.{route_reports};
 ghost use Rattle.srt_poller.specs.Changes.{PumpedChanging, ToldChanging};
+ghost use Rattle.srt_poller.specs.Takings.{recorded, facts_of, TookAllIn};
 
 use crate::context::PollerTask;
 use crate::devices::{Source, Wire};
@@ -55,6 +56,11 @@ pub fn pump_changing<R: Wait, S: Source, W: Wire, G: Signals, O: Openings>(
         (before (names_of names.old) (heard (S.gave source.old) (S.calls source.old)) (carried (W.handed wire.old) (W.attempts wire.old)) ends.old.items)
         (after (names_of names.new) (heard (S.gave source.new) (S.calls source.new)) (carried (W.handed wire.new) (W.attempts wire.new))
         ends.new.items result.report) }
+    ensures taken { TookAllIn
+        (facts_of (λ (o : O). recorded (O.answers o) (route_reports (O.added o) (O.requested o))) O.unchanged O.no_more O.none_to_close)
+        result.rounds (length (names_of names.old)) (length (names_of names.new))
+        (recorded (O.answers openings.old) (route_reports (O.added openings.old) (O.requested openings.old)))
+        (recorded (O.answers openings.new) (route_reports (O.added openings.new) (O.requested openings.new))) }
     ensures room { 511 ≤ vec_capacity ends.new }
     ensures rounds { result.rounds ≤ task.now.rounds }
     ensures whole { (result.rounds ≡ task.now.rounds) ⊎ G.stops task.now.signals.now }

@@ -25,6 +25,15 @@ pub struct PollerTask<'a, R, G> {
     pub signals: &'a G,
 }
 
+/// A round to make, whose changes have been taken.
+#[derive(Drop)]
+pub(crate) struct RoundOrder<'a, 'b, R, G> {
+    /// What the poller does.
+    pub(crate) task: &'b PollerTask<'a, R, G>,
+    /// The round closes all.
+    pub(crate) closes_all: bool,
+}
+
 /// The inputs of the lobby's classification.
 #[derive(Clone, Copy)]
 pub(crate) struct Classifier<'a, 'b> {

@@ -22,7 +22,7 @@
 //! the greatest timestamp in `latest.rt`, the calls that devices in memory record in `journal.rt`, how a
 //! socket's source waits in `pace.rt` and `density.rt`, tuned constants in `tuning.rt`, laws of the definitions in `laws.rt`.
 //! `specs/History.antt` has the events of a poller, `specs/Plans.antt` what becomes of schedules
-//! while routes are added and removed, `specs/Told.antt` what an observer is told.
+//! while routes are added and removed, `specs/Takings.antt` which changes are taken, `specs/Told.antt` what an observer is told.
 #![tactic(auto)]
 
 mod buffers;

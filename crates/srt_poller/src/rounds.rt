@@ -8,9 +8,10 @@ ghost use Rattle.srt_poller.specs.Reports.{nothing};
 ghost use Rattle.srt_poller.specs.Beginnings.{RestBetween};
 ghost use Rattle.srt_poller.specs.Plans.{never, AreTimely};
 ghost use Rattle.srt_poller.specs.Changes.{plans_in, RoundWent, RoundsChanging};
+ghost use Rattle.srt_poller.specs.Takings.{recorded, TookAllIn};
 
 use crate::changing::Plans;
-use crate::context::{Classifier, PollerTask, RoundContext};
+use crate::context::{Classifier, PollerTask, RoundContext, RoundOrder};
 use crate::devices::{Source, Wire};
 use crate::ends::Ends;
 use crate::poller::Poller;
@@ -70,27 +71,28 @@ impl PollerRounds {
     #[inline(always)]
     pub(crate) fn round<R: Wait, S: Source, W: Wire, G: Signals>(
         &mut self,
-        task: &PollerTask<R, G>,
+        order: &RoundOrder<R, G>,
         names: &mut Names,
         ends: &mut [Ends],
         source: &mut S,
         wire: &mut W,
-        closes_all: bool,
     )
         requires known { length (plans_in self.old.plans) ≡ length (names_of names.old) }
         requires ends { length ends.old ≡ length (names_of names.old) }
         requires rest { RestBetween self.old.next self.old.plans.due (plans_in self.old.plans) (names_of names.old) }
         requires fits { self.old.next < never }
-        ensures went { RoundWent (lobby_setting task.now.secret.now (G.knows task.now.signals.now)) closes_all self.old.next self.old.plans.due
-            (plans_in self.old.plans) (plans_in self.new.plans) (names_of names.old) (names_of names.new) ends.old (begun_phase self.old.poller)
+        ensures went { RoundWent (lobby_setting order.now.task.now.secret.now (G.knows order.now.task.now.signals.now)) order.now.closes_all
+            self.old.next self.old.plans.due (plans_in self.old.plans) (plans_in self.new.plans) (names_of names.old) (names_of names.new)
+            ends.old (begun_phase self.old.poller)
             (λ es. listening (heard (S.gave source.old) (S.calls source.old)) (carried (W.handed wire.old) (W.attempts wire.old)) es self.old.poller)
             (listening (heard (S.gave source.new) (S.calls source.new)) (carried (W.handed wire.new) (W.attempts wire.new)) ends.new self.new.poller)
             self.old.plans.latest.moment self.new.plans.latest.moment }
         ensures rest { RestBetween self.new.next self.new.plans.due (plans_in self.new.plans) (names_of names.new) }
         ensures next { self.new.next ≡ self.old.next + 1 }
     {
+        let task = order.task;
         let round = self.next;
-        self.plans.begin(task, names, ends, round, closes_all);
+        self.plans.begin(task, names, ends, round, order.closes_all);
         let context = RoundContext {
             rt: task.rt,
             alloc: task.alloc,
@@ -129,6 +131,8 @@ impl PollerRounds {
             (round_state ns self.old.next self.old.plans.latest.moment))
             (listening (heard (S.gave source.new) (S.calls source.new)) (carried (W.handed wire.new) (W.attempts wire.new)) (E.list table.new)
             self.new.poller (round_state (names_of names.new) (self.old.next + result) self.new.plans.latest.moment)) }
+        ensures taken { TookAllIn E.facts result (length (names_of names.old)) (length (names_of names.new))
+            (recorded (E.answers table.old) (E.reports table.old)) (recorded (E.answers table.new) (E.reports table.new)) }
         ensures room { E.room table.new }
         ensures same { E.borrows table.new ≡ E.borrows table.old }
         ensures rounds { result ≤ task.now.rounds }
@@ -140,7 +144,8 @@ impl PollerRounds {
                 return made;
             };
             table.take_changes(&mut self.plans, names, self.next);
-            table.round(self, task, names, source, wire, closes_all);
+            let order = RoundOrder { task, closes_all };
+            table.round(self, &order, names, source, wire);
         }
         task.rounds
     }

@@ -4,7 +4,7 @@ ghost use Rattle.std.specs.Prelude.{◌≤◌};
 ghost use Rattle.std.specs.Vec.{vec_capacity};
 
 use crate::changing::Plans;
-use crate::context::PollerTask;
+use crate::context::RoundOrder;
 use crate::devices::{Source, Wire};
 use crate::ends::Ends;
 use crate::openings::Openings;
@@ -15,7 +15,7 @@ use std::sync::Wait;
 
 /// The poller's ends of all routes, and the changes of the routes.
 pub(crate) trait RouteTable {
-    ghost use Rattle.std.specs.Prelude.{◌≡◌, ◌<◌, ◌+◌, List, length};
+    ghost use Rattle.std.specs.Prelude.{◌≡◌, ◌<◌, ◌+◌, Bool, Option, List, length};
     ghost use Rattle.std.specs.Borrow.{GName};
     ghost use Rattle.srt_lobby.specs.Names.{names_of};
     ghost use Rattle.srt_poller.specs.declared.ends.Ends.{Ends as TheEnds};
@@ -23,6 +23,7 @@ pub(crate) trait RouteTable {
     ghost use Rattle.srt_poller.specs.Pollers.{lobby_setting, listening, begun_phase};
     ghost use Rattle.srt_poller.specs.Beginnings.{RestBetween};
     ghost use Rattle.srt_poller.specs.Openings.{RouteReports};
+    ghost use Rattle.srt_poller.specs.Takings.{OpeningsFacts, recorded, TookAll};
     ghost use Rattle.srt_poller.specs.Plans.{never};
     ghost use Rattle.srt_poller.specs.Changes.{plans_in, TookChanges, RoundWent};
 
@@ -31,6 +32,12 @@ pub(crate) trait RouteTable {
 
     /// What its openings have reported.
     ghost reports: { Self → RouteReports };
+
+    /// All answers of its openings whether there are changes.
+    ghost answers: { Self → Option (List Bool) };
+
+    /// What is known of its openings when they have recorded something.
+    ghost facts: { OpeningsFacts };
 
     /// What it needs to take changes. Each call keeps it.
     ghost room: { Self → Type 0 };
@@ -46,6 +53,8 @@ pub(crate) trait RouteTable {
         requires rest { RestBetween round plans.old.due (plans_in plans.old) (names_of names.old) }
         ensures took { TookChanges round (reports self.old) (reports self.new) (plans_in plans.old) (plans_in plans.new)
             (names_of names.old) (names_of names.new) (list self.old) (list self.new) }
+        ensures taken { TookAll facts (length (names_of names.old)) (length (names_of names.new))
+            (recorded (answers self.old) (reports self.old)) (recorded (answers self.new) (reports self.new)) }
         ensures rest { RestBetween round plans.new.due (plans_in plans.new) (names_of names.new) }
         ensures latest { plans.new.latest ≡ plans.old.latest }
         ensures room { room self.new }
@@ -55,19 +64,18 @@ pub(crate) trait RouteTable {
     fn round<R: Wait, S: Source, W: Wire, G: Signals>(
         &mut self,
         rounds: &mut PollerRounds,
-        task: &PollerTask<R, G>,
+        order: &RoundOrder<R, G>,
         names: &mut Names,
         source: &mut S,
         wire: &mut W,
-        closes_all: bool,
     )
         requires known { length (plans_in rounds.old.plans) ≡ length (names_of names.old) }
         requires ends { length (list self.old) ≡ length (names_of names.old) }
         requires room { room self.old }
         requires rest { RestBetween rounds.old.next rounds.old.plans.due (plans_in rounds.old.plans) (names_of names.old) }
         requires fits { rounds.old.next < never }
-        ensures went { RoundWent (lobby_setting task.now.secret.now (G.knows task.now.signals.now)) closes_all rounds.old.next rounds.old.plans.due
-            (plans_in rounds.old.plans)
+        ensures went { RoundWent (lobby_setting order.now.task.now.secret.now (G.knows order.now.task.now.signals.now)) order.now.closes_all
+            rounds.old.next rounds.old.plans.due (plans_in rounds.old.plans)
             (plans_in rounds.new.plans) (names_of names.old) (names_of names.new) (list self.old) (begun_phase rounds.old.poller)
             (λ es. listening (heard (S.gave source.old) (S.calls source.old)) (carried (W.handed wire.old) (W.attempts wire.old)) es rounds.old.poller)
             (listening (heard (S.gave source.new) (S.calls source.new)) (carried (W.handed wire.new) (W.attempts wire.new)) (list self.new)
@@ -77,6 +85,7 @@ pub(crate) trait RouteTable {
         ensures next { rounds.new.next ≡ rounds.old.next + 1 }
         ensures ends { length (list self.new) ≡ length (list self.old) }
         ensures reports { reports self.new ≡ reports self.old }
+        ensures answers { answers self.new ≡ answers self.old }
         ensures room { room self.new }
         ensures same { borrows self.new ≡ borrows self.old };
 }
@@ -89,12 +98,17 @@ pub(crate) struct FixedRoutes<'a> {
 }
 
 impl RouteTable for FixedRoutes<'_> {
-    ghost use Rattle.std.specs.Prelude.{[], ◌∷◌};
+    ghost use Rattle.std.specs.Prelude.{None, [], ◌∷◌};
     ghost use Rattle.srt_poller.specs.Openings.{no_reports};
+    ghost use Rattle.srt_poller.specs.Takings.{no_facts};
 
     ghost list = { λ t. t.ends.now };
 
     ghost reports = { λ t. no_reports };
+
+    ghost answers = { λ t. None };
+
+    ghost facts = { no_facts };
 
     ghost room = { λ t. Unit {0} };
 
@@ -107,13 +121,12 @@ impl RouteTable for FixedRoutes<'_> {
     fn round<R: Wait, S: Source, W: Wire, G: Signals>(
         &mut self,
         rounds: &mut PollerRounds,
-        task: &PollerTask<R, G>,
+        order: &RoundOrder<R, G>,
         names: &mut Names,
         source: &mut S,
         wire: &mut W,
-        closes_all: bool,
     ) {
-        rounds.round(task, names, self.ends, source, wire, closes_all);
+        rounds.round(order, names, self.ends, source, wire);
     }
 }
 
@@ -130,10 +143,15 @@ impl<O: Openings> RouteTable for ChangingRoutes<'_, O> {
     ghost use Rattle.std.specs.Prelude.{◌≤◌, [], ◌∷◌};
     ghost use Rattle.std.specs.Vec.{vec_capacity};
     ghost use Rattle.srt_poller.specs.Openings.{route_reports};
+    ghost use Rattle.srt_poller.specs.Takings.{recorded, facts_of};
 
     ghost list = { λ t. t.ends.now.items };
 
     ghost reports = { λ t. route_reports (O.added t.openings.now) (O.requested t.openings.now) };
+
+    ghost answers = { λ t. O.answers t.openings.now };
+
+    ghost facts = { facts_of (λ (o : O). recorded (O.answers o) (route_reports (O.added o) (O.requested o))) O.unchanged O.no_more O.none_to_close };
 
     ghost room = { λ t. 511 ≤ vec_capacity t.ends.now };
 
@@ -148,19 +166,11 @@ impl<O: Openings> RouteTable for ChangingRoutes<'_, O> {
     fn round<R: Wait, S: Source, W: Wire, G: Signals>(
         &mut self,
         rounds: &mut PollerRounds,
-        task: &PollerTask<R, G>,
+        order: &RoundOrder<R, G>,
         names: &mut Names,
         source: &mut S,
         wire: &mut W,
-        closes_all: bool,
     ) {
-        rounds.round(
-            task,
-            names,
-            self.ends.as_mut_slice(),
-            source,
-            wire,
-            closes_all,
-        );
+        rounds.round(order, names, self.ends.as_mut_slice(), source, wire);
     }
 }

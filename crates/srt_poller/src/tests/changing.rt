@@ -51,7 +51,7 @@ impl<'a> Openings for Changes<'a> {
 
     ghost requested = { λ o. None };
 
-    fn has_changes(&self) -> bool {
+    fn has_changes(&mut self) -> bool {
         let round = self.rounds.get();
         self.rounds.set(round.saturating_add(1));
         let comes = self.newcomer.is_some() && self.comes_in == round;

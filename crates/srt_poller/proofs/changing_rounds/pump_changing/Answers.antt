@@ -39,3 +39,8 @@ returns-clause-told g c =
 
 pub returns-clause-pumped : goal.returns-clause-pumped
 returns-clause-pumped g c = (returns-clause-told g c).0
+
+pub returns-clause-taken : goal.returns-clause-taken
+returns-clause-taken g c =
+    let last_openings : c.openings-1.given.0 ≡ c.make-made.new.table.openings.now = search (rules, c.make-made.ensures.same) in
+    rw last_openings c.make-made.ensures.taken

@@ -12,6 +12,8 @@ loop-init g c = (
   requested_none c.args.round (g.O.Openings.requested c.args.openings.now) (plans_in c.args.self.now),
   refl,
   refl,
+  refl,
+  λ none. none,
   ([], sym (joined_none (g.O.Openings.requested c.args.openings.now)), refl),
 )
 
@@ -22,13 +24,15 @@ loop-preserved g c = (
       c.in-Some.ensures.requested c.close_from.ensures.plans c.loop.invariant.0,
   c.in-Some.ensures.added ∙ c.loop.invariant.1,
   c.close_from.ensures.latest ∙ c.loop.invariant.2,
+  c.in-Some.ensures.answered ∙ c.loop.invariant.3,
+  λ none. c.in-Some.ensures.no_more (c.loop.invariant.4 none),
   (
-    c.loop.invariant.3.0 ++ c.in-Some.route ∷ [],
-    c.in-Some.ensures.requested ∙ ap (λ (o : Option (List ℕ)). joined o (c.in-Some.route ∷ [])) c.loop.invariant.3.1
-        ∙ joined_twice (g.O.Openings.requested c.args.openings.now) c.loop.invariant.3.0 (c.in-Some.route ∷ []),
-    omega (arith, length-append c.loop.invariant.3.0 (c.in-Some.route ∷ []), c.loop.invariant.3.2),
+    c.loop.invariant.5.0 ++ c.in-Some.route ∷ [],
+    c.in-Some.ensures.requested ∙ ap (λ (o : Option (List ℕ)). joined o (c.in-Some.route ∷ [])) c.loop.invariant.5.1
+        ∙ joined_twice (g.O.Openings.requested c.args.openings.now) c.loop.invariant.5.0 (c.in-Some.route ∷ []),
+    omega (arith, length-append c.loop.invariant.5.0 (c.in-Some.route ∷ []), c.loop.invariant.5.2),
   ),
 )
 
 pub returns-clause-all : goal.returns-clause-all
-returns-clause-all g c = inr (c.loop.invariant.3.0, c.loop.invariant.3.1, omega (arith, c.loop-test.false, c.loop.invariant.3.2))
+returns-clause-all g c = inr (c.loop.invariant.5.0, c.loop.invariant.5.1, omega (arith, c.loop-test.false, c.loop.invariant.5.2))

@@ -8,4 +8,6 @@ invariant-loop g l =
     TookClosings l.round (g.O.Openings.requested l.fn.openings) (g.O.Openings.requested l.openings) (plans_in l.fn.self) (plans_in l.self)
     × (g.O.Openings.added l.openings ≡ g.O.Openings.added l.fn.openings)
     × (l.self.latest ≡ l.fn.self.latest)
+    × (g.O.Openings.answers l.openings ≡ g.O.Openings.answers l.fn.openings)
+    × (g.O.Openings.no_more l.fn.openings → g.O.Openings.no_more l.openings)
     × ((requested : List ℕ) × (g.O.Openings.requested l.openings ≡ joined (g.O.Openings.requested l.fn.openings) requested) × (length requested ≡ l.counter))

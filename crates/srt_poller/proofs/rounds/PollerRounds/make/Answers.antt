@@ -1,11 +1,13 @@
-use Rattle.std.proofs.Common.{◌≡◌, ◌∙◌, refl, sym, ap, subst, ℕ, ◌+◌, arith}
+use Rattle.std.proofs.Common.{◌≡◌, ◌∙◌, refl, sym, ap, subst, ℕ, ◌+◌, length, arith}
 use Rattle.srt_lobby.specs.Names.{names_of}
 use Rattle.srt_poller.specs.declared.latest.Latest.{Latest}
 use Rattle.srt_poller.specs.Devices.{heard, carried}
 use Rattle.srt_poller.specs.Pollers.{world_of, round_state}
 use Rattle.srt_poller.specs.Beginnings.{RestBetween}
 use Rattle.srt_poller.specs.Changes.{plans_in}
+use Rattle.srt_poller.specs.Takings.{recorded}
 use Rattle.srt_poller.proofs.Remaking.{made_none, made_round, made_rounds}
+use Rattle.srt_poller.proofs.Takings.{all_taken_none, all_taken_next}
 use Rattle.srt_poller.proofs.rounds.PollerRounds.make.Goals as goal
 
 pub loop-made-init : goal.loop-made-init
@@ -23,6 +25,8 @@ loop-made-init g c =
       sym same,
       c.requires.room,
       refl,
+      all_taken_none g.E.RouteTable.facts (length (names_of c.args.names.now))
+          (recorded (g.E.RouteTable.answers c.args.table.now) (g.E.RouteTable.reports c.args.table.now)),
     )
 
 pub take_changes-requires : goal.take_changes-requires
@@ -76,6 +80,11 @@ loop-made-preserved g c =
       next,
       c.round.ensures.room,
       c.round.ensures.same ∙ c.take_changes.ensures.same ∙ c.loop-made.invariant.6,
+      all_taken_next g.E.RouteTable.facts made (length (names_of c.args.names.now)) (length (names_of c.loop-made.names))
+          (length (names_of c.round.new.names)) (recorded (g.E.RouteTable.answers c.args.table.now) (reports c.args.table.now))
+          (recorded (g.E.RouteTable.answers c.loop-made.table) (reports c.loop-made.table))
+          (recorded (g.E.RouteTable.answers c.round.new.self) (reports c.round.new.self)) c.loop-made.invariant.7
+          (rw (c.round.ensures.answers, c.round.ensures.reports, sym m.2 ∙ c.take_changes.ensures.took.3.all_ends) c.take_changes.ensures.taken),
     )
 
 pub returns-in_default-clause-made : goal.returns-in_default-clause-made
@@ -85,3 +94,7 @@ pub returns-clause-made : goal.returns-clause-made
 returns-clause-made g c =
     let same : c.loop-made.made ≡ c.args.task.now.rounds = omega (arith, c.loop-made-test.false) in
     made_rounds (rw same at c.loop-made.invariant.0)
+
+pub returns-clause-taken : goal.returns-clause-taken
+returns-clause-taken g c =
+    let same : c.loop-made.made ≡ c.args.task.now.rounds = omega (arith, c.loop-made-test.false) in rw same at c.loop-made.invariant.7

@@ -4,6 +4,7 @@ use Rattle.srt_poller.specs.Devices.{heard, carried}
 use Rattle.srt_poller.specs.Pollers.{world_of, round_state}
 use Rattle.srt_poller.specs.Beginnings.{RestBetween}
 use Rattle.srt_poller.specs.Changes.{plans_in}
+use Rattle.srt_poller.specs.Takings.{recorded, TookAllIn}
 use Rattle.srt_poller.proofs.Remaking.{AreMade}
 use Rattle.srt_poller.proofs.rounds.PollerRounds.make.Given as goal
 
@@ -24,3 +25,6 @@ invariant-loop-made g l =
     × (l.self.next ≡ l.fn.self.next + l.made)
     × g.E.RouteTable.room l.table
     × (g.E.RouteTable.borrows l.table ≡ g.E.RouteTable.borrows l.fn.table)
+    × TookAllIn g.E.RouteTable.facts l.made (length (names_of l.fn.names)) (length (names_of l.names))
+    (recorded (g.E.RouteTable.answers l.fn.table) (g.E.RouteTable.reports l.fn.table))
+    (recorded (g.E.RouteTable.answers l.table) (g.E.RouteTable.reports l.table))

@@ -9,7 +9,7 @@ use Rattle.srt_poller.proofs.rounds.PollerRounds.round.Goals as goal
 pub make_round-requires : goal.make_round-requires
 make_round-requires g c =
     c.begin.auto.ends ∙ c.requires.ends
-    ∙ sym (as_many (names_of c.begin.new.names) (names_of c.args.names.now) (started_texts c.args.closes_all c.args.self.now.next
+    ∙ sym (as_many (names_of c.begin.new.names) (names_of c.args.names.now) (started_texts c.args.order.now.closes_all c.args.self.now.next
     c.args.self.now.plans.due c.args.self.now.plans.latest.moment (plans_in c.args.self.now.plans) (plans_in c.begin.new.self)
     (names_of c.args.names.now) (names_of c.begin.new.names) c.args.ends.now c.begin.new.ends c.begin.ensures.started))
 
