@@ -1,5 +1,5 @@
 -- The shares of a second's lines: those about sessions have one, refusals another. By all calls so far, the newest first.
-use Rattle.std.specs.Prelude.{◌≡◌, ℕ, ◌+◌, ◌≤◌, Bool, true, false, List, [], ◌∷◌, ◌++◌, min, if◌then◌else◌}
+use Rattle.std.specs.Prelude.{◌≡◌, ℕ, ◌+◌, ◌-◌, ◌^◌, ◌≤◌, Bool, true, false, List, [], ◌∷◌, ◌++◌, min, if◌then◌else◌}
 use Rattle.srt_log.specs.declared.shares.LineKind.{LineKind}
 use Rattle.srt_log.specs.declared.shares.LineKind.TheVariants.{Session, Refusal}
 use Rattle.srt_log.specs.declared.shares.LineShares.{LineShares}
@@ -17,6 +17,13 @@ pub record SharedCall : Type 0 where
 
 abbrev pub line_of : LineKind → (moment : ℕ) → SharedCall
 line_of kind moment = record { kind = kind; call = record { is_line = true; moment = moment } }
+
+-- a look whether a new second has begun, at both kinds
+abbrev pub poll_of : LineKind → (moment : ℕ) → SharedCall
+poll_of kind moment = record { kind = kind; call = record { is_line = false; moment = moment } }
+
+abbrev pub polled : (moment : ℕ) → List SharedCall → List SharedCall
+polled moment calls = poll_of Session moment ∷ poll_of Refusal moment ∷ calls
 
 abbrev pub is_kind : LineKind → LineKind → Bool
 is_kind Session Session = true
@@ -36,6 +43,17 @@ is_shared calls kind moment = is_within (share_of kind) (calls_of kind calls) mo
 -- what the latest second of a kind left out, where a new one begins at this moment
 abbrev pub omitted_of : List SharedCall → LineKind → (moment : ℕ) → ℕ
 omitted_of calls kind moment = omitted_within (share_of kind) (calls_of kind calls) moment
+
+-- the same of both kinds together, up to 2^64 - 1
+abbrev pub omitted_in : List SharedCall → (moment : ℕ) → ℕ
+omitted_in calls moment = min (omitted_of calls Session moment + omitted_of calls Refusal moment) (2 ^ 64 - 1)
+
+-- what the latest second of a kind has left out so far, and of both kinds
+abbrev pub beyond_of : List SharedCall → LineKind → ℕ
+beyond_of calls kind = lines_in (calls_of kind calls) - share_of kind
+
+abbrev pub beyond_in : List SharedCall → ℕ
+beyond_in calls = min (beyond_of calls Session + beyond_of calls Refusal) (2 ^ 64 - 1)
 
 -- each kind has a limit of its own
 pub record AreShares (shares : LineShares) (calls : List SharedCall) : Type 0 where

@@ -1,6 +1,6 @@
 //! The limit of lines in a second.
 
-ghost use Rattle.std.specs.Prelude.{◌≡◌, [], ◌∷◌, List, true, false};
+ghost use Rattle.std.specs.Prelude.{◌≡◌, ◌-◌, [], ◌∷◌, List, true, false};
 
 use srt_types::product_limits::MAX_LOG_LINES;
 
@@ -26,7 +26,7 @@ pub struct LineLimit {
 }
 
 impl LineLimit {
-    ghost use Rattle.srt_log.specs.LineLimit.{LimitCall, StandsFor, left_out_in, is_written, omitted_at, is_within, omitted_within};
+    ghost use Rattle.srt_log.specs.LineLimit.{LimitCall, StandsFor, lines_in, left_out_in, is_written, omitted_at, is_within, omitted_within};
 
     /// Returns a limit before its first line.
     pub fn new() -> LineLimit
@@ -69,8 +69,15 @@ impl LineLimit {
         }
     }
 
-    // Begins a new second, if it has come, and returns how many lines the one before had beyond so many; else 0.
-    fn begin_second(&mut self, moment: u64, most: u64) -> u64
+    /// Returns how many lines of the current second are beyond so many.
+    pub(crate) fn beyond(&self, most: u64) -> u64
+        ensures { (calls : List LimitCall) → StandsFor self.now calls → result ≡ lines_in calls - most }
+    {
+        self.lines.saturating_sub(most)
+    }
+
+    /// Begins a new second, if it has come, and returns how many lines the one before had beyond so many; else 0.
+    pub(crate) fn begin_second(&mut self, moment: u64, most: u64) -> u64
         ensures stands { (calls : List LimitCall) → StandsFor self.old calls → StandsFor self.new (record { is_line = false; moment = moment } ∷ calls) }
         ensures left_out { (calls : List LimitCall) → StandsFor self.old calls → result ≡ omitted_within most calls moment }
     {

@@ -28,7 +28,7 @@ pub struct LineShares {
 }
 
 impl LineShares {
-    ghost use Rattle.srt_log.specs.LineShares.{SharedCall, line_of, AreShares, is_shared, omitted_of};
+    ghost use Rattle.srt_log.specs.LineShares.{SharedCall, line_of, polled, AreShares, is_shared, omitted_of, omitted_in, beyond_in};
 
     /// Returns shares before their first line.
     pub fn new() -> LineShares
@@ -51,5 +51,23 @@ impl LineShares {
             LineKind::Session => self.sessions.line_within(moment, SESSION_LINES),
             LineKind::Refusal => self.refusals.line_within(moment, REFUSAL_LINES),
         }
+    }
+    /// Returns how many lines of both kinds were left out in the second before, if a new one has begun by this time, and 0
+    /// otherwise. Returns the number once.
+    pub fn poll(&mut self, moment: u64) -> u64
+        ensures stands { (calls : List SharedCall) → AreShares self.old calls → AreShares self.new (polled moment calls) }
+        ensures left_out { (calls : List SharedCall) → AreShares self.old calls → result ≡ omitted_in calls moment }
+    {
+        let sessions = self.sessions.begin_second(moment, SESSION_LINES);
+        let refusals = self.refusals.begin_second(moment, REFUSAL_LINES);
+        sessions.saturating_add(refusals)
+    }
+
+    /// Returns how many lines of the current second are left out so far.
+    pub fn left_out(&self) -> u64
+        ensures { (calls : List SharedCall) → AreShares self.now calls → result ≡ beyond_in calls }
+    {
+        let sessions = self.sessions.beyond(SESSION_LINES);
+        sessions.saturating_add(self.refusals.beyond(REFUSAL_LINES))
     }
 }

@@ -294,6 +294,12 @@ fn refusals_cost_no_line_about_a_session(rt: HostRuntime) -> Result<(), Fail> {
         }
     }
     assert_eq!(rt; sessions, 40);
+    assert_eq!(rt; shares.left_out(), 991);
+    let mut polled = shares;
+    assert_eq!(rt; polled.poll(7_999_999), 0);
+    assert_eq!(rt; polled.poll(8_000_000), 991);
+    assert_eq!(rt; polled.poll(8_000_000), 0);
+    assert_eq!(rt; polled.left_out(), 0);
     assert_eq!(rt; shares.line(LineKind::Refusal, 8_000_000).left_out, 990);
     assert_eq!(rt; shares.line(LineKind::Refusal, 8_000_000).left_out, 0);
     assert_eq!(rt; shares.line(LineKind::Session, 8_000_000).left_out, 1);
