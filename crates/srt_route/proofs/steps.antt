@@ -12,6 +12,7 @@ pub mod Feeding
 pub mod Passing
 pub mod Turns
 pub mod Delivered
+pub mod Besides
 pub mod Saying
 pub mod Serving
 pub mod Stepping

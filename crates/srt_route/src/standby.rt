@@ -142,11 +142,15 @@ fn stand_by(publisher: &mut Publisher, clock: u64)
     }
 }
 
-/// Skips the due payloads of the standby while the publisher with the buffers `active` is active.
+/// Skips the due payloads of the standby while the publisher with the buffers `active` is active. A single publisher
+/// has no standby, and no seat is read.
 pub fn deliver_standby(table: &mut Table, active: PublisherBuffers, clock: u64)
     requires { clock < 2 ^ 62 }
     ensures { StandsBy active clock table.old table.new }
 {
+    if table.open_publishers < 2 {
+        return;
+    }
     let which = active.other();
     if !have_publisher(&table.seats, which) {
         return;

@@ -1,4 +1,4 @@
-use Rattle.std.proofs.Common.{◌≡◌, ℕ, false, List, ◌∙◌, set, refl, sym, ap, subst}
+use Rattle.std.proofs.Common.{◌≡◌, ℕ, false, List, ◌∙◌, set, refl, sym, ap, subst, arith}
 use Rattle.std.specs.List.{list_any}
 use Rattle.srt_route.specs.declared.publisher_buffers.PublisherBuffers.{PublisherBuffers}
 use Rattle.srt_route.specs.Sessions.{Session, terms_of, time_in}
@@ -7,7 +7,14 @@ use Rattle.srt_route.specs.inside.Delivery.{IsPublisherOf}
 use Rattle.srt_route.proofs.stored.Publishers.{found_from}
 use Rattle.srt_route.proofs.steps.Passing.{publisher_at}
 use Rattle.srt_route.proofs.steps.Delivered.{has_past, standby_gone, none_stands_by}
+use Rattle.srt_route.proofs.steps.Besides.{none_besides}
 use Rattle.srt_route.proofs.standby.deliver_standby.Goals as goal
+
+pub returns-then-table-lt2 : goal.returns-then-table-lt2
+returns-then-table-lt2 c e index ss at s q its =
+    let none = none_besides e index c.args.clock c.args.table.now ss at s q c.args.active its (omega (arith, c.if-table-lt2.true)) in
+    subst (λ (ts : List Session). IsTable e index c.args.clock c.args.table.now ts)
+    (sym (none_stands_by e index c.args.clock c.args.table.now ss at s q c.args.active its none)) its.body
 
 pub returns-then-not-have_publisher : goal.returns-then-not-have_publisher
 returns-then-not-have_publisher c e index ss at s q its =
