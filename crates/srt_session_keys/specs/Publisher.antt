@@ -1,10 +1,12 @@
 -- The keys of a publisher's session, and key material messages that arrive during the session (section 6.1; the answers to
 -- faulty ones are our choice).
-use Rattle.std.specs.Prelude.{◌≡◌, ℕ, ◌==◌, List, length, Option, Some, None, option_map, if◌then◌else◌, Result, Ok, Err}
+use Rattle.std.specs.Prelude.{◌≡◌, ℕ, ◌+◌, ◌-◌, ◌^◌, ◌==◌, min, List, [], ◌∷◌, length, Option, Some, None, option_map, is_some}
+use Rattle.std.specs.Prelude.{if◌then◌else◌, Result, Ok, Err}
 use Rattle.srt_aes.specs.Counter.{counter_mode}
 use Rattle.srt_aes.specs.Keys.{key_of, IsErased}
 use Rattle.srt_hs.specs.KeyMessage.{KeyMessage}
 use Rattle.srt_hs.specs.declared.key_message.KeyFault.{KeyFault}
+use Rattle.srt_hs.specs.declared.key_message.SentKeys.TheVariants.{Even, Odd}
 use Rattle.srt_session_keys.specs.Wrapping.{StreamKeys, kek_of, salt_of, fits, brings, WrappingKeyIsErased}
 use Rattle.srt_session_keys.specs.declared.slot.KeySlot.{KeySlot}
 use Rattle.srt_session_keys.specs.declared.publisher.KeyAnswer.{KeyAnswer}
@@ -69,6 +71,40 @@ abbrev pub keys_after : Publisher → Result KeyMessage KeyFault → StreamKeys
 keys_after p (Err fault) = p.keys
 keys_after p (Ok message) =
     if fits p.kek p.salt (length p.kek) message then keys_by (brings p.kek message) p.keys else p.keys
+
+-- the contents of the KMRSP that answers a KMREQ: its own, or the cause as a word, in little-endian order as libsrt sends it
+abbrev pub response_to : KeyAnswer → (request : List ℕ) → List ℕ
+response_to Taken request = request
+response_to NoSecret request = 3 ∷ 0 ∷ 0 ∷ 0 ∷ []
+response_to BadSecret request = 4 ∷ 0 ∷ 0 ∷ 0 ∷ []
+
+-- the session after a message
+abbrev pub with_message : Result KeyMessage KeyFault → Publisher → Publisher
+with_message message p = record { kek = p.kek; salt = p.salt; keys = keys_after p message }
+
+-- a message that comes again is answered as before, and changes nothing
+abbrev pub RepeatsChangeNothing : Type 0
+RepeatsChangeNothing =
+    (p : Publisher) (message : Result KeyMessage KeyFault) →
+    (answer_to (with_message message p) message ≡ answer_to p message) × (with_message message (with_message message p) ≡ with_message message p)
+
+-- a message that isn't taken changes no key
+abbrev pub RefusalsChangeNothing : Type 0
+RefusalsChangeNothing =
+    (p : Publisher) (message : Result KeyMessage KeyFault) → (answer_to p message ≡ Taken → ⊥) → keys_after p message ≡ p.keys
+
+-- a key that a message doesn't name stays
+pub record OtherKeysStay : Type 0 where
+  pub odd : (p : Publisher) (message : KeyMessage) → message.keys ≡ Even → (keys_after p (Ok message)).odd ≡ p.keys.odd
+  pub even : (p : Publisher) (message : KeyMessage) → message.keys ≡ Odd → (keys_after p (Ok message)).even ≡ p.keys.even
+
+-- how many packets couldn't be decrypted, at most 2^64 - 1
+abbrev pub undecrypted_of : PublisherKeys → ℕ
+undecrypted_of p = p.undecrypted
+
+-- the same after one more packet, of the key that it names
+abbrev pub undecrypted_with : Option (List ℕ) → (count : ℕ) → ℕ
+undecrypted_with key count = if is_some key then count else min (count + 1) (2 ^ 64 - 1)
 
 -- no byte of a key or of the salt is left: there are no keys, and what stores them is zeros
 pub record PublisherIsErased (p : PublisherKeys) : Type 0 where

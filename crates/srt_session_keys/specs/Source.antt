@@ -1,5 +1,5 @@
 -- The keys that the gateway makes for its subscribers (our choice).
-use Rattle.std.specs.Prelude.{◌≡◌, ◌<◌, ℕ, ◌+◌, ◌^◌, ◌%◌, ◌==◌, List, ◌++◌, length, take, replicate, if◌then◌else◌}
+use Rattle.std.specs.Prelude.{◌≡◌, ◌<◌, ℕ, ◌+◌, ◌^◌, ◌%◌, ◌==◌, List, [], ◌∷◌, ◌++◌, length, take, replicate, if◌then◌else◌}
 use Rattle.std.specs.Int.{w16, w32, w64, to_be_bytes}
 use Rattle.sha2.specs.Sha256.{sha256}
 use Rattle.srt_types.specs.declared.shared.Peer.{Peer}
@@ -33,6 +33,15 @@ pool_with opening pool =
       hash = sha256 (pool.hash ++ to_be_bytes w32 opening.cookie ++ opening.peer.ip ++ to_be_bytes w16 opening.peer.port);
     }
 
+-- the pool after openings, the newest first
+abbrev pub pool_after : List Opening → Pool
+pool_after [] = first_pool
+pool_after (opening ∷ openings) = pool_with opening (pool_after openings)
+
+-- so no two sessions of a route have the same count
+abbrev pub CountsAreDistinct : Type 0
+CountsAreDistinct = (openings : List Opening) → (pool_after openings).count ≡ length openings
+
 abbrev pub pool_of : KeyPool → Pool
 pool_of pool = record { count = pool.count; hash = pool.hash }
 
@@ -64,6 +73,10 @@ own s index = take (length s.kek) (hmac_sha256 s.kek (own_text s index))
 -- the name of a key: the first one is the odd one
 abbrev pub name_of : (index : ℕ) → SentKeys
 name_of index = if index % 2 == 0 then Odd else Even
+
+-- a key has another name than the one before
+abbrev pub NamesAlternate : Type 0
+NamesAlternate = (index : ℕ) → name_of (index + 1) ≡ name_of index → ⊥
 
 -- the message that brings the key
 unfoldable pub own_message : Source → (index : ℕ) → List ℕ

@@ -1,6 +1,6 @@
 -- The keys of a subscriber's session: which are announced, confirmed and used (our choice). Payloads and keys count from 0; key j
 -- is that of the payloads from 2^24 j on. Times are in microseconds.
-use Rattle.std.specs.Prelude.{◌≡◌, ◌<◌, ◌≤◌, ℕ, ◌+◌, ◌/◌, ◌^◌, Bool, true, false, nat_le, nat_lt, if◌then◌else◌}
+use Rattle.std.specs.Prelude.{◌≡◌, ◌<◌, ◌≤◌, ℕ, ◌+◌, ◌/◌, ◌%◌, ◌^◌, Bool, true, false, nat_le, nat_lt, if◌then◌else◌}
 use Rattle.std.specs.Prelude.{List, replicate, Option, Some, None, is_some}
 use Rattle.std.specs.Str.{bytes_eq}
 use Rattle.srt_aes.specs.Keys.{IsErased}
@@ -46,6 +46,21 @@ with_response contents s =
 -- a payload may be sent: its key is confirmed
 abbrev pub may_send : Subscriber → (payload : ℕ) → Bool
 may_send s payload = nat_lt (index_of payload) s.confirmed
+
+-- the sequence number of a payload's packet, in a session whose first packet has this number
+abbrev pub number_of : (first payload : ℕ) → ℕ
+number_of first payload = (first + payload) % 2 ^ 31
+
+-- two payloads of a session with the same number have different keys
+abbrev pub NumbersAreDistinct : Type 0
+NumbersAreDistinct =
+    (first one other : ℕ) → number_of first one ≡ number_of first other → index_of one ≡ index_of other → one ≡ other
+
+-- while one of the next 65,536 payloads may not be sent, the next key is due or was announced
+abbrev pub IsAnnouncedBefore : Type 0
+IsAnnouncedBefore =
+    (s : Subscriber) (queued now payload : ℕ) → payload ≤ queued + 65_536 → may_send s payload ≡ false →
+    is_due s queued now ≡ false → is_some s.announced ≡ true
 
 -- no key was made before it was due
 abbrev pub IsAhead : Subscriber → (queued : ℕ) → Type 0

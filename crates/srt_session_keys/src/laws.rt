@@ -1,8 +1,9 @@
 //! Laws of the definitions.
 
 ghost use Rattle.srt_session_keys.specs.Limiter.{RouteIsLimited, GroupIsLimited, DelaysChangeNothing};
-ghost use Rattle.srt_session_keys.specs.Source.{TextsAreDistinct};
-ghost use Rattle.srt_session_keys.specs.Subscriber.{StaysAhead, WindowHasItsKeys};
+ghost use Rattle.srt_session_keys.specs.Publisher.{RepeatsChangeNothing, RefusalsChangeNothing, OtherKeysStay};
+ghost use Rattle.srt_session_keys.specs.Source.{TextsAreDistinct, CountsAreDistinct, NamesAlternate};
+ghost use Rattle.srt_session_keys.specs.Subscriber.{StaysAhead, WindowHasItsKeys, NumbersAreDistinct, IsAnnouncedBefore};
 
 /// Of all requests for derivations between two times a route admits at most 20 and one each 50 ms, and of those of a group of
 /// addresses at most 20 and one each 500 ms. If all requests come later by the same delay, the same ones are admitted.
@@ -22,4 +23,25 @@ pub fn own_keys()
 pub fn stored_keys()
     ensures ahead { StaysAhead }
     ensures window { WindowHasItsKeys }
+{}
+
+/// A message that a publisher sends again is answered as before and changes nothing. One that isn't taken changes no key, and one that
+/// is taken none that it doesn't name.
+pub fn refreshes()
+    ensures repeated { RepeatsChangeNothing }
+    ensures refused { RefusalsChangeNothing }
+    ensures other { OtherKeysStay }
+{}
+
+/// No key stream is used twice: the sessions of a route have different counts, of which their keys are made ([`own_keys`]), and two
+/// payloads of a session have different numbers or different keys.
+pub fn key_streams()
+    ensures counts { CountsAreDistinct }
+    ensures numbers { NumbersAreDistinct }
+{}
+
+/// A key takes the place of the one before the last, not of the last, and is announced before its payloads come.
+pub fn announcements()
+    ensures names { NamesAlternate }
+    ensures before { IsAnnouncedBefore }
 {}

@@ -22,6 +22,21 @@ pub enum KeyAnswer {
     BadSecret,
 }
 
+impl KeyAnswer {
+    ghost use Rattle.srt_session_keys.specs.Publisher.{response_to};
+
+    /// The contents of the KMRSP that answers a KMREQ with these contents.
+    pub fn response<'a>(&self, request: &'a [u8]) -> &'a [u8]
+        ensures { result.now ≡ response_to self.now request.now }
+    {
+        match self {
+            KeyAnswer::Taken => request,
+            KeyAnswer::NoSecret => b"\x03\x00\x00\x00",
+            KeyAnswer::BadSecret => b"\x04\x00\x00\x00",
+        }
+    }
+}
+
 /// Puts the keys of an unwrapped text into their slots.
 fn store(keys: SentKeys, key_length: usize, text: &[u8], even: &mut KeySlot, odd: &mut KeySlot)
     requires valid { IsKeyLength key_length }
@@ -45,19 +60,24 @@ pub struct PublisherKeys {
     kek: WrappingKey,
     even: KeySlot,
     odd: KeySlot,
+    undecrypted: u64,
 }
 
 impl PublisherKeys {
+    ghost use Rattle.std.specs.Prelude.{IfSome};
     ghost use Rattle.srt_session_keys.specs.Publisher.{publisher_of, named_key, with_key, answer_to, keys_after, opened_by, PublisherIsErased};
+    ghost use Rattle.srt_session_keys.specs.Publisher.{undecrypted_of, undecrypted_with};
 
     /// Returns the keys of a session that opens with this message. None if they can't be unwrapped: the passphrase is another.
     pub fn open(kek: WrappingKey, message: &KeyMessageRef<'_>) -> Option<PublisherKeys>
-        ensures { option_map publisher_of result ≡ opened_by (kek_of kek) (salt_of kek) (message_of message.now) }
+        ensures keys { option_map publisher_of result ≡ opened_by (kek_of kek) (salt_of kek) (message_of message.now) }
+        ensures count { IfSome result (λ p. undecrypted_of p ≡ 0) }
     {
         let mut keys = PublisherKeys {
             kek,
             even: KeySlot::new(),
             odd: KeySlot::new(),
+            undecrypted: 0,
         };
         if keys.take(message) { Some(keys) } else { None }
     }
@@ -67,6 +87,7 @@ impl PublisherKeys {
         ensures taken { result ≡ is_some (brings (kek_of self.old.kek) (message_of message.now)) }
         ensures keys { (publisher_of self.new).keys ≡ keys_by (brings (kek_of self.old.kek) (message_of message.now)) (publisher_of self.old).keys }
         ensures kek { self.new.kek ≡ self.old.kek }
+        ensures count { undecrypted_of self.new ≡ undecrypted_of self.old }
     {
         let mut text = [0u8; 64];
         match self.kek.unwrapped(message, &mut text) {
@@ -91,6 +112,7 @@ impl PublisherKeys {
         ensures keys { (publisher_of self.new).keys ≡ keys_after (publisher_of self.old) (message_in contents.now) }
         ensures kek { (publisher_of self.new).kek ≡ (publisher_of self.old).kek }
         ensures salt { (publisher_of self.new).salt ≡ (publisher_of self.old).salt }
+        ensures count { undecrypted_of self.new ≡ undecrypted_of self.old }
     {
         match read_key_message(contents) {
             Err(_) => KeyAnswer::NoSecret,
@@ -103,6 +125,7 @@ impl PublisherKeys {
         ensures answer { result ≡ answer_to (publisher_of self.old) (Ok (message_of message.now)) }
         ensures keys { (publisher_of self.new).keys ≡ keys_after (publisher_of self.old) (Ok (message_of message.now)) }
         ensures kek { self.new.kek ≡ self.old.kek }
+        ensures count { undecrypted_of self.new ≡ undecrypted_of self.old }
     {
         if !self.kek.fits(message) {
             return KeyAnswer::NoSecret;
@@ -115,8 +138,25 @@ impl PublisherKeys {
     }
 
     /// Decrypts the payload of a data packet in place, by its encryption field and its sequence number, and returns whether the
-    /// session has the key that it names. Otherwise nothing changes. Its time doesn't depend on keys or payloads.
-    pub fn decrypt(&self, encryption: u8, number: u32, payload: &mut [u8]) -> bool
+    /// session has the key that it names. Otherwise nothing changes but the count of such packets. Its time doesn't depend on keys or
+    /// payloads.
+    pub fn decrypt(&mut self, encryption: u8, number: u32, payload: &mut [u8]) -> bool
+        requires { length payload.old < 2032 }
+        ensures held { result ≡ is_some (named_key encryption (publisher_of self.old).keys) }
+        ensures payload { payload.new ≡
+            with_key (named_key encryption (publisher_of self.old).keys) (publisher_of self.old).salt number payload.old }
+        ensures count { undecrypted_of self.new ≡ undecrypted_with (named_key encryption (publisher_of self.old).keys) (undecrypted_of self.old) }
+        ensures keys { publisher_of self.new ≡ publisher_of self.old }
+    {
+        let is_held = self.apply(encryption, number, payload);
+        if !is_held {
+            self.undecrypted = self.undecrypted.saturating_add(1);
+        }
+        is_held
+    }
+
+    /// Decrypts a payload with the key that the encryption field names, and returns whether the session has it.
+    fn apply(&self, encryption: u8, number: u32, payload: &mut [u8]) -> bool
         requires { length payload.old < 2032 }
         ensures held { result ≡ is_some (named_key encryption (publisher_of self.now).keys) }
         ensures payload { payload.new ≡
@@ -129,9 +169,17 @@ impl PublisherKeys {
         }
     }
 
+    /// How many packets couldn't be decrypted since the session opened, at most 2^64 - 1.
+    pub fn undecrypted(&self) -> u64
+        ensures { result ≡ undecrypted_of self.now }
+    {
+        self.undecrypted
+    }
+
     /// Overwrites all keys, their schedules and the salt with zeros, when the session ends.
     pub fn forget(&mut self)
-        ensures { PublisherIsErased self.new }
+        ensures erased { PublisherIsErased self.new }
+        ensures count { undecrypted_of self.new ≡ undecrypted_of self.old }
     {
         self.kek.forget();
         self.even.forget();

@@ -88,7 +88,7 @@ fn opened(passphrase: &[u8], message: &[u8]) -> Option<PublisherKeys> {
 }
 
 /// Whether the payload "hi" comes out of these two bytes.
-fn reads_hi(keys: &PublisherKeys, encryption: u8, number: u32, bytes: [u8; 2]) -> bool {
+fn reads_hi(keys: &mut PublisherKeys, encryption: u8, number: u32, bytes: [u8; 2]) -> bool {
     let mut payload = bytes;
     keys.decrypt(encryption, number, &mut payload) && payload == *b"hi"
 }
@@ -97,20 +97,29 @@ fn reads_hi(keys: &PublisherKeys, encryption: u8, number: u32, bytes: [u8; 2]) -
 fn packets_are_decrypted_with_the_key_that_they_name(rt: HostRuntime) -> Result<(), Fail> {
     match opened(b"correct horse battery", &EVEN_MESSAGE) {
         None => assert!(rt; false),
-        Some(keys) => {
-            assert!(rt; reads_hi(&keys, 1, 5, [0xad, 0x56]));
-            assert!(rt; !reads_hi(&keys, 1, 6, [0xad, 0x56]));
+        Some(mut keys) => {
+            assert!(rt; reads_hi(&mut keys, 1, 5, [0xad, 0x56]));
+            assert!(rt; !reads_hi(&mut keys, 1, 6, [0xad, 0x56]));
             for encryption in [0u8, 2, 3] {
                 let mut payload = [0xad, 0x56];
                 assert!(rt; !keys.decrypt(encryption, 5, &mut payload));
                 assert!(rt; payload == [0xad, 0x56]);
             }
+            assert!(rt; keys.undecrypted() == 3);
         }
     }
     assert!(rt; opened(b"correct horse batterz", &EVEN_MESSAGE).is_none());
     let mut changed = EVEN_MESSAGE;
     changed[55] = 0xe3;
     assert!(rt; opened(b"correct horse battery", &changed).is_none());
+    Ok(())
+}
+
+#[test]
+fn responses_are_those_of_libsrt(rt: HostRuntime) -> Result<(), Fail> {
+    assert!(rt; KeyAnswer::Taken.response(&BOTH_MESSAGE) == &BOTH_MESSAGE[..]);
+    assert!(rt; KeyAnswer::NoSecret.response(&BOTH_MESSAGE) == &[3, 0, 0, 0][..]);
+    assert!(rt; KeyAnswer::BadSecret.response(&BOTH_MESSAGE) == &[4, 0, 0, 0][..]);
     Ok(())
 }
 
@@ -126,15 +135,15 @@ fn a_message_brings_keys_during_the_session(rt: HostRuntime) -> Result<(), Fail>
             changed[16] = 0xff;
             assert!(rt; keys.refresh(&changed) == KeyAnswer::NoSecret);
             assert!(rt; keys.refresh(&BOTH_MESSAGE[..71]) == KeyAnswer::NoSecret);
-            assert!(rt; !reads_hi(&keys, 2, 6, [0x8b, 0xae]));
+            assert!(rt; !reads_hi(&mut keys, 2, 6, [0x8b, 0xae]));
             assert!(rt; keys.refresh(&ODD_MESSAGE) == KeyAnswer::Taken);
-            assert!(rt; reads_hi(&keys, 2, 6, [0x8b, 0xae]));
-            assert!(rt; reads_hi(&keys, 1, 5, [0xad, 0x56]));
+            assert!(rt; reads_hi(&mut keys, 2, 6, [0x8b, 0xae]));
+            assert!(rt; reads_hi(&mut keys, 1, 5, [0xad, 0x56]));
             assert!(rt; keys.refresh(&BOTH_MESSAGE) == KeyAnswer::Taken);
-            assert!(rt; reads_hi(&keys, 2, 6, [0x8b, 0xae]));
-            assert!(rt; reads_hi(&keys, 1, 5, [0xad, 0x56]));
+            assert!(rt; reads_hi(&mut keys, 2, 6, [0x8b, 0xae]));
+            assert!(rt; reads_hi(&mut keys, 1, 5, [0xad, 0x56]));
             keys.forget();
-            assert!(rt; !reads_hi(&keys, 1, 5, [0xad, 0x56]));
+            assert!(rt; !reads_hi(&mut keys, 1, 5, [0xad, 0x56]));
         }
     }
     Ok(())
