@@ -140,7 +140,8 @@ aged_becomes e index before clock at p x y ss later is h =
     kept_wide expires None g there stored kept = absurd (let bad : false ≡ true = kept in cc)
     kept_wide expires (Some t) None there stored kept = absurd stored
     kept_wide expires (Some t) (Some s) there stored kept =
-        let role : publishes (role_of t.part) ≡ false = not_true (publishes (role_of t.part)) (and_parts (not (is_stored_over clock t)) (not (publishes (role_of t.part))) kept).1 in
+        let role : publishes (role_of t.part) ≡ false =
+        not_true (publishes (role_of t.part)) (and_parts (not (is_stored_over clock t)) (not (publishes (role_of t.part))) kept).1 in
         expired_wide e before clock p x.subscriber y.subscriber s later expires (ap publishes (sym stored.role_is) ∙ role) (is.seated s there)
 
 -- a subscriber's session that hasn't expired stays

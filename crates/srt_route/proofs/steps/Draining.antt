@@ -96,7 +96,8 @@ subscriber_left publishers x t stored role e index clock at p ss is =
     by (Some s) found h = one s h s.past (is.seated s found).past_is
 
 pub publisher_left : (publishers : List Publisher) (x : Seat) (t : TheSession) (place : ℕ) (b : Publisher) (left : Bool)
-    → x.session ≡ Some t → publishes (role_of t.part) ≡ true → place ≡ place_of (buffers_used t.part) → b ≡ get_or publishers place b → place < length publishers
+    → x.session ≡ Some t → publishes (role_of t.part) ≡ true → place ≡ place_of (buffers_used t.part) → b ≡ get_or publishers place b
+    → place < length publishers
     → HoldsOf b (λ terms initial m. left ≡ has_undelivered terms.mode m.receiving)
     → TellsOf publishers x (λ e o. left ≡ left_in e o)
 publisher_left publishers x t place b left stored role place_is there inside holds e index clock at p ss is =

@@ -81,7 +81,8 @@ of_alike : (e : Terms) (index : ℕ) (peer : Peer) (caller : ℕ) (t : TheSessio
     → IsSession e index t s → s.is_open ≡ true → is_of peer caller s ≡ is_session_of peer caller t
 of_alike e index peer caller t s is o = rw (o, is.peer_is, is.caller_is, is.drains_is) refl
 
-pub publisher_alike : (e : Terms) (index : ℕ) (t : TheSession) (s : Session) → IsSession e index t s → s.is_open ≡ true → is_publisher s ≡ publishes (role_of t.part)
+pub publisher_alike : (e : Terms) (index : ℕ) (t : TheSession) (s : Session) → IsSession e index t s → s.is_open ≡ true
+    → is_publisher s ≡ publishes (role_of t.part)
 publisher_alike e index t s is o = rw (o, is.role_is) refl
 
 pub seat_passes : (e : Terms) (index clock : ℕ) (table : Table) (ss : List Session) → IsTable e index clock table ss

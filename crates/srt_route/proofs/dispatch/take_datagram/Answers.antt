@@ -10,7 +10,8 @@ pub returns-in-Ok-clause-ends : goal.returns-in-Ok-clause-ends
 returns-in-Ok-clause-ends c =
     subst
     (λ (r : Result Packet PacketFault).
-    Ends c.args.receipt.clock (λ e index. read_ending e index c.args.receipt.clock c.args.receipt.peer r) c.args.table.now c.args.ledger.now c.to_destination.new.ledger)
+    Ends c.args.receipt.clock (λ e index. read_ending e index c.args.receipt.clock c.args.receipt.peer r) c.args.table.now c.args.ledger.now
+    c.to_destination.new.ledger)
     c.in-Ok.ensures.value c.to_destination.ensures.ends
 
 pub returns-in-Ok-clause-tally : goal.returns-in-Ok-clause-tally
@@ -23,7 +24,9 @@ returns-in-Ok-clause-tally c =
 pub returns-in-Err-clause-ends : goal.returns-in-Err-clause-ends
 returns-in-Err-clause-ends c e index sessions is =
     let kept = kept_of c.args.ledger.now in
-    subst (λ (r : Result Packet PacketFault). EndsAre e index (read_ending e index c.args.receipt.clock c.args.receipt.peer r sessions) c.args.receipt.clock sessions kept kept)
+    subst
+    (λ (r : Result Packet PacketFault).
+    EndsAre e index (read_ending e index c.args.receipt.clock c.args.receipt.peer r sessions) c.args.receipt.clock sessions kept kept)
     c.in-Err.ensures.value
-    (none_notified e index (read_ending e index c.args.receipt.clock c.args.receipt.peer (Err c.in-Err.field-0) sessions) c.args.receipt.clock sessions kept kept
-    (λ at s found. refl) (λ at. refl) refl)
+    (none_notified e index (read_ending e index c.args.receipt.clock c.args.receipt.peer (Err c.in-Err.field-0) sessions) c.args.receipt.clock sessions
+    kept kept (λ at s found. refl) (λ at. refl) refl)
