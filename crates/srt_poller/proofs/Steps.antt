@@ -1,5 +1,5 @@
 -- One event, and one after the other.
-use Rattle.std.proofs.Common.{◌≡◌, ◌≢◌, ◌⊎◌, inl, inr, ℕ, zero, suc, ◌+◌, ◌*◌, ◌<◌, ◌≤◌, ◌==◌, Bool, true, false, Option, List}
+use Rattle.std.proofs.Common.{◌≡◌, ◌≢◌, ◌⊎◌, inl, inr, ℕ, zero, suc, ◌+◌, ◌*◌, ◌<◌, ◌≤◌, ◌==◌, Bool, true, false, true≢false, Option, None, List}
 use Rattle.std.proofs.Common.{[], ◌∷◌, ◌++◌, length, map, slice_index_or, slice_set, refl, sym, ap, ◌∙◌, subst, append_assoc, append-nil}
 use Rattle.std.proofs.Common.{arith, add-mul}
 use Rattle.std.specs.Prelude.{if◌then◌else◌}
@@ -12,11 +12,16 @@ use Rattle.srt_types.specs.Items.{Datagram, Item, Received, Close, input_of}
 use Rattle.srt_route.specs.Written.{written}
 use Rattle.srt_route.specs.declared.replies.Reply.{Reply}
 use Rattle.srt_mailbox.specs.Ends.{Producer, Drained, drained as drained_to}
+use Rattle.srt_mailbox.specs.Evidence.{FoundEmpty}
 use Rattle.srt_poller.specs.declared.devices.Sent.{Sent}
 use Rattle.srt_poller.specs.declared.ends.Ends.{Ends}
 use Rattle.srt_poller.specs.declared.devices.Sent.TheVariants.{Taken, Later, Failed}
 use Rattle.srt_poller.specs.Devices.{Arrival, Heard, heard, Carried, Call, heard_more, handed_by_send, joined}
 use Rattle.srt_poller.specs.Pollers.{RoundState, IsUpTo, Replies, ClosedAs}
+use Rattle.srt_poller.specs.declared.poller.KeptReply.{KeptReply}
+use Rattle.srt_poller.specs.declared.poller.Left.{Left}
+use Rattle.srt_poller.specs.declared.poller.Left.TheVariants as left
+use Rattle.srt_poller.specs.inside.Visits.{IsKeptAfter, is_kept}
 use Rattle.srt_poller.specs.Schedules.{CloseOffer, offered}
 use Rattle.srt_poller.specs.History.{Event, State, Fits, Follow, state_by, state_after, Begins, closing_by, closings, given_by}
 use Rattle.srt_poller.specs.History.{given, calls_by, calls, attempts_by, attempts, Phase, Reading, Sending, reading, sent_on, IsOver}
@@ -296,6 +301,12 @@ pub replies_from : {o : Observer} {a b c d e f m : ℕ} {x y : RoundState → Ph
     → a ≤ c → (a ≡ c → b ≤ d) → Replies o c d e f m x y → Replies o a b e f m x y
 replies_from le more h class schedules t phase source up = h class schedules t phase source (up_to_more le more up)
 
+-- the ends of a route that is there
+same_default : (xs : List Ends) (r : ℕ) (p q : Ends) → r < length xs → slice_index_or xs r p ≡ slice_index_or xs r q
+same_default [] r p q lt = absurd (omega arith)
+same_default (x ∷ xs) zero p q lt = refl
+same_default (x ∷ xs) (suc r) p q lt = same_default xs r p q (omega arith)
+
 -- if one element of a list of ends changed
 pub one_changed : (event : Event) (k : ℕ) (es : List Ends) (d z : Ends) → k < length es →
     ((r : ℕ) → r ≢ k → accepted r (event ∷ []) ≡ []) → ((r : ℕ) → r ≢ k → drained r (event ∷ []) ≡ []) →
@@ -311,11 +322,6 @@ one_changed event k es d z below a b h = record {
 
     apart : (r : ℕ) → r ≡ k → length es ≤ r → ⊥
     apart r same past = omega (arith, same, past, below)
-
-    same_default : (xs : List Ends) (r : ℕ) (p q : Ends) → r < length xs → slice_index_or xs r p ≡ slice_index_or xs r q
-    same_default [] r p q lt = absurd (omega arith)
-    same_default (x ∷ xs) zero p q lt = refl
-    same_default (x ∷ xs) (suc r) p q lt = same_default xs r p q (omega arith)
 
     by_place : (r : ℕ) (e : Ends) → r < length es → (b : Bool) → (r == k) ≡ b
         → IsLater (accepted r (event ∷ [])) (drained r (event ∷ [])) (slice_index_or es r e) (slice_index_or (slice_set es k z) r e)
@@ -436,6 +442,31 @@ drained_now reply hand x z h is = record {
   outbox_capacity = ap (λ (d : Drained). d.capacity) h;
   through = ap (λ (d : Drained). map written d.through) h ∙ map-append written x.drain.through (hand ∷ []) ∙ ap (λ d. map written x.drain.through ++ d ∷ []) is;
 }
+
+-- the outbox of a route has one reply less
+pub one_more_here : (k : ℕ) (es : List Ends) (d e : Ends) (hand hand' : Reply) (z : Drained) → k < length es
+    → z ≡ drained_to (slice_index_or es k d).drain.queue (slice_index_or es k d).drain.capacity ((slice_index_or es k d).drain.through ++ hand ∷ []) hand'
+    → length (slice_index_or (slice_set es k (record { ingress = (slice_index_or es k d).ingress; drain = z })) k e).drain.through
+    ≡ length (slice_index_or es k e).drain.through + 1
+one_more_here k es d e hand hand' z below h =
+    rw (get_or-set_same es k (record { ingress = (slice_index_or es k d).ingress; drain = z }) e below, same_default es k e d below)
+    (ap (λ (y : Drained). length y.through) h ∙ length-append (slice_index_or es k d).drain.through (hand ∷ []))
+
+-- it was found empty
+pub empty_here : (k : ℕ) (es : List Ends) (d e : Ends) (z : Drained) (empty : FoundEmpty) → k < length es → z ≡ (slice_index_or es k d).drain
+    → (empty.queue ≡ (slice_index_or es k d).drain.queue) × (empty.through ≡ (slice_index_or es k d).drain.through)
+    → ((slice_index_or (slice_set es k (record { ingress = (slice_index_or es k d).ingress; drain = z })) k e).drain ≡ (slice_index_or es k e).drain)
+    × (empty.queue ≡ (slice_index_or es k e).drain.queue) × (empty.through ≡ (slice_index_or es k e).drain.through)
+empty_here k es d e z empty below h found =
+    rw (get_or-set_same es k (record { ingress = (slice_index_or es k d).ingress; drain = z }) e below, same_default es k e d below)
+    (h, found.0, found.1)
+
+-- no reply is kept after a route whose last one isn't
+pub none_kept : (l : Left) (k : Option KeptReply) → IsKeptAfter l k → is_kept l ≡ false → k ≡ None
+none_kept left.Resting k h is = h
+none_kept (left.Empty empty) k h is = h
+none_kept left.Many k h is = h
+none_kept left.Kept k h is = absurd (true≢false is)
 
 pub unchanged_here : (es : List Ends) (k : ℕ) (d : Ends) (z : Drained)
     → z ≡ (slice_index_or es k d).drain → slice_set es k (record { ingress = (slice_index_or es k d).ingress; drain = z }) ≡ es

@@ -1,6 +1,6 @@
 //! The inputs of a poller and of a round, apart from the devices, the names and the ends of the routes.
 
-ghost use Rattle.std.specs.Prelude.{◌≤◌};
+ghost use Rattle.std.specs.Prelude.{◌≡◌, ◌<◌, ◌≤◌, ℕ, true, false};
 
 use crate::signals::Hints;
 use srt_cookie::Secret;
@@ -62,7 +62,8 @@ impl<R, G: Hints> RoundContext<'_, '_, R, G> {
     /// Returns the first route from this one on with a hint that its outbox may have a reply.
     #[inline(always)]
     pub(crate) fn next_hinted(&self, route: usize) -> usize
-        ensures { route ≤ result }
+        ensures later { route ≤ result }
+        ensures rest { (r : ℕ) → route ≤ r → r < result → G.rests self.now.signals.now r }
     {
         self.signals.next_outbox_ready(route).max(route)
     }
@@ -71,7 +72,9 @@ impl<R, G: Hints> RoundContext<'_, '_, R, G> {
     /// first one with a hint.
     #[inline(always)]
     pub(crate) fn next_route(&self, route: usize) -> usize
-        ensures { route ≤ result }
+        ensures later { route ≤ result }
+        ensures all { self.now.all ≡ true → result ≡ route }
+        ensures rest { (r : ℕ) → route ≤ r → r < result → (self.now.all ≡ false) × G.rests self.now.signals.now r }
     {
         if self.all {
             return route;

@@ -17,9 +17,9 @@
 //! Files: `rounds.rt` has a poller between two rounds, what happens in one, and the loop over them. The beginning of a
 //! round is in `changing.rt`, with the plans of all routes; the plan of one is in `plans.rt`, the ends of all routes with
 //! their changes in `tables.rt`, openings in `openings.rt`. The other steps are in `poller.rt`
-//! (the reply that is kept), the inputs in `context.rt`, the memory of copies in `buffers.rt`, evidence that memory was
-//! refused in `memory.rt`, the calls in `pumping.rt` and `changing_rounds.rt`, the counts in `report.rt`,
-//! the greatest timestamp in `latest.rt`, the calls that devices in memory record in `journal.rt`, how a
+//! (the reply that is kept), which outboxes a round has drained in `visits.rt`, the inputs in `context.rt`,
+//! the memory of copies in `buffers.rt`, evidence that memory was refused in `memory.rt`, the calls in `pumping.rt` and
+//! `changing_rounds.rt`, the counts in `report.rt`, the greatest timestamp in `latest.rt`, the calls that devices in memory record in `journal.rt`, how a
 //! socket's source waits in `pace.rt` and `density.rt`, tuned constants in `tuning.rt`, laws of the definitions in `laws.rt`.
 //! `specs/History.antt` has the events of a poller, `specs/Plans.antt` what becomes of schedules
 //! while routes are added and removed, `specs/Takings.antt` which changes are taken, `specs/Told.antt` what an observer is told.
@@ -48,6 +48,7 @@ mod signals;
 mod sockets;
 mod tables;
 mod tuning;
+mod visits;
 
 pub use changing_rounds::pump_changing;
 pub use context::PollerTask;

@@ -1,6 +1,6 @@
 //! The steps of a poller's round after its beginning: `resend`, then `listen`, then `drain`.
 
-ghost use Rattle.std.specs.Prelude.{◌≡◌, ℕ, ◌<◌, ◌≤◌, ◌+◌, ◌*◌, ◌^◌, ◌%◌, ◌==◌, ◌||◌, true, false, None, List, length};
+ghost use Rattle.std.specs.Prelude.{◌≡◌, ℕ, ◌<◌, ◌≤◌, ◌+◌, ◌*◌, ◌^◌, ◌%◌, ◌==◌, ◌||◌, true, false, None, List, length, slice_index_or};
 ghost use Rattle.srt_lobby.specs.Names.{RouteName};
 ghost use Rattle.srt_poller.specs.Devices.{Carried, heard, carried};
 ghost use Rattle.srt_poller.specs.Devices.{datagram};
@@ -18,7 +18,9 @@ use crate::report::{
 };
 use crate::signals::{Hints, InlineService, PollerObserver, Signals};
 use crate::tuning::{READS_PER_ROUND, REPLIES_PER_ROUTE, ROUNDS_PER_FULL_CHECK};
+use crate::visits::Visits;
 use srt_lobby::{Class, classify};
+use srt_mailbox::OutboxEmpty;
 use srt_supervision::Report;
 use srt_types::Peer;
 use std::alloc::Global;
@@ -50,14 +52,41 @@ pub(crate) struct KeptReply {
 }
 
 /// The outcome of taking a reply from an outbox.
-#[derive(Clone, Copy)]
-enum Drained {
-    /// The outbox was empty.
-    Empty,
+#[derive(Drop)]
+pub(crate) enum Drained {
+    /// The outbox was empty, by this evidence.
+    Empty(OutboxEmpty),
     /// The reply was sent, or the send failed and it is lost.
     Gone,
     /// The send returned Later, and the reply is kept.
     Kept,
+}
+
+/// How a round left the outbox of a route.
+#[derive(Drop)]
+pub(crate) enum Left {
+    /// It has no reply by its hint, and the round doesn't check all.
+    Resting,
+    /// It was found empty, by this evidence.
+    Empty(OutboxEmpty),
+    /// As many replies were taken as a round takes of a route.
+    Many,
+    /// A reply is kept.
+    Kept,
+}
+
+impl Left {
+    ghost use Rattle.srt_poller.specs.inside.Visits.{is_kept};
+
+    #[inline(always)]
+    fn is_kept(&self) -> bool
+        ensures { result ≡ is_kept self.now }
+    {
+        match self {
+            Left::Kept => true,
+            Left::Resting | Left::Empty(_) | Left::Many => false,
+        }
+    }
 }
 
 /// A poller between the calls of its devices: its buffers, the reply that is kept, and the counts.
@@ -107,7 +136,7 @@ fn report_handshake<G: PollerObserver>(signals: &G, route: usize, peer: Peer, re
 impl Poller {
     ghost use Rattle.srt_lobby.specs.declared.classes.Class.TheVariants.{Route};
     ghost use Rattle.srt_poller.specs.declared.ends.Ends.{Ends as TheEnds};
-    ghost use Rattle.srt_poller.specs.declared.poller.Drained.TheVariants.{Empty, Gone};
+    ghost use Rattle.srt_poller.specs.inside.Visits.{IsTaken, IsKeptBy, IsLeft, IsKeptAfter};
     ghost use Rattle.srt_poller.specs.Reports.{nothing, with_kept};
     ghost use Rattle.srt_poller.specs.Pollers.{setting_in, named_in, arrival_in, kept_in, begun_phase, waiting, sending, listening, Waited, RoundMade};
     ghost use Rattle.srt_poller.specs.Pollers.{WaitFailed, Arrived, Listened, Resent, Replies};
@@ -290,13 +319,14 @@ impl Poller {
         ensures went { (sends : ℕ) → sends < 64 → Replies (G.knows context.now.signals.now) route sends route (sends + 1) 1
             (sending (carried (W.handed wire.old) (W.attempts wire.old)) ends.old self.old)
             (sending (carried (W.handed wire.new) (W.attempts wire.new)) ends.new self.new) }
-        ensures more { result ≡ Gone → self.new.kept ≡ None }
-        ensures none { result ≡ Empty → self.new.kept ≡ None }
+        ensures kept { IsKeptBy result self.new.kept }
+        ensures taken { (e : TheEnds) → IsTaken result (slice_index_or ends.old route e).drain (slice_index_or ends.new route e).drain }
     {
         let end = &mut ends[route];
-        let Ok(()) = end.drain.take(context.rt) else {
-            return Drained::Empty;
-        };
+        match end.drain.take(context.rt) {
+            Ok(()) => {}
+            Err(empty) => return Drained::Empty(empty),
+        }
         self.buffers.keep(end.drain.take_buffer());
         let reply = end.drain.reply();
         let peer = reply.peer;
@@ -316,37 +346,39 @@ impl Poller {
     }
 
     /// Sends at most 64 replies of a route, until one is kept, unless its outbox has none by its hint and the round doesn't
-    /// check all. True if no reply is kept.
+    /// check all. Returns how its outbox was left.
     #[inline(always)]
-    fn drain_route<R: Wait, W: Wire, G: Signals>(
+    pub(crate) fn drain_route<R: Wait, W: Wire, G: Signals>(
         &mut self,
         context: &RoundContext<R, G>,
         wire: &mut W,
         ends: &mut [Ends],
         route: usize,
-    ) -> bool
+    ) -> Left
         requires route { route < length ends.old }
         requires kept { self.old.kept ≡ None }
         ensures went { Replies (G.knows context.now.signals.now) route 0 route 64 64
             (sending (carried (W.handed wire.old) (W.attempts wire.old)) ends.old self.old)
             (sending (carried (W.handed wire.new) (W.attempts wire.new)) ends.new self.new) }
-        ensures none { result ≡ true → self.new.kept ≡ None }
+        ensures kept { IsKeptAfter result self.new.kept }
+        ensures left { (e : TheEnds) → IsLeft context.now.all (G.rests context.now.signals.now route) result
+            (slice_index_or ends.old route e).drain (slice_index_or ends.new route e).drain }
     {
         if !context.signals.take_outbox_ready(route) && !context.all {
-            return true;
+            return Left::Resting;
         }
         for _ in 0..REPLIES_PER_ROUTE {
             match self.drain_one(context, wire, ends, route) {
                 Drained::Gone => {}
-                Drained::Empty => return true,
+                Drained::Empty(empty) => return Left::Empty(empty),
                 Drained::Kept => {
                     self.left = true;
-                    return false;
+                    return Left::Kept;
                 }
             }
         }
         self.left = true;
-        true
+        Left::Many
     }
 
     /// Reads the outboxes of all routes with a hint. Those of many routes are mostly out of the caches, and here the
@@ -368,34 +400,39 @@ impl Poller {
         }
     }
 
-    /// Sends replies of all routes, in the order of their indexes, until one is kept.
+    /// Sends replies of all routes, in the order of their indexes, until one is kept. Returns the routes whose outboxes were
+    /// drained, or passed over by their hints: all, unless a reply is kept.
     #[inline(always)]
     pub(crate) fn drain<R: Wait, W: Wire, G: Signals>(
         &mut self,
         context: &RoundContext<R, G>,
         wire: &mut W,
         ends: &mut [Ends],
-    )
-        ensures { Replies (G.knows context.now.signals.now) 0 0 (length ends.old) 0 (64 * length ends.old)
+    ) -> Visits
+        ensures went { Replies (G.knows context.now.signals.now) 0 0 (length ends.old) 0 (64 * length ends.old)
             (sending (carried (W.handed wire.old) (W.attempts wire.old)) ends.old self.old)
             (sending (carried (W.handed wire.new) (W.attempts wire.new)) ends.new self.new) }
+        ensures visited { self.new.kept ≡ None → length ends.old ≤ result.next }
     {
+        let mut visits = Visits::new();
         if self.kept.is_some() {
-            return;
+            return visits;
         }
         Poller::prefetch(context, ends);
         self.left = false;
         let mut route = 0;
         while route < ends.len() {
-            let at = context.next_route(route);
+            let at = visits.pass(context);
             if at >= ends.len() {
-                return;
+                return visits;
             }
-            if !self.drain_route(context, wire, ends, at) {
-                return;
+            let left = visits.drain_next(self, context, wire, ends);
+            if left.is_kept() {
+                return visits;
             }
             route = at + 1;
         }
+        visits
     }
 
     /// Makes the rest of a round, which has begun: sends the kept reply again, waits and reads, lets the polling thread
@@ -421,7 +458,7 @@ impl Poller {
             context.signals,
             self.listen(context, source, wire, ends, latest),
         );
-        self.drain(context, wire, ends);
+        let _ = self.drain(context, wire, ends);
     }
 
     /// Returns the counts so far, in which a reply that is still kept counts as lost.

@@ -30,16 +30,23 @@ pub trait Orders {
 /// Hints in both directions between a poller and the threads that serve the routes. No contract depends on one: a wrong
 /// hint makes replies leave up to 64 rounds later, and loses nothing. Calls come from the poller's thread.
 pub trait Hints {
+    ghost use Rattle.std.specs.Prelude.{◌≡◌, ◌<◌, ◌≤◌, ℕ, false};
+
+    /// What is known of a route whose outbox was said to have no reply. By default nothing.
+    ghost rests: { Self → (route : ℕ) → Type 0 } = { λ _ _. Unit {0} };
+
     /// The inbox of the route with this index accepted something from the poller: a datagram or Close.
     fn polled(&self, route: usize);
 
     /// Whether the outbox of the route with this index may have a reply. It may clear that mark, since the poller then
     /// drains the outbox, and remembers if it left before that was empty.
-    fn take_outbox_ready(&self, route: usize) -> bool;
+    fn take_outbox_ready(&self, route: usize) -> bool
+        ensures rests { result ≡ false → rests self.now route };
 
     /// The least index from this one on for which `take_outbox_ready` may return true; the route count or more if there
     /// is none.
-    fn next_outbox_ready(&self, route: usize) -> usize;
+    fn next_outbox_ready(&self, route: usize) -> usize
+        ensures rest { (r : ℕ) → route ≤ r → r < result → rests self.now r };
 }
 
 /// Gets reports of a poller. Calls come from the poller's thread. A poller knows nothing of its observer but what `knows`
@@ -102,6 +109,8 @@ impl Orders for Unsignalled {
 
 impl Hints for Unsignalled {
     ghost use Rattle.std.specs.Prelude.{true};
+
+    ghost rests = { λ s route. ⊥ };
 
     fn polled(&self, _route: usize) {}
 

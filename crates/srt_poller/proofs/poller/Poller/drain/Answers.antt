@@ -1,40 +1,59 @@
-use Rattle.std.proofs.Common.{◌≡◌, None, sym, arith}
+use Rattle.std.proofs.Common.{◌≡◌, ◌≤◌, None, sym, ◌∙◌, arith}
 use Rattle.srt_types.proofs.Options.{none_if_not_some}
-use Rattle.srt_poller.proofs.Steps.{went_none, replies_then, replies_more, replies_from}
+use Rattle.srt_poller.proofs.Steps.{went_none, replies_then, replies_more, replies_from, none_kept}
 use Rattle.srt_poller.proofs.poller.Poller.drain.Goals as goal
 
-pub returns-then-is_some : goal.returns-then-is_some
-returns-then-is_some g c =
+pub returns-then-is_some-clause-went : goal.returns-then-is_some-clause-went
+returns-then-is_some-clause-went g c =
     replies_more {a = 0} {b = 0} {c = 0} {d = 0} {m = 0} (omega arith) (λ same. omega arith) (omega arith)
     (λ class schedules t phase source up. (phase, up, went_none _ _ _ _))
 
 pub loop-route-init : goal.loop-route-init
 loop-route-init g c =
     let none : c.args.self.now.kept ≡ None = none_if_not_some _ (sym c.if-is_some.ensures) in
-    (none, omega arith, λ class schedules t phase source up. (phase, up, rw c.prefetch.ensures (went_none _ _ _ _)))
+    (none, omega arith, c.new-visits.ensures, λ class schedules t phase source up. (phase, up, rw c.prefetch.ensures (went_none _ _ _ _)))
 
-pub returns-then-at-ends : goal.returns-then-at-ends
-returns-then-at-ends g c =
+pub returns-then-at-ends-clause-went : goal.returns-then-at-ends-clause-went
+returns-then-at-ends-clause-went g c =
     replies_more (omega (arith, c.loop-route.invariant.1, c.loop-route.auto.ends)) (λ same. omega arith)
-    (omega (arith, c.loop-route.invariant.1, c.loop-route.auto.ends)) c.loop-route.invariant.2
+    (omega (arith, c.loop-route.invariant.1, c.loop-route.auto.ends)) c.loop-route.invariant.3
 
-pub returns-then-not-drain_route : goal.returns-then-not-drain_route
-returns-then-not-drain_route g c =
+pub returns-then-is_kept-clause-went : goal.returns-then-is_kept-clause-went
+returns-then-is_kept-clause-went g c =
+    let later : c.loop-route.route ≤ c.pass-at.result = omega (arith, c.pass-at.ensures.later, c.loop-route.invariant.2) in
     replies_more (omega (arith, c.if-at-ends.false, c.loop-route.auto.ends))
     (λ same. absurd (omega (arith, c.if-at-ends.false, c.loop-route.auto.ends, same)))
-    (omega (arith, c.next_route-at.ensures, c.if-at-ends.false, c.loop-route.auto.ends))
-    (replies_then c.loop-route.invariant.2 (replies_from c.next_route-at.ensures (λ same. omega arith) c.drain_route.ensures.went))
+    (omega (arith, later, c.if-at-ends.false, c.loop-route.auto.ends))
+    (replies_then c.loop-route.invariant.3
+    (replies_from later (λ same. omega arith) (rw c.pass-at.ensures.next at c.drain_next-left.ensures.went)))
 
 pub loop-route-preserved : goal.loop-route-preserved
 loop-route-preserved g c =
-    let none : c.drain_route.new.self.kept ≡ None = search c.drain_route.ensures.none in (
+    let later : c.loop-route.route ≤ c.pass-at.result = omega (arith, c.pass-at.ensures.later, c.loop-route.invariant.2) in
+    let none : c.drain_next-left.new.poller.kept ≡ None =
+    none_kept _ _ c.drain_next-left.ensures.kept (sym c.is_kept.ensures ∙ c.if-is_kept.false) in (
       none,
-      omega (arith, c.if-at-ends.false, c.drain_route.auto.ends),
-      replies_more (omega arith) (λ same. absurd (omega (arith, same))) (omega (arith, c.next_route-at.ensures))
-          (replies_then c.loop-route.invariant.2 (replies_from c.next_route-at.ensures (λ same. omega arith) c.drain_route.ensures.went)),
+      omega (arith, c.if-at-ends.false, c.drain_next-left.auto.ends),
+      omega (arith, c.drain_next-left.ensures.next, c.pass-at.ensures.next),
+      replies_more (omega arith) (λ same. absurd (omega (arith, same))) (omega (arith, later))
+          (replies_then c.loop-route.invariant.3
+          (replies_from later (λ same. omega arith) (rw c.pass-at.ensures.next at c.drain_next-left.ensures.went))),
     )
 
-pub returns : goal.returns
-returns g c =
+pub loop-route-preserved-else-is_kept : goal.loop-route-preserved-else-is_kept
+loop-route-preserved-else-is_kept g c =
+    let later : c.loop-route.route ≤ c.pass-at.result = omega (arith, c.pass-at.ensures.later, c.loop-route.invariant.2) in
+    let none : c.drain_next-left.new.poller.kept ≡ None =
+    none_kept _ _ c.drain_next-left.ensures.kept (sym c.is_kept.ensures ∙ c.if-is_kept.false) in (
+      none,
+      omega (arith, c.if-at-ends.false, c.drain_next-left.auto.ends),
+      omega (arith, c.drain_next-left.ensures.next, c.pass-at.ensures.next),
+      replies_more (omega arith) (λ same. absurd (omega (arith, same))) (omega (arith, later))
+          (replies_then c.loop-route.invariant.3
+          (replies_from later (λ same. omega arith) (rw c.pass-at.ensures.next at c.drain_next-left.ensures.went))),
+    )
+
+pub returns-clause-went : goal.returns-clause-went
+returns-clause-went g c =
     replies_more (omega (arith, c.loop-route.invariant.1, c.loop-route.auto.ends)) (λ same. omega arith)
-    (omega (arith, c.loop-route.invariant.1, c.loop-route.auto.ends)) c.loop-route.invariant.2
+    (omega (arith, c.loop-route.invariant.1, c.loop-route.auto.ends)) c.loop-route.invariant.3

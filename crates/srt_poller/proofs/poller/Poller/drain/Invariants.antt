@@ -7,6 +7,7 @@ abbrev pub invariant-loop-route : goal.invariant-loop-route
 invariant-loop-route g l =
     (l.self.kept ≡ None) ×
     (l.route ≤ length l.ends) ×
+    (l.visits.next ≡ l.route) ×
     Replies (g.G.PollerObserver.knows l.context.signals.now) 0 0 l.route 0 (64 * l.route)
     (sending (carried (g.W.Wire.handed l.fn.wire) (g.W.Wire.attempts l.fn.wire)) l.fn.ends l.fn.self)
     (sending (carried (g.W.Wire.handed l.wire) (g.W.Wire.attempts l.wire)) l.ends l.self)

@@ -7,14 +7,20 @@ use Rattle.srt_poller.specs.declared.poller.KeptReply.{KeptReply}
 use Rattle.srt_poller.specs.Devices.{joined}
 use Rattle.srt_poller.specs.History.{Sends, Kept, FromRoute, from, kept, kept_if, sent_on, state}
 use Rattle.srt_poller.proofs.Steps.{sent_as, unheard, up_to_more, up_to_sends, up_to_sent, went_none, went_one, unchanged_here, drained_now, sent_here}
+use Rattle.srt_poller.proofs.Steps.{one_more_here, empty_here}
 use Rattle.srt_poller.proofs.poller.Poller.drain_one.Goals as goal
 
-pub returns-in_default-clause-went : goal.returns-in_default-clause-went
-returns-in_default-clause-went g c sends below class schedules t phase source up = (
+pub returns-in-Err-clause-went : goal.returns-in-Err-clause-went
+returns-in-Err-clause-went g c sends below class schedules t phase source up = (
   phase,
   up_to_more (omega arith) (λ same. omega arith) up,
-  rw (unchanged_here c.args.ends.now c.args.route _ c.take.new.self c.in_default.ensures.none.0) (went_none _ schedules 1 _),
+  rw (unchanged_here c.args.ends.now c.args.route _ c.take.new.self c.in-Err.ensures.none.0) (went_none _ schedules 1 _),
 )
+
+pub returns-in-Err-clause-taken : goal.returns-in-Err-clause-taken
+returns-in-Err-clause-taken g c e =
+    let h = empty_here c.args.route c.args.ends.now _ e c.take.new.self c.in-Err.empty c.requires.route c.in-Err.ensures.none.0 c.in-Err.ensures.evidence in
+    (h.0, h.1, h.2)
 
 pub returns-in-Taken : goal.returns-in-Taken
 returns-in-Taken g c = record {
@@ -43,8 +49,10 @@ returns-in-Taken g c = record {
             ∙ gone))
             c.count_reply.ensures (c.report_handshake.ensures, c.report_failure.ensures),
       );
-  more = λ same. c.requires.kept;
-  none = λ same. c.requires.kept;
+  kept = c.requires.kept;
+  taken = λ e.
+      one_more_here c.args.route c.args.ends.now _ e c.take.new.self.hand c.take.new.self.hand c.take_buffer.new.self c.requires.route
+      (c.take_buffer.ensures ∙ c.in-Ok.ensures.some);
 }
 
 pub returns-in-Later-clause-went : goal.returns-in-Later-clause-went

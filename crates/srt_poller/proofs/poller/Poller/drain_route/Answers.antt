@@ -1,4 +1,5 @@
-use Rattle.std.proofs.Common.{arith, refl}
+use Rattle.std.proofs.Common.{arith, refl, sym, ap, ◌∙◌}
+use Rattle.srt_mailbox.specs.Ends.{Drained}
 use Rattle.srt_poller.proofs.Steps.{went_none, replies_then, replies_more}
 use Rattle.srt_poller.proofs.poller.Poller.drain_route.Goals as goal
 
@@ -8,25 +9,33 @@ returns-then-not-context-clause-went g c =
     (λ class schedules t phase source up. (phase, up, went_none _ _ _ _))
 
 pub loop-init : goal.loop-init
-loop-init g c = (c.requires.kept, λ class schedules t phase source up. (phase, up, went_none _ _ _ _))
+loop-init g c = (c.requires.kept, λ e. omega arith, λ class schedules t phase source up. (phase, up, went_none _ _ _ _))
 
 pub loop-preserved : goal.loop-preserved
-loop-preserved g c = (c.in-Gone.ensures.more refl, replies_then c.loop.invariant.1 (c.drain_one.ensures.went c.loop.counter (omega arith)))
+loop-preserved g c = (
+  c.in-Gone.ensures.kept,
+  λ e. omega (arith, c.in-Gone.ensures.taken e, c.loop.invariant.1 e),
+  replies_then c.loop.invariant.2 (c.drain_one.ensures.went c.loop.counter (omega arith)),
+)
 
 pub returns-in-Empty : goal.returns-in-Empty
 returns-in-Empty g c = record {
   went = replies_more (omega arith) (λ same. omega arith) (omega arith)
-      (replies_then c.loop.invariant.1 (c.drain_one.ensures.went c.loop.counter (omega arith)));
-  none = λ same. c.in-Empty.ensures.none refl;
+      (replies_then c.loop.invariant.2 (c.drain_one.ensures.went c.loop.counter (omega arith)));
+  kept = c.in-Empty.ensures.kept;
+  left = λ e.
+      let t = c.in-Empty.ensures.taken e in
+      (t.1 ∙ sym (ap (λ (d : Drained). d.queue) t.0), t.2 ∙ sym (ap (λ (d : Drained). d.through) t.0));
 }
 
 pub returns-in-Kept-clause-went : goal.returns-in-Kept-clause-went
 returns-in-Kept-clause-went g c =
     replies_more (omega arith) (λ same. omega arith) (omega arith)
-    (replies_then c.loop.invariant.1 (c.drain_one.ensures.went c.loop.counter (omega arith)))
+    (replies_then c.loop.invariant.2 (c.drain_one.ensures.went c.loop.counter (omega arith)))
 
 pub returns : goal.returns
 returns g c = record {
-  went = replies_more (omega arith) (λ same. omega arith) (omega arith) c.loop.invariant.1;
-  none = λ same. c.loop.invariant.0;
+  went = replies_more (omega arith) (λ same. omega arith) (omega arith) c.loop.invariant.2;
+  kept = c.loop.invariant.0;
+  left = λ e. omega (arith, c.loop.invariant.1 e, c.loop-test.false);
 }

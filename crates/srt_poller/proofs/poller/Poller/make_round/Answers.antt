@@ -13,7 +13,7 @@ returns g c schedules round =
     let heard_then = heard (g.S.Source.gave c.listen.new.source) (g.S.Source.calls c.listen.new.source) in
     let resent = c.resend.ensures c.args.ends.now class schedules (round_state names round c.args.latest.now.moment) source in
     let listened = c.listen.ensures schedules round in
-    let drained = c.drain.ensures class schedules (round_state names (suc round) c.listen.new.latest.moment) (Sending 0 0) heard_then
+    let drained = c.drain.ensures.went class schedules (round_state names (suc round) c.listen.new.latest.moment) (Sending 0 0) heard_then
     (0, 0, refl, inr (refl, omega arith)) in (
       drained.0,
       up_to_over drained.1,
