@@ -332,11 +332,14 @@ def wrong_file():
         run.is_up()
         air = OnAir(run, "studio")
         good, wrong = text_of(run, [live("studio")]), text_of(run, [live("studio"), live("news", sessions=40)])
-        refused(run, wrong, re.escape("route 2 (news): sessions = 40: allowed are 1 to 17"))
+        line = 1 + wrong.splitlines().index("sessions = 40")
+        refused(run, wrong, re.escape(f"line {line}: route 2 (news): sessions = 40: allowed are 1 to 17"))
         expect_silent(run, len(run.lines))
         before = written(run, wrong)
         expect_silent(run, before)
-        refused(run, good.replace('mode = "live"', 'mode = "fast"'), re.escape('route 1 (studio): mode = "fast": allowed are "live" and "buffer"'))
+        line = 1 + good.splitlines().index('mode = "live"')
+        why = f'line {line}: route 1 (studio): mode = "fast": allowed are "live" and "buffer"'
+        refused(run, good.replace('mode = "live"', 'mode = "fast"'), re.escape(why))
         refused(run, "", ".*")
         before = written(run, good)
         expect_silent(run, before)
@@ -671,7 +674,8 @@ def many_changes():
         refusals = [it for it in texts if it.startswith("configuration not taken: ")]
         expect(len(taken) >= 5 and refusals, f"{len(taken)} changes are taken, {len(refusals)} refused: {texts[-8:]}")
         expect(all(it[1] == "16" for it in taken), f"a route that is the same didn't stay: {[it[0] for it in taken]}")
-        why = "configuration not taken: route 17 (wrong): sessions = 40: allowed are 1 to 17"
+        line = 1 + text_of(run, [*steady, wrong]).splitlines().index("sessions = 40")
+        why = f"configuration not taken: line {line}: route 17 (wrong): sessions = 40: allowed are 1 to 17"
         expect(set(refusals) == {why}, f"it says {set(refusals)}")
         expect(not any("can't be read" in it for it in texts), f"a file can't be read: {texts[-8:]}")
         called(Subscriber(run.address, "last")).close()

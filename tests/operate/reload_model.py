@@ -25,7 +25,7 @@ DEFAULTS: Table = {
     "open_round": 0, "close_round": None, "callers": "draft", "publish_from": None, "request_from": None, "publish_key": None, "request_key": None,
     "reserved": 0, "sessions_per_address": None, "takeover_ms": None, "resend_percent": None,
 }
-# The form of the reason that the log has for each fault, after the route that has it.
+# The form of the reason that the log has for each fault, after its line and the route that has it.
 REASONS = {
     Fault.TOML: r"line \d+, column \d+: .+",
     Fault.UNKNOWN_KEY: r"{key}: unknown key.+",
@@ -53,7 +53,8 @@ def reason_of(fault: ConfigFault, route: str) -> Reason:
     _, _, number, key = str(fault).split(" ", 3)
     kind = Fault(int(number))
     shown = re.escape(key) if re.fullmatch(r"[A-Za-z0-9_-]+", key) else re.escape(f'"{key}"')
-    return Reason(kind, re.escape(route) + REASONS[kind].format(key=shown))
+    line = "" if kind == Fault.TOML else r"(?:line \d+: )?"
+    return Reason(kind, line + re.escape(route) + REASONS[kind].format(key=shown))
 
 
 def title_of(number: int, table: Table) -> str:

@@ -17,6 +17,7 @@ use crate::explanation::{Explanation, Hint, Part, RouteAt, bare};
 use crate::hints::{
     of_bad_address, of_kind, of_name, of_range, of_same_name, of_secret, of_text, of_unknown,
 };
+use crate::lines::{Sought, line_of};
 use crate::values::{defaults_of, route_at, routes_before, text_or_empty, value_at};
 use crate::warnings::{Warning, WarningText, warnings_of};
 use srt_config::{Config, ConfigFault, Key, Place, PlacedFault, read_table, with_defaults};
@@ -159,6 +160,7 @@ fn explained_at(
     Explanation {
         fault,
         part,
+        line: None,
         value: known.value,
         hint: known.hint,
     }
@@ -196,9 +198,27 @@ fn explained_fault(table: &Table, placed: PlacedFault) -> Explanation
     }
 }
 
-/// Reads the configuration in a table, whose routes have the defaults that they lack, with its warnings, or explains its first
-/// fault.
-fn explain_table(alloc: Global, table: &Table) -> Result<Explained, Explanation>
+/// Explains the fault of the table of this text, with its line.
+fn explained_line(text: &str, table: &Table, placed: PlacedFault) -> Explanation
+    ensures fault { result.fault ≡ placed.fault }
+    ensures part { place_of result.part ≡ placed.place }
+    ensures private { IsPrivate result }
+{
+    let line = line_of(
+        text.as_bytes(),
+        Sought {
+            place: placed.place,
+            key: placed.fault.key().as_bytes(),
+        },
+    );
+    let mut explanation = explained_fault(table, placed);
+    explanation.line = line;
+    explanation
+}
+
+/// Reads the configuration in the table of this text, whose routes have the defaults that they lack, with its warnings, or explains
+/// its first fault.
+fn explain_table(alloc: Global, text: &str, table: &Table) -> Result<Explained, Explanation>
     ensures gives { Gives settings_of (plain result) (settings_at (table_view table.now)) }
     ensures place { HasPlace (fault_place (table_view table.now)) result }
     ensures private { IfErr result IsPrivate }
@@ -206,7 +226,7 @@ fn explain_table(alloc: Global, table: &Table) -> Result<Explained, Explanation>
 {
     let config = match read_table(alloc, table) {
         Ok(config) => config,
-        Err(placed) => return Err(explained_fault(table, placed)),
+        Err(placed) => return Err(explained_line(text, table, placed)),
     };
     match warnings_of(alloc, table, &config) {
         Ok(warnings) => Ok(Explained { config, warnings }),
@@ -222,20 +242,21 @@ fn explained_text(text: &[u8], at: usize, message: &str) -> Explanation
     Explanation {
         fault: ConfigFault::Toml,
         part: Part::Above,
+        line: None,
         value: InlineText::of(message),
         hint: of_text(text, at),
     }
 }
 
 /// The same of a table as it was written.
-fn explain_written(alloc: Global, table: Table) -> Result<Explained, Explanation>
+fn explain_written(alloc: Global, text: &str, table: Table) -> Result<Explained, Explanation>
     ensures gives { Gives settings_of (plain result) (config_in (Some (table_view table))) }
     ensures place { HasPlace (document_place (Some (table_view table))) result }
     ensures private { IfErr result IsPrivate }
     ensures warnings { IfOk result (HasWarnings (Some (table_view table))) }
 {
     match with_defaults(alloc, table) {
-        Ok(whole) => explain_table(alloc, &whole),
+        Ok(whole) => explain_table(alloc, text, &whole),
         Err(_) => Err(bare(ConfigFault::OutOfMemory)),
     }
 }
@@ -248,7 +269,7 @@ fn explain_text(alloc: Global, text: &str) -> Result<Explained, Explanation>
     ensures warnings { IfOk result (HasWarnings (parse_document text.now)) }
 {
     match toml::table_from_str(alloc, text) {
-        Ok(table) => explain_written(alloc, table),
+        Ok(table) => explain_written(alloc, text, table),
         Err(error) if error.is_memory() => Err(bare(ConfigFault::OutOfMemory)),
         Err(error) => {
             let at = match error.span() {

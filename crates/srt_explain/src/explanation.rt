@@ -102,6 +102,9 @@ pub struct Explanation {
     pub fault: ConfigFault,
     /// The part that has it.
     pub part: Part,
+    /// The line of its key, counted from 1, or the one with which the part begins if the key isn't written there; None at the fault
+    /// `Toml`, whose place is in the hint, and if the part isn't written in lines of its own.
+    pub line: Option<usize>,
     /// The value that is wrong, as TOML writes it, or its beginning; at the fault `Toml` the message of the TOML reader.
     /// Empty if there is none, and for an unknown key, the secret and the keys of roles, which are printed nowhere.
     pub value: InlineText<96>,
@@ -117,6 +120,7 @@ impl Explanation {
         let Explanation {
             fault,
             part: _,
+            line: _,
             value: _,
             hint: _,
         } = self;
@@ -133,6 +137,7 @@ pub(crate) fn bare(fault: ConfigFault) -> Explanation
     Explanation {
         fault,
         part: Part::Above,
+        line: None,
         value: InlineText::new(),
         hint: Hint::Nothing,
     }

@@ -10,16 +10,19 @@
 //! Calls: `explain` on the bytes of a configuration's file. `srtgw` prints its result, a line each.
 //!
 //! Files: `explaining.rt` joins the others; `hints.rt` and `resemblance.rt` find what may have been meant; `values.rt`
-//! reads the table at the fault; `places.rt` counts lines and columns; `texts.rt` has the words; `warnings.rt` the risks;
-//! `laws.rt` relates the definitions to `srt_route`, and states that warnings tell no secret.
+//! reads the table at the fault; `places.rt` counts lines and columns, and `lines.rt` finds the lines of keys; `texts.rt` has the
+//! words; `warnings.rt` the risks; `laws.rt` relates the definitions to `srt_route`, and states that warnings tell no secret.
 #![tactic(auto)]
 
 mod explaining;
 mod explanation;
 mod hints;
 pub mod laws;
+mod lines;
 mod places;
 mod resemblance;
+#[cfg(test)]
+mod tests;
 mod texts;
 mod values;
 mod warnings;

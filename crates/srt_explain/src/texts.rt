@@ -127,6 +127,14 @@ fn write_part<W: fmt::Write>(f: &mut fmt::Formatter<W>, part: Part) -> fmt::Resu
     }
 }
 
+/// Writes the line of a fault, if it has one.
+fn write_line<W: fmt::Write>(f: &mut fmt::Formatter<W>, line: Option<usize>) -> fmt::Result {
+    match line {
+        Some(line) => write!(f, "line {line}: "),
+        None => Ok(()),
+    }
+}
+
 /// Writes that a text can't be read.
 fn write_text_fault<W: fmt::Write>(
     f: &mut fmt::Formatter<W>,
@@ -467,6 +475,7 @@ fn write_bad_address<W: fmt::Write>(
 
 impl fmt::Display for Explanation {
     fn fmt<W: fmt::Write>(&self, f: &mut fmt::Formatter<W>) -> fmt::Result {
+        write_line(f, self.line)?;
         write_part(f, self.part)?;
         let (value, hint) = (self.value.as_str(), self.hint);
         match &self.fault {

@@ -1,0 +1,121 @@
+//! The lines of faults. Their words are rows of `tests/cli`.
+
+use crate::explain;
+use std::fmt::InlineText;
+use std::process::Abort;
+use std::test::Fail;
+
+/// The keys above the routes, and defaults. The texts have what looks like keys and routes.
+const TOP: &str = "\
+# [[route]]
+secret = \"000102030405060708090a0b0c0d0e0f101112131415161718191a1b1c1d1e1f\"
+bind = \"127.0.0.1:0\"
+\"workers\" = 1
+
+[defaults]
+mode = \"live\"
+latency_ms = 120
+publish_from = [
+    \"192.0.2.7\", # ]
+    \"198.51.100.0/24\",
+]
+";
+
+/// Two routes.
+const ROUTES: &str = "
+[[route]]
+name = \"studio\"
+buffer = 32
+sessions = 5
+inbox = 16
+outbox = 16
+
+[[route]]
+name = \"files\"
+buffer = 32
+sessions = 5
+inbox = 16
+outbox = 16
+";
+
+/// Asserts the text of the fault of a configuration, from its beginning, if this is replaced where it is last.
+fn assert_fault(
+    rt: &(impl AllocGlobal + Abort),
+    old: &str,
+    new: &str,
+    wanted: &str,
+) -> Result<(), Fail> {
+    let text = format!(in rt.alloc(); "{TOP}{ROUTES}")?;
+    let Some((before, behind)) = text.rsplit_once(old) else {
+        return Err(Fail::from("nothing to change"));
+    };
+    let changed = format!(in rt.alloc(); "{before}{new}{behind}")?;
+    match explain(rt.alloc(), changed.as_bytes()) {
+        Ok(_) => Err(Fail::from("a right configuration")),
+        Err(explanation) => {
+            let said = InlineText::<512>::of(&explanation);
+            let said = said.as_str();
+            assert!(rt; said.starts_with(wanted), "it is {said}");
+            Ok(())
+        }
+    }
+}
+
+#[test]
+fn a_fault_has_the_line_of_its_key(rt: HostRuntime) -> Result<(), Fail> {
+    assert_fault(
+        &rt,
+        "workers\" = 1",
+        "workers\" = 17",
+        "line 4: workers = 17: ",
+    )?;
+    assert_fault(
+        &rt,
+        "latency_ms = 120",
+        "latency_ms = 19",
+        "line 8: [defaults]: latency_ms = 19: ",
+    )?;
+    assert_fault(
+        &rt,
+        "sessions = 5",
+        "sessions = 40",
+        "line 24: route 2 (files): sessions = 40: ",
+    )?;
+    assert_fault(
+        &rt,
+        "buffer = 32",
+        "buffer = \"\"\"\n[[route]]\nsessions = 1\"\"\"",
+        "line 23: route 2 (files): buffer = ",
+    )?;
+    assert_fault(
+        &rt,
+        "inbox = 16",
+        "'inbox' = 1",
+        "line 25: route 2 (files): inbox = 1: ",
+    )?;
+    assert_fault(
+        &rt,
+        "outbox = 16",
+        "outbox = 16\npublish_from = '[[route]]'",
+        "line 27: route 2 (files): publish_from = ",
+    )?;
+    assert_fault(
+        &rt,
+        "    \"192.0.2.7\", # ]",
+        "    '''\n[[route]]''',",
+        "line 9: [defaults]: publish_from = ",
+    )?;
+    Ok(())
+}
+
+#[test]
+fn a_key_that_is_not_written_has_the_line_of_its_part(rt: HostRuntime) -> Result<(), Fail> {
+    assert_fault(
+        &rt,
+        "outbox = 16\n",
+        "",
+        "line 21: route 2 (files): outbox is missing",
+    )?;
+    assert_fault(&rt, "bind = \"127.0.0.1:0\"\n", "", "bind is missing")?;
+    Ok(())
+}
