@@ -7,6 +7,7 @@ _srtgw() {
   fi
   case $before in
     --rounds) return ;;
+    --log) mapfile -t COMPREPLY < <(compgen -W "text json" -- "$word"); return ;;
     --for) mapfile -t COMPREPLY < <(compgen -W "30s 10m 8h 7d" -- "$word"); return ;;
   esac
   case $command in
@@ -14,7 +15,7 @@ _srtgw() {
     replay) words="--help" ;;
     explain) words="--output --help" ;;
     serve) words="--rounds --help" ;;
-    run) words="--for --no-time --help" ;;
+    run) words="--for --no-time --log --help" ;;
     help) words="check replay explain serve run" ;;
   esac
   if [[ $command == help || $word == -* ]]; then

@@ -18,4 +18,5 @@ complete -c srtgw -n '__srtgw_after explain' -l output -r -F -d 'What replay pri
 complete -c srtgw -n '__srtgw_after serve' -l rounds -x -d 'How many times the socket is polled'
 complete -c srtgw -n '__srtgw_after run' -l for -x -a '30s 10m 8h 7d' -d 'Stop after this time'
 complete -c srtgw -n '__srtgw_after run' -l no-time -d 'Leave out the time of each line'
+complete -c srtgw -n '__srtgw_after run' -l log -x -a 'text json' -d 'The form of the log'
 complete -c srtgw -n '__srtgw_after help' -a 'check replay explain serve run'

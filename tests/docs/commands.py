@@ -35,10 +35,12 @@ RT = {
 @dataclass
 class Command:
     """A subcommand of the program: the names of its arguments, its options with the greatest number that each takes (0 if it takes
-    a duration), those that take a file, those that may not be left out, and its flags, which take nothing and may be left out."""
+    a duration), the words of those that take one of some, those that take a file, those that may not be left out, and its flags,
+    which take nothing and may be left out."""
 
     arguments: List[str] = field(default_factory=list)
     options: Dict[str, int] = field(default_factory=dict)
+    words: Dict[str, List[str]] = field(default_factory=dict)
     files: Set[str] = field(default_factory=set)
     required: Set[str] = field(default_factory=set)
     flags: Set[str] = field(default_factory=set)
@@ -47,6 +49,8 @@ class Command:
         """Whether an option takes this value, or a placeholder of its value. A file isn't looked for here."""
         if PLACEHOLDER.fullmatch(value) or option in self.files:
             return bool(value)
+        if option in self.words:
+            return value in self.words[option]
         most = self.options[option]
         return value.isdigit() and int(value) <= most if most else bool(DURATION.fullmatch(value))
 
@@ -67,6 +71,8 @@ def program_of(index: Index) -> Dict[str, Command]:
                 command.flags.add(f"--{option.group(1)}")
             elif option:
                 command.options[f"--{option.group(1)}"] = constants.get(most.group(1), 0) if most else 0
+                named = re.search(r"Names\(&\[([^\]]*)\]\)", body)
+                command.words |= {f"--{option.group(1)}": re.findall(r'"([^"]+)"', named.group(1))} if named else {}
                 command.files |= {f"--{option.group(1)}"} if '.value_name("FILE")' in body else set()
                 command.required |= {f"--{option.group(1)}"} if ".required(true)" in body else set()
             else:

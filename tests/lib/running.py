@@ -197,6 +197,12 @@ class Run:
             raise Wrong(f"the log lacks {pattern!r}: {self.texts(first)[-8:]}")
         return found
 
+    def pace_refusals(self, most=8):
+        """Waits until fewer callers than so many were refused in the last second: the log leaves out those that are more than ten
+        in a second."""
+        while sum(it.came > time.time() - 1 and " refused, " in it.text for it in self.lines[-50:]) >= most:
+            time.sleep(0.02)
+
     def is_up(self, seconds=10):
         """Waits until its first line says that it serves callers."""
         self.line("serving at .*", seconds)

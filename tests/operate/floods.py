@@ -14,9 +14,10 @@ from machine import drops_of
 from running import STOP_SECONDS, TIME, Run, Shown, Skipped, can_block, expect_polite, files, flooded, live, seconds_of
 
 LINES = 50  # In one second, besides those that say how many were left out.
+REFUSALS = 10  # Of these the most about refused callers.
 LEFT_OUT = r"lines left out (\d+)"
-# The other lines of a run with the stream's two sessions: the start, the sessions' openings and ends, and the stop. A flood may
-# leave out some of them.
+# The other lines of a run with the stream's two sessions: the start, the sessions' openings and ends, and the stop. No flood of
+# refusals leaves out one of them.
 OTHERS = r"serving at .*|steady: .* opened, .*|steady: .* ended, .*|stopping, .*|stopped"
 EVENTS = 7
 
@@ -102,11 +103,11 @@ def play_flood(routes, stream_id, line, count=20_000, rate=5_000, burst=1):
         expect(end.report["full"] == end.report["memory"] == 0, f"{end.report}")
         flood.expect_refused()
         told = [it for it in texts if re.fullmatch(line.format(flood.caller.here[1]), it)]
-        expect(LINES / 2 <= len(told) <= LINES * (spent + 2), f"{len(told)} refusals are told in {spent:.1f} s")
+        expect(REFUSALS * 2 <= len(told) <= REFUSALS * (spent + 2), f"{len(told)} refusals are told in {spent:.1f} s")
         left_out = sum(int(found[1]) for found in (re.fullmatch(LEFT_OUT, it) for it in texts) if found)
         others = [it for it in texts if re.fullmatch(OTHERS, it)]
-        found, wanted = len(told) + left_out + len(others), count + EVENTS
-        expect(found == wanted, f"{len(told)} refusals are told and {left_out} lines left out of {wanted}; beside them {others}")
+        expect(len(others) == EVENTS, f"the flood leaves out lines about sessions: {others}")
+        expect(len(told) + left_out == count, f"{len(told)} refusals are told and {left_out} lines left out of {count}; beside them {others}")
         return end.report["answered"] - asked
 
 
@@ -140,7 +141,7 @@ def unread_log():
         start_all(caller)
         caller.close()
         expect_polite(stopped_unread(run), ["steady", "later"])
-        # What the pipe has no room for is lost with the gateway.
+        # What still waits a second after the gateway's end is lost.
         expect(run.texts()[0].startswith("serving at "), f"the log begins with {run.texts()[0]!r}")
 
 
@@ -150,8 +151,8 @@ def read_again():
         raise Skipped("`env` can't start a program with signals blocked")
     with Run([live("steady")], "--no-time", reads=False) as run:
         Caller(run.address).induce(10)
-        # A line of such a name has 1,023 bytes, so that 50 a second fill what is kept in less than two seconds.
-        flood = Flood(run.address, "\x01" * 300, 250, 50)
+        # A line of such a name has 1,023 bytes, so that 10 a second fill what is kept in seven seconds.
+        flood = Flood(run.address, "\x01" * 300, 500, 50)
         flood.start()
         flood.join()
         flood.expect_refused()
@@ -160,8 +161,29 @@ def read_again():
         expect_polite(run.stop(), ["steady"])
         told = [it for it in run.texts() if "\\x01" in it]
         left_out = sum(int(found[1]) for found in (re.fullmatch(LEFT_OUT, it) for it in run.texts()) if found)
-        expect(len(told) >= 60 and left_out >= 20, f"{len(told)} refusals are told, {left_out} lines left out")
-        expect(len(told) + left_out == 250, f"{len(told)} refusals are told and {left_out} lines left out, of 250")
+        expect(60 <= len(told) <= 80, f"{len(told)} refusals are told, {left_out} lines left out")
+        expect(len(told) + left_out == 500, f"{len(told)} refusals are told and {left_out} lines left out, of 500")
+
+
+@case("what waits in the log at the stop is written before the gateway ends, if somebody reads it within a second")
+def read_at_the_end():
+    if not can_block():
+        raise Skipped("`env` can't start a program with signals blocked")
+    with Run([live("steady")], "--no-time", reads=False) as run:
+        Caller(run.address).induce(10)
+        flood = Flood(run.address, "\x01" * 300, 48, 8)
+        flood.start()
+        flood.join()
+        flood.expect_refused()
+        run.process.send_signal(signal.SIGTERM)
+        time.sleep(0.5)
+        expect(run.runs(), "it ends while its log waits for whoever reads it")
+        run.read()
+        expect_polite(run.end(), ["steady"])
+        told = [it for it in run.texts() if "\\x01" in it]
+        left_out = sum(int(found[1]) for found in (re.fullmatch(LEFT_OUT, it) for it in run.texts()) if found)
+        expect(run.texts()[-1] == "stopped", f"the log ends with {run.texts()[-2:]}")
+        expect(len(told) + left_out == 48, f"{len(told)} refusals are told and {left_out} lines left out, of 48")
 
 
 @case("a log that can't be written stops nothing")

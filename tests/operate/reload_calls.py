@@ -13,7 +13,7 @@ from reload_log import ROLES
 from reload_model import ADMITTED, DEFAULTS, UNKNOWN, Call, Route, Verdict
 from reload_seen import SECONDS, Compared, Plan
 
-LINES = 35  # Lines of a second to which a refusal can be added. Of more than 50 the log leaves some out, and the line waited for may be one.
+LINES = 35  # Lines of a second to which one can be added. Of more than 50 the log leaves some out, and the line waited for may be one.
 FILL = 7  # Calls to a route whose sessions stay open, so that its limits are met.
 
 
@@ -96,6 +96,7 @@ class Called(Compared):
     def try_call(self, call: Call, kind: Callable[..., Caller] = Caller) -> Caller | None:
         """Calls once, and expects what the model has for it. Returns the caller if its session is open."""
         self.pace(LINES)
+        self.run.pace_refusals()
         verdict, route, first = self.model.verdict(call), self.model.route(call.name), len(self.run.lines)
         caller = self.caller(call, kind)
         code = self.code_of(caller, call)
@@ -123,6 +124,7 @@ class Called(Compared):
         until = time.monotonic() + SECONDS
         while True:
             self.pace(LINES)
+            self.run.pace_refusals()
             first, caller = len(self.run.lines), self.caller(call)
             code = self.code_of(caller, call)
             if not code and index_of(caller) == route.index:
@@ -137,6 +139,7 @@ class Called(Compared):
         until = time.monotonic() + SECONDS
         while True:
             self.pace(LINES)
+            self.run.pace_refusals()
             first, caller = len(self.run.lines), self.caller(call)
             code = self.code_of(caller, call)
             if self.transit(caller, code, call, first) == UNKNOWN.cause:

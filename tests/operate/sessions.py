@@ -186,11 +186,13 @@ def lobby_refuses():
                  (1002, dict(stream_id='a"b\\c'), "a\\x22b\\x5cc", unknown), (1002, dict(stream_id="studi\u00e9"), "studi\\xc3\\xa9", unknown),
                  (1002, dict(stream_id=b"new\nline\x1b"), "new\\x0aline\\x1b", unknown), (1002, dict(), "", "no name")]
         for code, words, asked, by in kinds:
+            run.pace_refusals()
             caller = Caller(run.address, **words)
             expect_refusal(code, caller, f"{words}")
             asked_in_all += conclusions(caller)
             run.line(refused_line(code, caller, asked, by), LOOK)
         for code, words in ((1004, dict(asks=False)), (1008, dict(version=4)), *((code, dict(more=more)) for code, more in REFUSED_BLOCKS.items())):
+            run.pace_refusals()
             caller = Caller(run.address, "studio", **words)
             expect_refusal(code, caller, f"{words}")
             asked_in_all += conclusions(caller)

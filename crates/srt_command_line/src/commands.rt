@@ -77,6 +77,17 @@ fn no_time<'a>(alloc: Global) -> Arg<'a> {
         )
 }
 
+fn log<'a>(alloc: Global) -> Arg<'a> {
+    Arg::new(alloc, "log")
+        .long("log")
+        .value_name("FORM")
+        .action(ArgAction::Set)
+        .value_parser(ValueParser::Names(&["text", "json"]))
+        .help(
+            "The form of the log: a line of text for each event, as without this option, or a JSON object for each",
+        )
+}
+
 /// The command `check`.
 fn check<'a>(alloc: Global) -> Result<Command<'a>, AllocError> {
     Command::new(alloc, "check")
@@ -133,7 +144,8 @@ fn run<'a>(alloc: Global) -> Result<Command<'a>, AllocError> {
         )
         .arg(config(alloc))?
         .arg(duration(alloc))?
-        .arg(no_time(alloc))
+        .arg(no_time(alloc))?
+        .arg(log(alloc))
 }
 
 /// The command that reads a configuration alone.

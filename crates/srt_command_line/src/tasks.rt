@@ -1,6 +1,6 @@
 //! The tasks, and how one is found in a command line that was parsed.
 
-ghost use Rattle.std.specs.Prelude.{◌≡◌, IfSome, codes, option_map, Some};
+ghost use Rattle.std.specs.Prelude.{◌≡◌, ◌↔◌, IfSome, codes, option_map, Some, true};
 ghost use Rattle.clap.specs.Matches.{found_of, first_value, subcommand_name_of};
 ghost use Rattle.srt_command_line.specs.inside.Tasks.{lasts_of, command_of};
 
@@ -12,8 +12,10 @@ use clap::ArgMatches;
 pub struct Manner {
     /// How long it serves callers, in microseconds; `None` until it is told to stop.
     pub lasts: Option<u64>,
-    /// Whether each line of the log begins with the time.
+    /// Whether each line of the log has the time: text begins with it, and an object has it as a member.
     pub is_timed: bool,
+    /// Whether each line of the log is a JSON object.
+    pub is_json: bool,
 }
 
 /// What the command line asks for. Files are named by their paths.
@@ -65,16 +67,32 @@ pub(crate) enum Given<'a> {
     WrongDuration,
 }
 
+/// Whether the log has JSON objects by these words.
+fn is_json_in(matches: &ArgMatches<'_>) -> bool
+    ensures { (result ≡ true) ↔ (first_value (found_of matches.now) (codes "log") ≡ Some (codes "json")) }
+{
+    match matches.get_str("log") {
+        Some(form) => form == "json",
+        None => false,
+    }
+}
+
 /// How a gateway runs by these words; None if the time of `--for` is no duration.
 fn manner_of(matches: &ArgMatches<'_>) -> Option<Manner>
-    ensures { option_map (λ manner. manner.lasts) result ≡ lasts_of (first_value (found_of matches.now) (codes "for")) }
+    ensures lasts { option_map (λ manner. manner.lasts) result ≡ lasts_of (first_value (found_of matches.now) (codes "for")) }
+    ensures form { IfSome result (λ manner. (manner.is_json ≡ true) ↔ (first_value (found_of matches.now) (codes "log") ≡ Some (codes "json"))) }
 {
     let is_timed = !matches.get_flag("no-time");
+    let is_json = is_json_in(matches);
     let lasts = match matches.get_str("for") {
         Some(text) => Some(duration_in(text.as_bytes())?),
         None => None,
     };
-    Some(Manner { lasts, is_timed })
+    Some(Manner {
+        lasts,
+        is_timed,
+        is_json,
+    })
 }
 
 /// The task of `run`; None if a word is missing.

@@ -16,9 +16,9 @@ const WRITABLE: i16 = 4;
 /// The most writes of held text in a row.
 const MAX_WRITES: usize = MAX_KEPT / MAX_WRITTEN;
 
-/// Standard error. Text that can't be written at once, since nobody reads it, is held, at most 65,536 bytes, and written
-/// later, in order; a text for which there is no room is refused with `WouldBlock`, so that the caller can count it. So
-/// a log that stands still stops nobody.
+/// Standard error. Text that can't be written at once, since nobody reads it, or since it has more than 4,096 bytes, is held,
+/// at most 65,536 bytes, and written later, in order; a text for which there is no room is refused with `WouldBlock`, so that
+/// the caller can count it. So a log that stands still stops nobody.
 #[derive(Drop)]
 pub struct Errors<'a, R> {
     rt: &'a R,
@@ -69,7 +69,7 @@ impl<R: Eprint> Write for Errors<'_, R> {
             return Err(Error::from(ErrorKind::InvalidData));
         };
         self.write_held();
-        if self.held.is_empty() && is_ready() {
+        if bytes.len() <= MAX_WRITTEN && self.held.is_empty() && is_ready() {
             self.rt.eprint(text)?;
             return Ok(bytes.len());
         }
@@ -79,9 +79,13 @@ impl<R: Eprint> Write for Errors<'_, R> {
         Err(Error::from(ErrorKind::WouldBlock))
     }
 
-    /// Writes what waits, as much as standard error takes now. The rest waits on.
+    /// Writes what waits, as much as standard error takes now. `WouldBlock` while some of it waits on.
     fn flush(&mut self) -> io::Result<()> {
         self.write_held();
-        Ok(())
+        if self.held.is_empty() {
+            Ok(())
+        } else {
+            Err(Error::from(ErrorKind::WouldBlock))
+        }
     }
 }

@@ -1,5 +1,7 @@
 //! The watcher of a gateway that runs on this machine.
 
+ghost use Rattle.std.specs.Prelude.{◌≡◌};
+
 use crate::address::socket_address;
 use crate::errors::Errors;
 use crate::host::{Host, HostFile};
@@ -8,7 +10,7 @@ use srt_command_line::{Manner, VERSION};
 use srt_config::Config;
 use srt_explain::Explained;
 use srt_procfs::signals_are_blocked;
-use srt_watch::{Start, Watcher};
+use srt_watch::{LogForm, Start, Watcher};
 use std::io::ErrorKind;
 use std::time::Instant;
 
@@ -43,6 +45,16 @@ fn open_page(machine: &HostRuntime, config: &Config) -> Result<StatusPage, Watch
             }
             Err(WatcherFault::Page(error.raw_os_error()))
         }
+    }
+}
+
+/// Returns the form of the log.
+fn form_of(manner: Manner) -> LogForm
+    ensures { (result.is_timed ≡ manner.is_timed) × (result.is_json ≡ manner.is_json) }
+{
+    LogForm {
+        is_timed: manner.is_timed,
+        is_json: manner.is_json,
     }
 }
 
@@ -102,7 +114,7 @@ pub fn open_watcher<'a>(
         Host::new(machine, start, config.bind),
         page,
         errors,
-        manner.is_timed,
+        form_of(manner),
         config.entries.as_slice(),
         beginning(machine, config, manner),
     ) else {

@@ -1,5 +1,7 @@
 pub mod Appended
 pub mod Asked
+pub mod ChangedRoutes
+pub mod Floods
 pub mod Logging
 pub mod LossLines
 pub mod PagesShown

@@ -3,7 +3,7 @@ use Rattle.std.proofs.Common.{◌≡◌, ℕ, ◌+◌, ◌/◌, Bool, true, fals
 use Rattle.std.proofs.Common.{◌<◌, length, map, take, get_or, Option, refl, sym, ap, ◌∙◌, subst, append_assoc, append-nil, None, Some}
 use Rattle.std.proofs.KnownBytes.{Appends-nil, Appends-trans}
 use Rattle.std.specs.Io.KnownBytes.{Appends, Keeps}
-use Rattle.srt_log.specs.LineLimit.{LimitCall, StandsFor, omitted_at}
+use Rattle.srt_log.specs.LineShares.{SharedCall, AreShares, polled, omitted_in}
 use Rattle.srt_watch.proofs.Appended.{mapped}
 use Rattle.srt_watch.specs.declared.log.When.{When}
 use Rattle.srt_watch.specs.declared.log.LogPace.{LogPace}
@@ -12,12 +12,12 @@ use Rattle.srt_watch.specs.Log.{LogState, state_after, text_of, state_after_all,
 
 -- nothing was written
 pub wrote_nothing : (b : Option (List ℕ)) (p : LogPace) → Wrote b b p p []
-wrote_nothing b p = record { limit_is = refl; missed_is = refl; second_is = refl; whole_is = λ w. w; text_is = λ w. Appends-nil b }
+wrote_nothing b p = record { shares_are = refl; missed_is = refl; second_is = refl; whole_is = λ w. w; text_is = λ w. Appends-nil b }
 
 -- one text, and then another one
 pub wrote_both : (a b c : Option (List ℕ)) (p q r : LogPace) (x y : List ℕ) → Wrote a b p q x → Wrote b c q r y → Wrote a c p r (x ++ y)
 wrote_both a b c p q r x y f g = record {
-  limit_is = g.limit_is ∙ f.limit_is;
+  shares_are = g.shares_are ∙ f.shares_are;
   missed_is = g.missed_is ∙ f.missed_is;
   second_is = g.second_is ∙ f.second_is;
   whole_is = λ w. f.whole_is (g.whole_is w);
@@ -53,6 +53,13 @@ logged_both a b c p q r xs ys f g = record {
       (g.text_is (state_after_all s xs) (f.state_is s h) w));
 }
 
+-- calls by another name
+pub logged_as : (a b : Option (List ℕ)) (p q : LogPace) (xs ys : List LogCall) → xs ≡ ys → Logged a b p q xs → Logged a b p q ys
+logged_as a b p q xs ys e l = subst (λ t. Logged a b p q t) e l
+
+pub logged_no_more : (a b c : Option (List ℕ)) (p q r : LogPace) → Logged a b p q [] → Logged b c q r [] → Logged a c p r []
+logged_no_more a b c p q r f g = logged_both a b c p q r [] [] f g
+
 -- one call, by which the pace changes first and this is written then
 pub logged_by : (a b : Option (List ℕ)) (p q r : LogPace) (call : LogCall) (text : List ℕ) → q.is_whole ≡ p.is_whole →
     ((s : LogState) → HasState p s → HasState q (state_after s call)) → ((s : LogState) → HasState p s → text ≡ text_of s call) →
@@ -61,7 +68,7 @@ unfolding state_after_all text_of_all
 logged_by a b p q r call text whole state says w = record {
   whole_is = λ e. sym whole ∙ w.whole_is e;
   state_is = λ s h. let k = state s h in record {
-    limit_stands = subst (λ l. StandsFor l (state_after s call).calls) (sym w.limit_is) k.limit_stands;
+    shares_stand = subst (λ l. AreShares l (state_after s call).calls) (sym w.shares_are) k.shares_stand;
     missed_is = w.missed_is ∙ k.missed_is;
     second_is = w.second_is ∙ k.second_is;
   };
@@ -77,7 +84,7 @@ unfolding state_after_all text_of_all
 logged_then a b c o p q r first call text l whole state says w = record {
   whole_is = λ e. l.whole_is (sym whole ∙ w.whole_is e);
   state_is = λ s h. let k = state s (l.state_is s h) in record {
-    limit_stands = subst (λ x. StandsFor x (state_after s call).calls) (sym w.limit_is) k.limit_stands;
+    shares_stand = subst (λ x. AreShares x (state_after s call).calls) (sym w.shares_are) k.shares_stand;
     missed_is = w.missed_is ∙ k.missed_is;
     second_is = w.second_is ∙ k.second_is;
   };
@@ -105,21 +112,21 @@ pub missed_whole : (p : LogPace) (moment : ℕ) → (after_missed p moment).is_w
 missed_whole p moment =
     if_same (λ q. q.is_whole) (nat_le (moment / 1_000_000) p.second) p (record p { missed = 0; second = moment / 1_000_000 }) refl
 
-pub missed_limit : (p : LogPace) (moment : ℕ) → (after_missed p moment).limit ≡ p.limit
-missed_limit p moment =
-    if_same (λ q. q.limit) (nat_le (moment / 1_000_000) p.second) p (record p { missed = 0; second = moment / 1_000_000 }) refl
+pub missed_shares : (p : LogPace) (moment : ℕ) → (after_missed p moment).shares ≡ p.shares
+missed_shares p moment =
+    if_same (λ q. q.shares) (nat_le (moment / 1_000_000) p.second) p (record p { missed = 0; second = moment / 1_000_000 }) refl
 
 pub polled_state : (p p' q : LogPace) (when : When) → q ≡ after_missed p' when.moment → p'.missed ≡ p.missed → p'.second ≡ p.second →
-    ((calls : List LimitCall) → StandsFor p.limit calls → StandsFor p'.limit (record { is_line = false; moment = when.moment } ∷ calls)) →
+    ((calls : List SharedCall) → AreShares p.shares calls → AreShares p'.shares (polled when.moment calls)) →
     (s : LogState) → HasState p s → HasState q (state_after s (Polled when))
 polled_state p p' q when new missed second stands s h =
     let m = when.moment / 1_000_000 in
     let se : p'.second ≡ s.second = second ∙ h.second_is in
     let me : p'.missed ≡ s.missed = missed ∙ h.missed_is in
     record {
-      limit_stands =
-          subst (λ x. StandsFor x (state_after s (Polled when)).calls) (sym (ap (λ x. x.limit) new ∙ missed_limit p' when.moment))
-          (stands s.calls h.limit_stands);
+      shares_stand =
+          subst (λ x. AreShares x (state_after s (Polled when)).calls) (sym (ap (λ x. x.shares) new ∙ missed_shares p' when.moment))
+          (stands s.calls h.shares_stand);
       missed_is =
           ap (λ x. x.missed) new ∙ if_of (λ x. x.missed) (nat_le m p'.second) p' (record p' { missed = 0; second = m })
           ∙ (λ i. if nat_le m (se i) then me i else 0);
@@ -129,7 +136,7 @@ polled_state p p' q when new missed second stands s h =
     }
 
 pub polled_text : (p p' : LogPace) (when : When) (n count missed : ℕ) → n ≡ most (count + missed) → missed ≡ missed_of p' when.moment →
-    p'.missed ≡ p.missed → p'.second ≡ p.second → (s : LogState) → HasState p s → count ≡ omitted_at s.calls when.moment →
+    p'.missed ≡ p.missed → p'.second ≡ p.second → (s : LogState) → HasState p s → count ≡ omitted_in s.calls when.moment →
     left_out_text when n ≡ text_of s (Polled when)
 polled_text p p' when n count missed sum is me se s h counted =
     let m : missed ≡ missed_at s when = is ∙ (λ i. if nat_le (when.moment / 1_000_000) ((se ∙ h.second_is) i) then 0 else (me ∙ h.missed_is) i) in
@@ -154,7 +161,7 @@ unfolding state_after_all text_of_all
 caught_up a b c p r when count kept none w = record {
   whole_is = w.whole_is;
   state_is = λ s h. record {
-    limit_stands = subst (λ l. StandsFor l s.calls) (sym w.limit_is) h.limit_stands;
+    shares_stand = subst (λ l. AreShares l s.calls) (sym w.shares_are) h.shares_stand;
     missed_is = w.missed_is ∙ h.missed_is;
     second_is = w.second_is ∙ h.second_is;
   };

@@ -4,13 +4,13 @@ use Rattle.std.proofs.lemmas.List.{map-append}
 use denote.Ref.{Bor}
 use Rattle.srt_log.specs.Between.{event_at, events_to, listed}
 use Rattle.srt_log.specs.Changes.{change_at}
-use Rattle.srt_log.specs.Events.{event_text}
+use Rattle.srt_log.specs.declared.shares.LineKind.TheVariants.{Session}
 use Rattle.srt_log.specs.declared.snapshots.RouteSnapshot.{RouteSnapshot}
 use Rattle.srt_log.proofs.Between.{no_events, next_event}
 use Rattle.srt_watch.specs.declared.log.LogPace.{LogPace}
 use Rattle.srt_watch.specs.declared.log.When.{When}
 use Rattle.srt_watch.specs.declared.watched_routes.SnapshotPair.{SnapshotPair}
-use Rattle.srt_watch.specs.Log.{Logged, Offered, offered}
+use Rattle.srt_watch.specs.Log.{Logged, Offered, offered, said}
 use Rattle.srt_watch.specs.RouteLines.{step_calls, calls_to, take_over_more, take_overs_to}
 use Rattle.srt_watch.proofs.Logging.{logged_none, logged_both}
 
@@ -22,7 +22,7 @@ calls_next : (when : When) (name : Bor (List ℕ)) (pair : SnapshotPair) (step :
     calls_to when name pair (step + 1) ≡ calls_to when name pair step ++ step_calls when name pair step
 calls_next when name pair step =
     ap (offered when) (next_event name pair.old pair.new step)
-    ∙ map-append (λ event. Offered when (event_text event)) (events_to name pair.old pair.new step) (listed (event_at name pair.old pair.new step))
+    ∙ map-append (λ event. Offered when Session (said event)) (events_to name pair.old pair.new step) (listed (event_at name pair.old pair.new step))
 
 pub next_step : (a b c : Option (List ℕ)) (p q r : LogPace) (when : When) (name : Bor (List ℕ)) (pair : SnapshotPair) (step : ℕ) →
     Logged a b p q (calls_to when name pair step) → Logged b c q r (step_calls when name pair step) →

@@ -1,12 +1,17 @@
 -- The lines of a changed configuration, and the counts of changes.
-use Rattle.std.specs.Prelude.{ℕ, ◌-◌, List, [], ◌∷◌, ◌++◌, codes, Option, None, Some, slice_get, length, if◌then◌else◌}
+use Rattle.std.specs.Prelude.{ℕ, ◌-◌, List, [], ◌∷◌, ◌++◌, codes, Option, None, Some, option_map, slice_get, length, if◌then◌else◌}
 use Rattle.std.specs.Fmt.InlineText.{inline_text}
-use Rattle.srt_types.specs.Terms.{Terms}
+use Rattle.std.specs.List.{flat_map}
+use Rattle.srt_types.specs.declared.shared.Entry.{Entry}
+use Rattle.srt_types.specs.Terms.{Terms, terms_of}
 use Rattle.srt_config.specs.declared.changes.RouteChange.{RouteChange}
 use Rattle.srt_config.specs.declared.changes.RouteChange.TheVariants.{Stays, Reopens, Opens}
-use Rattle.srt_log.specs.ConfigEvents.{about_text, no_memory_text, fixed_text, no_indexes_text, closes_text, opens_text, few_indexes_text}
 use Rattle.srt_log.specs.declared.config_events.CloseCause.{CloseCause}
 use Rattle.srt_log.specs.declared.config_events.CloseCause.TheVariants.{Removed, OtherKeys}
+use Rattle.srt_log.specs.declared.config_events.ConfigEvent.{ConfigEvent}
+use Rattle.srt_log.specs.declared.config_events.ConfigEvent.TheVariants as events
+use Rattle.srt_log.specs.declared.events.LogEvent.TheVariants.{Config}
+use Rattle.srt_log.specs.declared.shares.LineKind.TheVariants.{Session}
 use Rattle.srt_status.specs.declared.gateway.ChangeCounts.{ChangeCounts}
 use Rattle.srt_supervision.specs.declared.changes.ChangeFault.{ChangeFault}
 use Rattle.srt_supervision.specs.declared.changes.ChangeFault.TheVariants.{OutOfMemory, NoIndexLeft}
@@ -16,8 +21,8 @@ use Rattle.srt_watch.specs.declared.log.When.{When}
 use Rattle.srt_watch.specs.declared.prepared_change.NoRoom.{NoRoom}
 use Rattle.srt_watch.specs.declared.prepared_change.NoRoom.TheVariants.{Route, Lists}
 use Rattle.srt_watch.specs.Census.{one_more}
-use Rattle.srt_watch.specs.Indexes.{opens, next_after, reaches_mark, megabytes_of}
-use Rattle.srt_watch.specs.Log.{LogCall, Always, Offered}
+use Rattle.srt_watch.specs.Indexes.{opens, reaches_mark, megabytes_of}
+use Rattle.srt_watch.specs.Log.{LogCall, Always, Offered, Said, said, lent}
 
 -- one change more that was made, or that wasn't
 abbrev pub one_taken : ChangeCounts → ChangeCounts
@@ -26,11 +31,15 @@ one_taken counts = record counts { taken = one_more counts.taken }
 abbrev pub one_refused : ChangeCounts → ChangeCounts
 one_refused counts = record counts { refused = one_more counts.refused }
 
+-- what is said of a configuration
+abbrev pub config_said : ConfigEvent → Said
+config_said event = said (Config event)
+
 -- why the content of the file isn't taken; a file that can't be read isn't counted
-abbrev pub not_taken_words : NotTaken → List ℕ
-not_taken_words (Unread why) = about_text (codes "configuration can't be read: ") (inline_text why)
-not_taken_words (Wrong why) = about_text (codes "configuration not taken: ") (inline_text why)
-not_taken_words (KeysDiffer keys) = fixed_text keys
+abbrev pub not_taken_said : NotTaken → Said
+not_taken_said (Unread why) = config_said (events.Unread (lent (inline_text why)))
+not_taken_said (Wrong why) = config_said (events.Wrong (lent (inline_text why)))
+not_taken_said (KeysDiffer keys) = config_said (events.KeysDiffer keys)
 
 abbrev pub counted_not_taken : NotTaken → ChangeCounts → ChangeCounts
 counted_not_taken (Unread why) counts = counts
@@ -38,9 +47,9 @@ counted_not_taken (Wrong why) counts = one_refused counts
 counted_not_taken (KeysDiffer keys) counts = one_refused counts
 
 -- for lack of memory: of the route of this name, or of lists
-abbrev pub no_room_words : NoRoom → List ℕ
-no_room_words (Route name) = no_memory_text (inline_text name)
-no_room_words Lists = about_text (codes "configuration not taken: ") (codes "out of memory")
+abbrev pub no_room_said : NoRoom → Said
+no_room_said (Route name) = config_said (events.NoMemory (lent (inline_text name)))
+no_room_said Lists = config_said (events.Wrong (lent (codes "out of memory")))
 
 -- the name of a route, if there is one
 abbrev pub name_or_none : Option (List ℕ) → List ℕ
@@ -48,42 +57,34 @@ name_or_none None = []
 name_or_none (Some name) = name
 
 -- why the run rejected a change by which routes of these names open
-abbrev pub rejected_words : (names : List (List ℕ)) → ChangeFault → List ℕ
-rejected_words names (OutOfMemory place) = no_memory_text (name_or_none (slice_get names place))
-rejected_words names (NoIndexLeft left) = no_indexes_text (length names) left
+abbrev pub rejected_said : (names : List (List ℕ)) → ChangeFault → Said
+rejected_said names (OutOfMemory place) = config_said (events.NoMemory (lent (name_or_none (slice_get names place))))
+rejected_said names (NoIndexLeft left) = config_said (events.NoIndexes (length names) left)
 
--- the routes that close, of a configuration with these routes: first those whose names are gone, then those that open again
+-- the routes that close, of a configuration with these entries: first those whose names are gone, then those that open again
 abbrev pub close_call : When → CloseCause → Option Terms → List LogCall
 close_call when cause None = []
-close_call when cause (Some terms) = Offered when (closes_text terms.name cause) ∷ []
+close_call when cause (Some terms) = Offered when Session (config_said (events.RouteCloses (lent terms.name) cause)) ∷ []
 
-abbrev pub gone_calls : When → List Terms → (gone : List ℕ) → List LogCall
-gone_calls when before [] = []
-gone_calls when before (place ∷ gone) = close_call when Removed (slice_get before place) ++ gone_calls when before gone
+abbrev pub closing_call : When → CloseCause → List Entry → (place : ℕ) → List LogCall
+closing_call when cause before place = close_call when cause (option_map terms_of (slice_get before place))
 
-abbrev pub reopened_call : When → List Terms → RouteChange → List LogCall
+abbrev pub gone_calls : When → List Entry → (gone : List ℕ) → List LogCall
+gone_calls when before gone = flat_map (closing_call when Removed before) gone
+
+abbrev pub reopened_call : When → List Entry → RouteChange → List LogCall
 reopened_call when before (Stays place) = []
-reopened_call when before (Reopens place) = close_call when OtherKeys (slice_get before place)
+reopened_call when before (Reopens place) = closing_call when OtherKeys before place
 reopened_call when before Opens = []
 
-abbrev pub reopened_calls : When → List Terms → List RouteChange → List LogCall
-reopened_calls when before [] = []
-reopened_calls when before (change ∷ changes) = reopened_call when before change ++ reopened_calls when before changes
+abbrev pub reopened_calls : When → List Entry → List RouteChange → List LogCall
+reopened_calls when before changes = flat_map (reopened_call when before) changes
 
-abbrev pub close_calls : When → List Terms → (gone : List ℕ) → List RouteChange → List LogCall
-close_calls when before gone changes = gone_calls when before gone ++ reopened_calls when before changes
-
--- the routes that open, in the order of the configuration, which has these routes; they have the indexes from this one on
+-- a route that opens, with this index
 abbrev pub open_call : When → RouteChange → Terms → (index : ℕ) → List LogCall
 open_call when change terms index =
-    if opens change then Offered when (opens_text terms.name index (megabytes_of terms)) ∷ [] else []
-
-abbrev pub open_calls : When → List RouteChange → List Terms → (index : ℕ) → List LogCall
-open_calls when [] routes index = []
-open_calls when (change ∷ changes) [] index = []
-open_calls when (change ∷ changes) (terms ∷ routes) index =
-    open_call when change terms index ++ open_calls when changes routes (next_after index change)
+    if opens change then Offered when Session (config_said (events.RouteOpens (lent terms.name) index (megabytes_of terms))) ∷ [] else []
 
 -- when few indexes are left
 abbrev pub few_calls : When → (before used : ℕ) → List LogCall
-few_calls when before used = if reaches_mark before used then Always when (few_indexes_text (511 - used)) ∷ [] else []
+few_calls when before used = if reaches_mark before used then Always when (config_said (events.FewIndexes (511 - used))) ∷ [] else []

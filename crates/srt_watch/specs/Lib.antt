@@ -1,6 +1,8 @@
 pub mod Facts
 pub mod Machines
 pub mod Log
+pub mod Shares
+pub mod Draining
 pub mod Losses
 pub mod FirstLines
 pub mod Course

@@ -1,11 +1,10 @@
 -- Faults and losses at the socket and of the log, and the lines about them.
 use Rattle.std.specs.Prelude.{ℕ, ◌-◌, ◌==◌, List, [], ◌∷◌, ◌++◌, Option, if◌then◌else◌}
 use Rattle.std.specs.Option.{unwrap_or}
-use Rattle.srt_log.specs.Events.{event_text}
 use Rattle.srt_log.specs.declared.events.LogEvent.TheVariants.{SocketFaults, KernelDrops}
 use Rattle.srt_watch.specs.declared.log.When.{When}
 use Rattle.srt_watch.specs.declared.losses.Losses.{Losses}
-use Rattle.srt_watch.specs.Log.{LogCall, Always}
+use Rattle.srt_watch.specs.Log.{LogCall, Always, said}
 
 abbrev pub no_losses : Losses
 no_losses = record { faults = 0; logged_faults = 0; logged_drops = 0; missed = 0 }
@@ -26,10 +25,10 @@ drops_or logged drops = unwrap_or drops logged
 
 -- the lines of the faults and of the drops since the last such lines, if there are any
 abbrev pub faults_logged : When → (count : ℕ) → List LogCall
-faults_logged when count = if count == 0 then [] else Always when (event_text (SocketFaults count)) ∷ []
+faults_logged when count = if count == 0 then [] else Always when (said (SocketFaults count)) ∷ []
 
 abbrev pub drops_logged : When → (count : ℕ) → List LogCall
-drops_logged when count = if count == 0 then [] else Always when (event_text (KernelDrops count)) ∷ []
+drops_logged when count = if count == 0 then [] else Always when (said (KernelDrops count)) ∷ []
 
 abbrev pub fault_calls : Losses → When → List LogCall
 fault_calls losses when = faults_logged when (losses.faults - losses.logged_faults)

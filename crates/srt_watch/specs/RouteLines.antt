@@ -3,15 +3,16 @@ use Rattle.std.specs.Prelude.{ℕ, zero, suc, List, [], ◌∷◌, Option, None,
 use denote.Ref.{Bor}
 use Rattle.srt_log.specs.Between.{event_at, events_between, events_to, listed}
 use Rattle.srt_log.specs.Changes.{change_at}
-use Rattle.srt_log.specs.Events.{limited_text}
+use Rattle.srt_log.specs.declared.events.LogEvent.TheVariants.{Limited}
 use Rattle.srt_log.specs.declared.changes.Change.{Change}
+use Rattle.srt_log.specs.declared.shares.LineKind.TheVariants.{Refusal}
 use Rattle.srt_log.specs.declared.changes.Change.TheVariants.{TookOver}
 use Rattle.srt_log.specs.declared.snapshots.RouteSnapshot.{RouteSnapshot}
 use Rattle.srt_status.specs.declared.routes.LimitCounts.{LimitCounts}
 use Rattle.srt_watch.specs.declared.log.When.{When}
 use Rattle.srt_watch.specs.declared.watched_routes.SnapshotPair.{SnapshotPair}
 use Rattle.srt_watch.specs.Census.{one_more}
-use Rattle.srt_watch.specs.Log.{LogCall, Offered, offered}
+use Rattle.srt_watch.specs.Log.{LogCall, Offered, offered, said, lent}
 
 -- what changed, in the order of the steps, and the refusals by each limit
 abbrev pub step_calls : When → Bor (List ℕ) → SnapshotPair → (step : ℕ) → List LogCall
@@ -25,7 +26,7 @@ change_calls when name pair = offered when (events_between name pair.old pair.ne
 
 abbrev pub limit_calls : When → (name : List ℕ) → Option LimitCounts → List LogCall
 limit_calls when name None = []
-limit_calls when name (Some n) = Offered when (limited_text name n.sessions n.reserved n.sessions_per_address) ∷ []
+limit_calls when name (Some n) = Offered when Refusal (said (Limited (lent name) n.sessions n.reserved n.sessions_per_address)) ∷ []
 
 -- the take-overs in the first steps
 abbrev pub take_over_more : (count : ℕ) → Option Change → ℕ

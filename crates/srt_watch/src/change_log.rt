@@ -1,23 +1,25 @@
 //! The lines of a configuration that changes while the gateway runs, and the counts of such changes.
 
-ghost use Rattle.std.specs.Prelude.{◌≡◌, [], ◌∷◌, true, option_map};
+ghost use Rattle.std.specs.Prelude.{◌≡◌, [], ◌∷◌, ◌++◌, true, option_map};
 ghost use Rattle.srt_types.specs.Terms.{terms_of};
-ghost use Rattle.srt_config.specs.declared.changes.RouteChange.TheVariants.{Opens};
-ghost use Rattle.srt_log.specs.ConfigEvents.{config_text};
+ghost use Rattle.srt_log.specs.declared.shares.LineKind.TheVariants.{Session};
 ghost use Rattle.srt_watch.specs.Overview.{no_changes};
 ghost use Rattle.srt_watch.specs.Log.{HasState, Logged, Always, Offered};
-ghost use Rattle.srt_watch.specs.ChangeLines.{one_refused, not_taken_words, counted_not_taken, no_room_words, close_call, open_call, few_calls};
+ghost use Rattle.srt_watch.specs.ChangeLines.{config_said, one_taken, one_refused, not_taken_said, counted_not_taken, no_room_said};
+ghost use Rattle.srt_watch.specs.ChangeLines.{close_call, closing_call, gone_calls, reopened_call, reopened_calls};
+ghost use Rattle.srt_watch.specs.ChangeLines.{open_call, few_calls};
 
-use crate::in_force::NotTaken;
+use crate::in_force::{NotTaken, Wanted};
 use crate::indexes::{megabytes_of, next_after, opens, reaches_mark};
 use crate::log::{LogWriter, When};
 use crate::prepared_change::{NoRoom, PreparedChange};
 use srt_config::{Config, RouteChange};
-use srt_log::{CloseCause, ConfigEvent, LogEvent};
+use srt_log::{CloseCause, ConfigEvent, LineKind, LogEvent};
 use srt_status::ChangeCounts;
 use srt_supervision::ChangeFault;
 use srt_types::Entry;
 use srt_types::product_limits::MAX_ROUTES;
+use std::alloc::Global;
 use std::io::Write;
 
 /// A log, and the counts of changes of the configuration. `indexes` of these isn't set here.
@@ -29,14 +31,14 @@ pub(crate) struct ChangeLog<W: Drop> {
 
 impl<W: Write + Drop> ChangeLog<W> {
     /// Returns a log without lines, and no changes.
-    pub(crate) fn new(out: W) -> ChangeLog<W>
+    pub(crate) fn new(alloc: Global, out: W) -> ChangeLog<W>
         ensures out { result.log.out ≡ out }
         ensures counts { result.counts ≡ no_changes }
         ensures state { HasState result.log.pace (record { calls = []; missed = 0; second = 0 }) }
         ensures whole { result.log.pace.is_whole ≡ true }
     {
         ChangeLog {
-            log: LogWriter::new(out),
+            log: LogWriter::new(alloc, out),
             counts: ChangeCounts::default(),
         }
     }
@@ -45,25 +47,16 @@ impl<W: Write + Drop> ChangeLog<W> {
     fn write(&mut self, when: When, event: ConfigEvent<'_>)
         ensures counts { self.new.counts ≡ self.old.counts }
         ensures logged { Logged (W.contents self.old.log.out) (W.contents self.new.log.out) self.old.log.pace self.new.log.pace
-            (Always when (config_text event.entry) ∷ []) }
+            (Always when (config_said event.entry) ∷ []) }
     {
         self.log.append_always(when, LogEvent::Config { event });
-    }
-
-    // Writes a line about a route, if its second has room.
-    fn write_route(&mut self, when: When, event: ConfigEvent<'_>)
-        ensures counts { self.new.counts ≡ self.old.counts }
-        ensures logged { Logged (W.contents self.old.log.out) (W.contents self.new.log.out) self.old.log.pace self.new.log.pace
-            (Offered when (config_text event.entry) ∷ []) }
-    {
-        self.log.append(when, LogEvent::Config { event });
     }
 
     // Logs why a changed configuration isn't taken, and counts it.
     fn refuse(&mut self, when: When, event: ConfigEvent<'_>)
         ensures counts { self.new.counts ≡ one_refused self.old.counts }
         ensures logged { Logged (W.contents self.old.log.out) (W.contents self.new.log.out) self.old.log.pace self.new.log.pace
-            (Always when (config_text event.entry) ∷ []) }
+            (Always when (config_said event.entry) ∷ []) }
     {
         self.write(when, event);
         self.counts.refused = self.counts.refused.saturating_add(1);
@@ -73,7 +66,7 @@ impl<W: Write + Drop> ChangeLog<W> {
     pub(crate) fn not_taken(&mut self, when: When, not_taken: &NotTaken)
         ensures counts { self.new.counts ≡ counted_not_taken not_taken.now self.old.counts }
         ensures logged { Logged (W.contents self.old.log.out) (W.contents self.new.log.out) self.old.log.pace self.new.log.pace
-            (Always when (not_taken_words not_taken.now) ∷ []) }
+            (Always when (not_taken_said not_taken.now) ∷ []) }
     {
         match not_taken {
             NotTaken::Unread(why) => {
@@ -95,7 +88,7 @@ impl<W: Write + Drop> ChangeLog<W> {
     pub(crate) fn no_room(&mut self, when: When, no_room: &NoRoom)
         ensures counts { self.new.counts ≡ one_refused self.old.counts }
         ensures logged { Logged (W.contents self.old.log.out) (W.contents self.new.log.out) self.old.log.pace self.new.log.pace
-            (Always when (no_room_words no_room.now) ∷ []) }
+            (Always when (no_room_said no_room.now) ∷ []) }
     {
         match no_room {
             NoRoom::Route(name) => {
@@ -126,65 +119,6 @@ impl<W: Write + Drop> ChangeLog<W> {
         }
     }
 
-    // Logs that the route of this entry closes.
-    #[tactic(auto, using(crate::proofs::Logging::logged_nothing))]
-    fn route_closes(&mut self, when: When, entry: Option<&Entry>, cause: CloseCause)
-        ensures counts { self.new.counts ≡ self.old.counts }
-        ensures logged { Logged (W.contents self.old.log.out) (W.contents self.new.log.out) self.old.log.pace self.new.log.pace
-            (close_call when cause (option_map (λ e. terms_of e.now) entry.entry)) }
-    {
-        if let Some(entry) = entry {
-            let route = entry.name.as_bytes();
-            self.write_route(when, ConfigEvent::RouteCloses { route, cause });
-        }
-    }
-
-    // Logs the routes that close: first those whose names are gone, then those that open again.
-    fn all_closes(&mut self, when: When, change: &PreparedChange, before: &Config) {
-        let changes = &change.wanted().changes;
-        for place in changes.gone.iter() {
-            self.route_closes(when, before.entries.get(*place), CloseCause::Removed);
-        }
-        for change in changes.routes.iter() {
-            if let RouteChange::Reopens(place) = change {
-                self.route_closes(when, before.entries.get(*place), CloseCause::OtherKeys);
-            }
-        }
-    }
-
-    // Logs that the route of this entry opens, with this index.
-    fn route_opens(&mut self, when: When, entry: &Entry, index: usize)
-        ensures counts { self.new.counts ≡ self.old.counts }
-        ensures logged { Logged (W.contents self.old.log.out) (W.contents self.new.log.out) self.old.log.pace self.new.log.pace
-            (open_call when Opens (terms_of entry.now) index) }
-    {
-        self.write_route(
-            when,
-            ConfigEvent::RouteOpens {
-                route: entry.name.as_bytes(),
-                index: index as u64,
-                megabytes: megabytes_of(entry),
-            },
-        );
-    }
-
-    // Logs the routes that open, in the order of the configuration. They have the indexes from `first` on.
-    fn all_opens(&mut self, when: When, change: &PreparedChange, first: usize) {
-        let wanted = change.wanted();
-        let mut index = first;
-        for (change, entry) in wanted
-            .changes
-            .routes
-            .iter()
-            .zip(wanted.config.entries.iter())
-        {
-            if opens(*change) {
-                self.route_opens(when, entry, index);
-            }
-            index = next_after(index, *change);
-        }
-    }
-
     /// Logs a change that the run made, before its configuration is in force, and counts it: the first line always, those
     /// of routes as many as their second has room for. `before` is the configuration in force; routes opened from the
     /// index `first` on.
@@ -194,11 +128,13 @@ impl<W: Write + Drop> ChangeLog<W> {
         change: &PreparedChange,
         before: &Config,
         first: usize,
-    ) {
+    )
+        ensures counts { self.new.counts ≡ one_taken self.old.counts }
+    {
+        let wanted = change.wanted();
         let routes = change.numbers();
         self.write(when, ConfigEvent::Taken { routes });
-        self.all_closes(when, change, before);
-        self.all_opens(when, change, first);
+        log_routes(&mut self.log, when, wanted, before, first);
         self.counts.taken = self.counts.taken.saturating_add(1);
     }
 
@@ -214,4 +150,139 @@ impl<W: Write + Drop> ChangeLog<W> {
             self.write(when, ConfigEvent::FewIndexes { left });
         }
     }
+}
+
+// Writes a line about a route, if its second has room.
+fn log_route<W: Write + Drop>(log: &mut LogWriter<W>, when: When, event: ConfigEvent<'_>)
+    ensures { Logged (W.contents log.old.out) (W.contents log.new.out) log.old.pace log.new.pace
+        (Offered when Session (config_said event.entry) ∷ []) }
+{
+    log.append(when, LineKind::Session, LogEvent::Config { event });
+}
+
+// Writes that the route of this entry closes, if there is one.
+#[tactic(auto, using(crate::proofs::Logging::logged_nothing))]
+fn log_close<W: Write + Drop>(
+    log: &mut LogWriter<W>,
+    when: When,
+    entry: Option<&Entry>,
+    cause: CloseCause,
+)
+    ensures { Logged (W.contents log.old.out) (W.contents log.new.out) log.old.pace log.new.pace
+        (close_call when cause (option_map (λ e. terms_of e.now) entry.entry)) }
+{
+    if let Some(entry) = entry {
+        let route = entry.name.as_bytes();
+        log_route(log, when, ConfigEvent::RouteCloses { route, cause });
+    }
+}
+
+// Writes that the route of the entry at this place closes, if there is one.
+#[tactic(auto, using(crate::proofs::ChangedRoutes::closed_at))]
+fn log_close_at<W: Write + Drop>(
+    log: &mut LogWriter<W>,
+    when: When,
+    before: &[Entry],
+    place: usize,
+    cause: CloseCause,
+)
+    ensures { Logged (W.contents log.old.out) (W.contents log.new.out) log.old.pace log.new.pace (closing_call when cause before.now place) }
+{
+    log_close(log, when, before.get(place), cause);
+}
+
+// Writes that the routes at these places close, whose names are gone.
+#[tactic(auto, using(crate::proofs::Logging::logged_nothing, crate::proofs::ChangedRoutes::logged_flat))]
+fn log_gone<W: Write + Drop>(log: &mut LogWriter<W>, when: When, before: &[Entry], gone: &[usize])
+    ensures { Logged (W.contents log.old.out) (W.contents log.new.out) log.old.pace log.new.pace (gone_calls when before.now gone.now) }
+{
+    for place in gone {
+        log_close_at(log, when, before, *place, CloseCause::Removed);
+    }
+}
+
+// Writes that a route closes, if it is to open again.
+#[tactic(auto, using(crate::proofs::Logging::logged_nothing))]
+fn log_if_reopened<W: Write + Drop>(
+    log: &mut LogWriter<W>,
+    when: When,
+    before: &[Entry],
+    change: RouteChange,
+)
+    ensures { Logged (W.contents log.old.out) (W.contents log.new.out) log.old.pace log.new.pace (reopened_call when before.now change) }
+{
+    match change {
+        RouteChange::Reopens(place) => {
+            log_close_at(log, when, before, place, CloseCause::OtherKeys);
+        }
+        RouteChange::Stays(_) | RouteChange::Opens => {}
+    }
+}
+
+// Writes that the routes close which are to open again.
+#[tactic(auto, using(crate::proofs::Logging::logged_nothing, crate::proofs::ChangedRoutes::logged_flat))]
+fn log_reopened<W: Write + Drop>(
+    log: &mut LogWriter<W>,
+    when: When,
+    before: &[Entry],
+    changes: &[RouteChange],
+)
+    ensures { Logged (W.contents log.old.out) (W.contents log.new.out) log.old.pace log.new.pace (reopened_calls when before.now changes.now) }
+{
+    for change in changes {
+        log_if_reopened(log, when, before, *change);
+    }
+}
+
+// Writes that the route of this entry opens with this index, if it opens.
+#[tactic(auto, using(crate::proofs::Logging::logged_nothing))]
+fn log_if_opens<W: Write + Drop>(
+    log: &mut LogWriter<W>,
+    when: When,
+    change: RouteChange,
+    entry: &Entry,
+    index: usize,
+)
+    ensures { Logged (W.contents log.old.out) (W.contents log.new.out) log.old.pace log.new.pace (open_call when change (terms_of entry.now) index) }
+{
+    if !opens(change) {
+        return;
+    }
+    log_route(
+        log,
+        when,
+        ConfigEvent::RouteOpens {
+            route: entry.name.as_bytes(),
+            index: index as u64,
+            megabytes: megabytes_of(entry),
+        },
+    );
+}
+
+// Writes which routes open, in the order of the configuration. They have the indexes from `first` on.
+fn log_opens<W: Write + Drop>(log: &mut LogWriter<W>, when: When, wanted: &Wanted, first: usize) {
+    let mut index = first;
+    for (change, entry) in wanted
+        .changes
+        .routes
+        .iter()
+        .zip(wanted.config.entries.iter())
+    {
+        log_if_opens(log, when, *change, entry, index);
+        index = next_after(index, *change);
+    }
+}
+
+// Writes which routes close and open by a change: first those whose names are gone, then those that open again.
+fn log_routes<W: Write + Drop>(
+    log: &mut LogWriter<W>,
+    when: When,
+    wanted: &Wanted,
+    before: &Config,
+    first: usize,
+) {
+    let entries = before.entries.as_slice();
+    log_gone(log, when, entries, wanted.changes.gone.as_slice());
+    log_reopened(log, when, entries, wanted.changes.routes.as_slice());
+    log_opens(log, when, wanted, first);
 }

@@ -1,9 +1,8 @@
 //! The first lines of a log: the address of the gateway, and the warnings of its configuration.
 
 ghost use Rattle.std.specs.Prelude.{◌≡◌, [], ◌∷◌, ◌++◌, OnOk, Some, None};
-ghost use Rattle.srt_log.specs.Events.{event_text};
-ghost use Rattle.srt_watch.specs.Log.{Logged};
-ghost use Rattle.srt_watch.specs.FirstLines.{started_words, first_calls, warning_call, warning_calls, unblocked_calls};
+ghost use Rattle.srt_watch.specs.Log.{Logged, said};
+ghost use Rattle.srt_watch.specs.FirstLines.{started_said, first_calls, warning_call, warning_calls, unblocked_calls};
 
 use crate::log::{LogWriter, When};
 use srt_log::LogEvent;
@@ -131,7 +130,7 @@ fn log_warning<W: Write + Drop>(
 
 // Returns the event that the gateway serves callers.
 fn started(start: Start, routes: u32, memory: u64) -> LogEvent<'static>
-    ensures { event_text result ≡ started_words start routes memory }
+    ensures { said result ≡ started_said start routes memory }
 {
     LogEvent::Started {
         ip: start.ip,

@@ -50,6 +50,7 @@ mod watcher;
 
 pub use config_file::{ConfigFile, FileStamp, MAX_REASON};
 pub use first_lines::Start;
+pub use log::LogForm;
 pub use machine::Machine;
 pub use status_server::{NoStatusServer, StatusServer};
 pub use watcher::Watcher;

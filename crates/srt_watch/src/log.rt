@@ -1,22 +1,38 @@
-//! A log: lines to a writer, at most 50 in a second.
+//! A log: lines to a writer, in a second at most 40 about sessions and routes and 10 about refused callers.
 
-ghost use Rattle.std.specs.Prelude.{◌≡◌, ◌+◌, ◌++◌, [], ◌∷◌, List, true, IfSome};
-ghost use Rattle.srt_log.specs.Events.{event_text};
-ghost use Rattle.srt_watch.specs.Log.{IsStamp, IsTimeOf, HasState, Wrote, Logged, most, missed_of, after_missed, line_at, line_if, left_out_text};
+ghost use Rattle.std.specs.Prelude.{◌≡◌, ◌+◌, ◌++◌, [], ◌∷◌, List, true, IfSome, OnOk};
+ghost use Rattle.std.specs.Io.KnownBytes.{Appends};
+ghost use Rattle.srt_log.specs.Objects.{object_text};
+ghost use Rattle.srt_watch.specs.Log.{IsStamp, IsTimeOf, HasState, Wrote, Logged, most, missed_of, after_missed};
+ghost use Rattle.srt_watch.specs.Log.{object_at, line_at, line_if, left_out_text, said};
 ghost use Rattle.srt_watch.specs.Log.{Offered, Always, Polled, Missed, Closed};
+ghost use Rattle.srt_watch.specs.Draining.{IsDrained};
+ghost use Rattle.srt_log.specs.declared.events.LogEvent.TheVariants.{Stopped};
 
 use crate::machine::Machine;
-use srt_log::{LineLimit, LogEvent, utc_text, write_line};
-use std::io::{ErrorKind, Write};
+use srt_log::{LineKind, LineShares, LogEvent, put_object, utc_text, write_line};
+use std::alloc::Global;
+use std::io::{self, Error, ErrorKind, Write};
 use std::mem;
 
-/// A time, by two clocks.
+/// The form of a log's lines.
+#[derive(Clone, Copy)]
+pub struct LogForm {
+    /// Whether lines have their time.
+    pub is_timed: bool,
+    /// Whether each line is a JSON object.
+    pub is_json: bool,
+}
+
+/// A time, by two clocks, and the form of the lines at it.
 #[derive(Clone, Copy)]
 pub(crate) struct When {
     /// Microseconds of the routes' clock.
     pub moment: u64,
-    /// The system's time as text, in front of each line; none if lines have no time.
+    /// The system's time as text, for each line; none if lines have no time.
     pub stamp: Option<[u8; 24]>,
+    /// Whether each line is a JSON object.
+    pub is_json: bool,
 }
 
 // Returns the text of a time in microseconds since 1970, if lines have one.
@@ -28,14 +44,19 @@ fn stamp_of(is_timed: bool, time: u64) -> Option<[u8; 24]>
 
 impl When {
     /// Reads both clocks. Lines have a time if they are to be timed.
-    pub(crate) fn now<M: Machine>(machine: &mut M, is_timed: bool) -> When
-        ensures time { IfSome (M.says machine.old) (λ s. IsTimeOf is_timed s result) }
+    pub(crate) fn now<M: Machine>(machine: &mut M, form: LogForm) -> When
+        ensures time { IfSome (M.says machine.old) (λ s. IsTimeOf form s result) }
+        ensures form { result.is_json ≡ form.is_json }
         ensures known { M.facts.was_moment result.moment }
         ensures machine { M.says machine.new ≡ M.says machine.old }
     {
         let moment = machine.moment();
-        let stamp = stamp_of(is_timed, machine.time());
-        When { moment, stamp }
+        let stamp = stamp_of(form.is_timed, machine.time());
+        When {
+            moment,
+            stamp,
+            is_json: form.is_json,
+        }
     }
 }
 
@@ -45,7 +66,7 @@ const SECOND: u64 = 1_000_000;
 /// How many lines the current second of a log has, and what it left out.
 #[derive(Clone, Copy)]
 pub(crate) struct LogPace {
-    limit: LineLimit,
+    shares: LineShares,
     // events that weren't passed to the log, and aren't logged as left out yet
     missed: u64,
     // the second in which they were logged last
@@ -61,7 +82,7 @@ impl LogPace {
         ensures whole { result.is_whole ≡ true }
     {
         LogPace {
-            limit: LineLimit::new(),
+            shares: LineShares::new(),
             missed: 0,
             second: 0,
             is_whole: true,
@@ -82,6 +103,42 @@ impl LogPace {
     }
 }
 
+// Whether a write that failed so may succeed later: there was no room for the line, or no memory.
+fn is_passing(kind: ErrorKind) -> bool {
+    kind == ErrorKind::WouldBlock || kind == ErrorKind::OutOfMemory
+}
+
+// Makes the object of an event in place of another one, and writes it.
+#[tactic(auto, unfolding(srt_log::specs::Objects::object_text))]
+fn put_json<W: Write>(
+    out: &mut W,
+    object: &mut Vec<u8>,
+    when: When,
+    event: LogEvent<'_>,
+) -> io::Result<()>
+    ensures { OnOk result (Appends (W.contents out.old) (W.contents out.new) (object_at when.stamp (said event.entry))) }
+{
+    object.clear();
+    if put_object(object, when.stamp, event).is_err() {
+        return Err(Error::from(ErrorKind::OutOfMemory));
+    }
+    out.write_all(object.as_slice())
+}
+
+/// The most rests in which a log's writer writes what waits in it, for a clock that stands still.
+const MAX_RESTS: u32 = 100;
+
+/// How the wait for a log's writer ended.
+#[derive(Clone, Copy)]
+pub(crate) enum Drained {
+    /// All is out: nothing waits, and each line that wasn't written was counted in one that was.
+    All,
+    /// The time was over, at this moment.
+    Over(u64),
+    /// After so many rests the clock hadn't come to the end of the time.
+    Rested(u32),
+}
+
 /// A log, and its pace.
 #[derive(Drop)]
 pub(crate) struct LogWriter<W: Drop> {
@@ -89,12 +146,14 @@ pub(crate) struct LogWriter<W: Drop> {
     pace: LogPace,
     // lines that the writer had no room for, and that aren't logged as left out yet
     refused: u64,
+    // room for the object of a line
+    object: Vec<u8>,
     ghost counted: { pace.is_whole ≡ true → refused ≡ 0 },
 }
 
 impl<W: Write + Drop> LogWriter<W> {
     /// Returns a log without lines.
-    pub fn new(out: W) -> LogWriter<W>
+    pub fn new(alloc: Global, out: W) -> LogWriter<W>
         ensures out { result.out ≡ out }
         ensures state { HasState result.pace (record { calls = []; missed = 0; second = 0 }) }
         ensures whole { result.pace.is_whole ≡ true }
@@ -103,6 +162,7 @@ impl<W: Write + Drop> LogWriter<W> {
             out,
             pace: LogPace::new(),
             refused: 0,
+            object: Vec::new(alloc),
         }
     }
 
@@ -113,16 +173,29 @@ impl<W: Write + Drop> LogWriter<W> {
         self.pace.missed = self.pace.missed.saturating_add(count);
     }
 
-    // Writes a line, whatever the limit. If the writer has no room for it now, the `count` lines that it stands for are
-    // counted; any other failed write is ignored: the gateway continues without a log.
-    fn write(&mut self, when: When, event: LogEvent<'_>, count: u64)
-        ensures { Wrote (W.contents self.old.out) (W.contents self.new.out) self.old.pace self.new.pace (line_at when (event_text event.entry)) }
+    // Makes the line of an event, and writes it. An error is the writer's, or that memory for an object was refused.
+    fn put_line(&mut self, when: When, event: LogEvent<'_>) -> io::Result<()>
+        ensures line { OnOk result (Appends (W.contents self.old.out) (W.contents self.new.out) (line_at when (said event.entry))) }
+        ensures pace { self.new.pace ≡ self.old.pace }
+        ensures refused { self.new.refused ≡ self.old.refused }
     {
-        match write_line(&mut self.out, when.stamp, event) {
+        if when.is_json {
+            put_json(&mut self.out, &mut self.object, when, event)
+        } else {
+            write_line(&mut self.out, when.stamp, event)
+        }
+    }
+
+    // Writes a line, whatever the limit. If the writer has no room for it now, or there is no memory for it, the `count`
+    // lines that it stands for are counted; any other failed write is ignored: the gateway continues without a log.
+    fn write(&mut self, when: When, event: LogEvent<'_>, count: u64)
+        ensures { Wrote (W.contents self.old.out) (W.contents self.new.out) self.old.pace self.new.pace (line_at when (said event.entry)) }
+    {
+        match self.put_line(when, event) {
             Ok(()) => {}
             Err(error) => {
                 self.pace.is_whole = false;
-                if error.kind() == ErrorKind::WouldBlock {
+                if is_passing(error.kind()) {
                     self.refused = self.refused.saturating_add(count);
                 }
             }
@@ -131,7 +204,8 @@ impl<W: Write + Drop> LogWriter<W> {
 
     // Writes how many lines were left out, if some were.
     fn append_left_out(&mut self, when: When, count: u64)
-        ensures { Wrote (W.contents self.old.out) (W.contents self.new.out) self.old.pace self.new.pace (left_out_text when count) }
+        ensures wrote { Wrote (W.contents self.old.out) (W.contents self.new.out) self.old.pace self.new.pace (left_out_text when count) }
+        ensures none { count ≡ 0 → self.new.refused ≡ self.old.refused }
     {
         if count > 0 {
             self.write(when, LogEvent::LeftOut { count }, count);
@@ -140,18 +214,18 @@ impl<W: Write + Drop> LogWriter<W> {
 
     // Writes the line of an event if it is to be written.
     fn write_if(&mut self, is_written: bool, when: When, event: LogEvent<'_>)
-        ensures { Wrote (W.contents self.old.out) (W.contents self.new.out) self.old.pace self.new.pace (line_if is_written when (event_text event.entry)) }
+        ensures { Wrote (W.contents self.old.out) (W.contents self.new.out) self.old.pace self.new.pace (line_if is_written when (said event.entry)) }
     {
         if is_written {
             self.write(when, event, 1);
         }
     }
 
-    /// Writes the line of an event if its second has room for it, and counts it otherwise.
-    pub fn append(&mut self, when: When, event: LogEvent<'_>)
-        ensures { Logged (W.contents self.old.out) (W.contents self.new.out) self.old.pace self.new.pace (Offered when (event_text event.entry) ∷ []) }
+    /// Writes the line of an event if its second has room for one of its kind, and counts it otherwise.
+    pub fn append(&mut self, when: When, kind: LineKind, event: LogEvent<'_>)
+        ensures { Logged (W.contents self.old.out) (W.contents self.new.out) self.old.pace self.new.pace (Offered when kind (said event.entry) ∷ []) }
     {
-        let allowed = self.pace.limit.line(when.moment);
+        let allowed = self.pace.shares.line(kind, when.moment);
         self.append_left_out(when, allowed.left_out);
         self.write_if(allowed.written, when, event);
     }
@@ -159,7 +233,7 @@ impl<W: Write + Drop> LogWriter<W> {
     /// Writes the line of an event whether its second has room or not. For events that happen once in a run, or at most
     /// twice a second.
     pub fn append_always(&mut self, when: When, event: LogEvent<'_>)
-        ensures { Logged (W.contents self.old.out) (W.contents self.new.out) self.old.pace self.new.pace (Always when (event_text event.entry) ∷ []) }
+        ensures { Logged (W.contents self.old.out) (W.contents self.new.out) self.old.pace self.new.pace (Always when (said event.entry) ∷ []) }
     {
         self.end_second(when);
         self.write(when, event, 1);
@@ -169,19 +243,44 @@ impl<W: Write + Drop> LogWriter<W> {
     pub fn end_second(&mut self, when: When)
         ensures { Logged (W.contents self.old.out) (W.contents self.new.out) self.old.pace self.new.pace (Polled when ∷ []) }
     {
-        let count = self.pace.limit.poll(when.moment);
+        let count = self.pace.shares.poll(when.moment);
         let missed = self.pace.missed_by(when.moment);
         self.append_left_out(when, count.saturating_add(missed));
     }
 
     /// Lets the writer write what waits in it, and then writes how many lines it had no room for, if some were and there
-    /// is room again.
-    pub fn catch_up(&mut self, when: When)
-        ensures { Logged (W.contents self.old.out) (W.contents self.new.out) self.old.pace self.new.pace [] }
+    /// is room again. Returns whether all is out: nothing waits in the writer, and it has had no line without room since the
+    /// last such number.
+    pub fn catch_up(&mut self, when: When) -> bool
+        ensures logged { Logged (W.contents self.old.out) (W.contents self.new.out) self.old.pace self.new.pace [] }
+        ensures told { result ≡ true → (self.old.refused ≡ 0) × (self.new.refused ≡ 0) }
     {
-        let _ = self.out.flush();
+        let is_flushed = self.out.flush().is_ok();
         let count = mem::replace(&mut self.refused, 0);
         self.append_left_out(when, count);
+        is_flushed && count == 0
+    }
+
+    /// Rests until all is out, or until the time `ends` of the routes' clock.
+    #[tactic(auto, using(crate::proofs::Logging::logged_nothing, crate::proofs::Logging::logged_no_more))]
+    pub fn drain<M: Machine>(&mut self, machine: &mut M, when: When, ends: u64) -> Drained
+        ensures logged { Logged (W.contents self.old.out) (W.contents self.new.out) self.old.pace self.new.pace [] }
+        ensures machine { M.says machine.new ≡ M.says machine.old }
+        ensures drained { IsDrained M.facts ends self.new.refused result }
+    {
+        let mut rests = 0u32;
+        while rests < MAX_RESTS {
+            if self.catch_up(when) {
+                return Drained::All;
+            }
+            let moment = machine.moment();
+            if moment >= ends {
+                return Drained::Over(moment);
+            }
+            machine.rest();
+            rests += 1;
+        }
+        Drained::Rested(rests)
     }
 
     /// Writes how many lines the current second has left out so far, at the end of the log.
@@ -190,8 +289,23 @@ impl<W: Write + Drop> LogWriter<W> {
     {
         self.end_second(when);
         let missed = mem::replace(&mut self.pace.missed, 0);
-        let left_out = self.pace.limit.left_out();
+        let left_out = self.pace.shares.left_out();
         self.append_left_out(when, left_out.saturating_add(missed));
+    }
+
+    /// Ends the log: writes how many lines the current second has left out so far, then, once what waits is out, the last
+    /// line, and rests until that is out too; for a second at most. Returns how that wait ended.
+    pub fn close<M: Machine>(&mut self, machine: &mut M, when: When) -> Drained
+        ensures logged { Logged (W.contents self.old.out) (W.contents self.new.out) self.old.pace self.new.pace
+            (Closed when ∷ Always when (said Stopped) ∷ []) }
+        ensures machine { M.says machine.new ≡ M.says machine.old }
+        ensures drained { IsDrained M.facts (most (when.moment + 1_000_000)) self.new.refused result }
+    {
+        let ends = when.moment.saturating_add(SECOND);
+        self.end(when);
+        let _ = self.drain(machine, when, ends);
+        self.append_always(when, LogEvent::Stopped);
+        self.drain(machine, when, ends)
     }
 }
 
@@ -202,3 +316,6 @@ impl LogWriter<Vec<u8>> {
         self.out.clear();
     }
 }
+
+#[cfg(test)]
+mod tests;

@@ -6,7 +6,7 @@ ghost use Rattle.srt_watch.specs.RouteLines.{step_calls, calls_to, change_calls,
 
 use crate::log::{LogWriter, When};
 use crate::watched_routes::SnapshotPair;
-use srt_log::{Change, LogEvent, STEPS, change_at, event_of};
+use srt_log::{Change, LineKind, LogEvent, STEPS, change_at, event_of};
 use srt_status::LimitCounts;
 use std::io::Write;
 
@@ -29,7 +29,7 @@ fn log_step<W: Write + Drop>(
 {
     if let Some(change) = change_at(&pair.old, &pair.new, step) {
         if let Some(event) = event_of(route.name, &pair.old, &pair.new, change) {
-            log.append(route.when, event);
+            log.append(route.when, LineKind::Session, event);
         }
     }
 }
@@ -85,6 +85,7 @@ pub(crate) fn log_limits<W: Write + Drop>(
     };
     log.append(
         when,
+        LineKind::Refusal,
         LogEvent::Limited {
             route,
             full: grown.sessions,

@@ -13,7 +13,7 @@ use crate::change_log::ChangeLog;
 use crate::config_file::ConfigFile;
 use crate::first_lines::{FirstLines, Start};
 use crate::following::Following;
-use crate::log::{LogWriter, When};
+use crate::log::{LogForm, LogWriter, When};
 use crate::losses::Losses;
 use crate::machine::Machine;
 use crate::overview::Overview;
@@ -23,7 +23,7 @@ use crate::status_server::StatusServer;
 use crate::steering::Steering;
 use crate::watched_routes::WatchedRoutes;
 use srt_config::Config;
-use srt_log::{LogEvent, StopCause};
+use srt_log::{LineKind, LogEvent, StopCause};
 use srt_route::Route;
 use srt_supervision::{Answers, ChangeRoutes, Order, Refusal, RunStatus, Watch};
 use srt_types::Entry;
@@ -48,6 +48,7 @@ fn log_refused<W: Write + Drop>(log: &mut LogWriter<W>, when: When, name: &[u8],
 {
     log.append(
         when,
+        LineKind::Refusal,
         LogEvent::Refused {
             code: refusal.code,
             peer: refusal.peer,
@@ -90,8 +91,8 @@ pub struct Watcher<'a, M: Machine + Drop, W: Drop, P: Drop, F: ConfigFile + Drop
     alloc: Global,
     machine: M,
     steering: Steering<M>,
-    // lines begin with their time
-    is_timed: bool,
+    // the form of the log's lines
+    form: LogForm,
     changes: ChangeLog<W>,
     first_lines: FirstLines,
     losses: Losses,
@@ -111,14 +112,14 @@ where
     F: ConfigFile + Drop,
 {
     /// Returns a watcher of the routes of these entries, which have the indexes from 0 on in their order. It writes its lines
-    /// to `out`, each with its time in front if it `is_timed`, and shows the status to `page`. Allocates 7 KB for each
+    /// to `out` in this form, and shows the status to `page`. Allocates 7 KB for each
     /// route; the only error is out of memory.
     pub fn open(
         alloc: Global,
         machine: M,
         page: P,
         out: W,
-        is_timed: bool,
+        form: LogForm,
         entries: &[Entry],
         start: Start,
     ) -> Result<Watcher<'a, M, W, P, F>, AllocError>
@@ -129,8 +130,8 @@ where
             alloc,
             machine,
             steering: Steering::new(start.lasts),
-            is_timed,
-            changes: ChangeLog::new(out),
+            form,
+            changes: ChangeLog::new(alloc, out),
             first_lines: FirstLines::new(alloc, start),
             losses: Losses::none(),
             page: Page::new(page, start.version),
@@ -215,9 +216,10 @@ where
             .show(moment, &self.overview, self.changes.counts, &self.routes);
     }
 
-    /// Writes the last line, after the gateway's end.
+    /// Writes the last line, after the gateway's end. If the writer holds text that it couldn't write yet, rests until that is
+    /// written too, for a second at most.
     pub fn end(&mut self) {
-        let when = When::now(&mut self.machine, self.is_timed);
+        let when = When::now(&mut self.machine, self.form);
         if !self.steering.is_stopping() {
             let by = StopCause::Rounds;
             self.changes
@@ -225,9 +227,7 @@ where
                 .append_always(when, LogEvent::StopRequested { by });
         }
         self.log_losses(when);
-        self.changes.log.end(when);
-        self.changes.log.catch_up(when);
-        self.changes.log.append_always(when, LogEvent::Stopped);
+        self.changes.log.close(&mut self.machine, when);
     }
 }
 
@@ -250,7 +250,7 @@ where
             self.changes.counts,
             &self.routes,
         );
-        let when = When::now(&mut self.machine, self.is_timed);
+        let when = When::now(&mut self.machine, self.form);
         self.begin(when);
         self.note_status(when.moment, status);
         self.changes.log.end_second(when);
@@ -266,7 +266,7 @@ where
     }
 
     fn wants_routes(&mut self) -> bool {
-        let when = When::now(&mut self.machine, self.is_timed);
+        let when = When::now(&mut self.machine, self.form);
         if !self.steering.is_snapshot_due(when.moment) {
             return false;
         }
@@ -276,7 +276,7 @@ where
     }
 
     fn show_route(&mut self, index: usize, route: &Route) {
-        let when = When::now(&mut self.machine, self.is_timed);
+        let when = When::now(&mut self.machine, self.form);
         let stops = self.steering.is_stopping();
         if let Some(pair) = self.routes.observe(index, route, when.moment, stops) {
             let name = self.routes.name_of(index).as_bytes();
@@ -287,12 +287,12 @@ where
     }
 
     fn refused(&mut self, refusal: &Refusal) {
-        let when = When::now(&mut self.machine, self.is_timed);
+        let when = When::now(&mut self.machine, self.form);
         self.note_refused(when, refusal);
     }
 
     fn change_routes<C: ChangeRoutes>(&mut self, run: &mut C) {
-        let when = When::now(&mut self.machine, self.is_timed);
+        let when = When::now(&mut self.machine, self.form);
         let Some(following) = self.following.as_mut() else {
             return;
         };

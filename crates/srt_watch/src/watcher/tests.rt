@@ -7,7 +7,7 @@ ghost use Rattle.srt_types.specs.Items.{input_of, moment_of};
 
 mod changing;
 
-use crate::{Machine, Start, StatusServer, Watcher};
+use crate::{LogForm, Machine, Start, StatusServer, Watcher};
 use arrayvec::ArrayVec;
 use changing::Written;
 use srt_route::{Reply, Route, SessionView, Totals, Traffic};
@@ -195,7 +195,10 @@ fn watcher<'a>(
         machine,
         Shown::nothing(),
         out,
-        is_timed,
+        LogForm {
+            is_timed,
+            is_json: false,
+        },
         entries,
         start,
     )?)
@@ -427,7 +430,7 @@ fn refusals_are_reported_with_what_was_asked_for(rt: HostRuntime) -> Result<(), 
 }
 
 #[test]
-fn a_flood_has_fifty_lines_a_second(rt: HostRuntime) -> Result<(), Fail> {
+fn a_flood_of_refusals_has_ten_lines_a_second(rt: HostRuntime) -> Result<(), Fail> {
     let entries = vec![in rt.alloc(); entry(rt.alloc())?]?;
     let mut watcher = watcher(rt.alloc(), &entries, false, start(true, None))?;
     let flood = refusal(None, b"x", UNKNOWN)?;
@@ -444,11 +447,63 @@ fn a_flood_has_fifty_lines_a_second(rt: HostRuntime) -> Result<(), Fail> {
         .iter()
         .filter(|byte| **byte == b'\n')
         .count();
-    assert_eq!(rt; lines, 50);
+    assert_eq!(rt; lines, 10);
     watcher.changes.log.clear();
     watcher.machine.moment = 2_000_000;
     assert_eq!(rt; watcher.next(NOTHING), Order::GoOn);
-    assert_lines(&rt, &mut watcher, "lines left out 950\n");
+    assert_lines(&rt, &mut watcher, "lines left out 990\n");
+    Ok(())
+}
+
+#[test]
+fn a_log_of_objects(rt: HostRuntime) -> Result<(), Fail> {
+    let entries = vec![in rt.alloc(); entry(rt.alloc())?]?;
+    let mut watcher = watcher(rt.alloc(), &entries, true, start(true, None))?;
+    watcher.form.is_json = true;
+    watcher.warn("warning: route 1 (studio): sessions = 2")?;
+    watcher.machine.moment = 2_000;
+    assert_eq!(rt; watcher.next(NOTHING), Order::GoOn);
+    watcher.refused(&refusal(None, b"stud\"o", UNKNOWN)?);
+    assert_lines(
+        &rt,
+        &mut watcher,
+        "{\"event\":\"started\",\"time\":\"2026-11-26T15:04:05.125Z\",\"text\":\"serving at 192.0.2.1:9000, routes 1, workers 2, memory 71524 KiB\",\"bind\":\"192.0.2.1:9000\",\"routes\":1,\"workers\":2,\"memory_bytes\":73240576}\n{\"event\":\"warning\",\"time\":\"2026-11-26T15:04:05.125Z\",\"text\":\"warning: route 1 (studio): sessions = 2\",\"warning\":\"warning: route 1 (studio): sessions = 2\"}\n{\"event\":\"refused\",\"time\":\"2026-11-26T15:04:05.125Z\",\"text\":\"127.0.0.1:5000 refused, 1002 PEER, asked for \\\"stud\\\\x22o\\\", unknown name\",\"code\":1002,\"peer\":\"127.0.0.1:5000\",\"name\":\"stud\\\\x22o\",\"cause\":\"unknown_name\"}\n",
+    );
+    watcher.machine.moment = 1_000_000;
+    watcher.machine.drops = 2;
+    let status = RunStatus {
+        missed: 1,
+        ..NOTHING
+    };
+    watcher.note_status(1_000_000, status);
+    watcher.end();
+    assert_lines(
+        &rt,
+        &mut watcher,
+        "{\"event\":\"left_out\",\"time\":\"2026-11-26T15:04:06.123Z\",\"text\":\"lines left out 1\",\"count\":1}\n{\"event\":\"stop_requested\",\"time\":\"2026-11-26T15:04:06.123Z\",\"text\":\"stopping, all rounds were made\",\"cause\":\"rounds\"}\n{\"event\":\"kernel_drops\",\"time\":\"2026-11-26T15:04:06.123Z\",\"text\":\"datagrams dropped by the kernel 2\",\"count\":2}\n{\"event\":\"stopped\",\"time\":\"2026-11-26T15:04:06.123Z\",\"text\":\"stopped\"}\n",
+    );
+    Ok(())
+}
+
+#[test]
+fn a_flood_of_refusals_costs_no_line_of_a_session(rt: HostRuntime) -> Result<(), Fail> {
+    let entries = vec![in rt.alloc(); entry(rt.alloc())?]?;
+    let mut watcher = watcher(rt.alloc(), &entries, false, start(true, None))?;
+    let mut route = Route::open(rt.alloc(), &entries[0], 0)?;
+    watcher.show_route(0, &route);
+    hear(rt.alloc(), &mut route, 1_000_000, PUBLISHER)?;
+    watcher.machine.moment = 1_000_000;
+    let flood = refusal(None, b"x", UNKNOWN)?;
+    for _ in 0..1_000 {
+        watcher.refused(&flood);
+    }
+    watcher.changes.log.clear();
+    watcher.show_route(0, &route);
+    assert_lines(
+        &rt,
+        &mut watcher,
+        "studio: publisher 127.0.0.1:5000 opened, socket 0x00100000, latency 120 ms\n",
+    );
     Ok(())
 }
 
@@ -515,7 +570,7 @@ fn a_flood_hides_no_count(rt: HostRuntime) -> Result<(), Fail> {
     );
     watcher.machine.moment = 2_000_000;
     assert_eq!(rt; watcher.next(status), Order::GoOn);
-    assert_lines(&rt, &mut watcher, "lines left out 310\n");
+    assert_lines(&rt, &mut watcher, "lines left out 350\n");
     Ok(())
 }
 

@@ -6,7 +6,7 @@ use Rattle.srt_watch.proofs.log.LogWriter.end.Goals as goal
 pub returns : goal.returns
 returns g c =
     logged_then _ _ _ _ _ _ _ _ _ _ c.end_second.ensures refl
-    (λ s h. record { limit_stands = h.limit_stands; missed_is = c.replace-missed.ensures.after; second_is = h.second_is })
+    (λ s h. record { shares_stand = h.shares_stand; missed_is = c.replace-missed.ensures.after; second_is = h.second_is })
     (λ s h. ap (λ t. second_text s c.args.when ++ left_out_text c.args.when t)
-    (sym (c.saturating_add.ensures ∙ (λ i. most (c.left_out-left_out.ensures _ h.limit_stands i + (c.replace-missed.ensures.value ∙ h.missed_is) i)))))
-    c.append_left_out.ensures
+    (sym (c.saturating_add.ensures ∙ (λ i. most (c.left_out-left_out.ensures _ h.shares_stand i + (c.replace-missed.ensures.value ∙ h.missed_is) i)))))
+    c.append_left_out.ensures.wrote

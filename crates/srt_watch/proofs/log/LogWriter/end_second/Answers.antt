@@ -6,7 +6,7 @@ pub returns : goal.returns
 returns g c =
     logged_by _ _ _ _ _ _ _ (ap (λ p. p.is_whole) c.missed_by-missed.ensures.new ∙ missed_whole _ _)
     (polled_state _ _ _ c.args.when c.missed_by-missed.ensures.new refl refl c.poll-count.ensures.stands)
-    (λ s h. polled_text c.args.self.now.pace (record c.args.self.now.pace { limit = c.poll-count.new.self })
+    (λ s h. polled_text c.args.self.now.pace (record c.args.self.now.pace { shares = c.poll-count.new.self })
     c.args.when _ _ _ c.saturating_add.ensures c.missed_by-missed.ensures.result refl refl s h
-    (c.poll-count.ensures.left_out s.calls h.limit_stands))
-    c.append_left_out.ensures
+    (c.poll-count.ensures.left_out s.calls h.shares_stand))
+    c.append_left_out.ensures.wrote

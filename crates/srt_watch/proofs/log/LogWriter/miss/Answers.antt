@@ -7,7 +7,7 @@ pub returns : goal.returns
 returns g c =
     logged_by _ _ _ _ _ _ [] refl
     (λ s h. record {
-      limit_stands = h.limit_stands;
+      shares_stand = h.shares_stand;
       missed_is = c.saturating_add-self.ensures ∙ ap (λ n. most (n + c.args.count)) h.missed_is;
       second_is = h.second_is;
     })
