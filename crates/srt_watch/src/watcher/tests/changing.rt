@@ -15,11 +15,11 @@ use std::process::Abort;
 use std::test::Fail;
 
 /// The keys above the routes.
-const HEAD: &str =
+pub(super) const HEAD: &str =
     "secret = \"000102030405060708090a0b0c0d0e0f101112131415161718191a1b1c1d1e1f\"\nbind = \"127.0.0.1:9000\"\nworkers = 2\n";
 
 /// The same with three other values.
-const OTHER_HEAD: &str =
+pub(super) const OTHER_HEAD: &str =
     "secret = \"000102030405060708090a0b0c0d0e0f101112131415161718191a1b1c1d1e1e\"\nbind = \"127.0.0.1:9001\"\nworkers = 3\n";
 
 /// Routes; the second `studio` has another latency, the third a key that is none.
@@ -85,7 +85,7 @@ impl ConfigFile for Written {
 }
 
 // What the system says of a file that isn't there.
-fn missing() -> InlineText<MAX_REASON> {
+pub(super) fn missing() -> InlineText<MAX_REASON> {
     InlineText::of("No such file or directory (os error 2)")
 }
 
@@ -304,7 +304,7 @@ fn what_is_not_taken_is_logged_once(rt: HostRuntime) -> Result<(), Fail> {
     assert_lines(
         &rt,
         &mut watcher,
-        "configuration not taken: route 1 (studio): sessions = 40: allowed are 1 to 17\n",
+        "configuration not taken: line 9: route 1 (studio): sessions = 40: allowed are 1 to 17\n",
     );
     assert!(rt; next_change(&mut watcher, Ok(1)).is_none());
     assert_lines(&rt, &mut watcher, "");
