@@ -199,10 +199,16 @@ fn wraps_are_those_of_the_standard(rt: HostRuntime) -> Result<(), Fail> {
     Ok(())
 }
 
+/// The schedule of the key in the first 16 bytes.
+fn first_half(key: &[u8; 40]) -> RoundKeys
+    ensures { IsKeyLength (length (key_of result)) }
+{
+    RoundKeys::new(&key[..16])
+}
+
 #[test]
 fn wraps_are_those_of_openssl(rt: HostRuntime) -> Result<(), Fail> {
-    let key = kek(b"correct horse battery", &SALT, 16);
-    let keys = RoundKeys::new(&key[..16]);
+    let keys = first_half(&kek(b"correct horse battery", &SALT, 16));
     assert!(rt;
         gives(
             &keys,
