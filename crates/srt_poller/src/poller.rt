@@ -436,7 +436,7 @@ impl Poller {
     }
 
     /// Makes the rest of a round, which has begun: sends the kept reply again, waits and reads, lets the polling thread
-    /// serve routes, and sends replies.
+    /// serve routes, and sends replies. Returns the routes whose outboxes were drained or passed over (`drain`).
     #[inline(always)]
     pub(crate) fn make_round<R: Wait, S: Source, W: Wire, G: Signals>(
         &mut self,
@@ -445,20 +445,21 @@ impl Poller {
         wire: &mut W,
         ends: &mut [Ends],
         latest: &mut Latest,
-    )
+    ) -> Visits
         requires { length ends.old ≡ length (named_in context.now.lobby) }
-        ensures { RoundMade (setting_in context.now.lobby (G.knows context.now.signals.now)) (named_in context.now.lobby)
+        ensures made { RoundMade (setting_in context.now.lobby (G.knows context.now.signals.now)) (named_in context.now.lobby)
             (length ends.old) (begun_phase self.old)
             (listening (heard (S.gave source.old) (S.calls source.old)) (carried (W.handed wire.old) (W.attempts wire.old)) ends.old self.old)
             (listening (heard (S.gave source.new) (S.calls source.new)) (carried (W.handed wire.new) (W.attempts wire.new)) ends.new self.new)
             latest.old.moment latest.new.moment }
+        ensures visited { self.new.kept ≡ None → length ends.old ≤ result.next }
     {
         self.resend(context.signals, wire);
         serve_inline(
             context.signals,
             self.listen(context, source, wire, ends, latest),
         );
-        let _ = self.drain(context, wire, ends);
+        self.drain(context, wire, ends)
     }
 
     /// Returns the counts so far, in which a reply that is still kept counts as lost.

@@ -103,7 +103,8 @@ impl PollerRounds {
             signals: task.signals,
             all: self.poller.checks_all(round),
         };
-        self.poller
+        let _ = self
+            .poller
             .make_round(&context, source, wire, ends, &mut self.plans.latest);
         self.next = round + 1;
     }

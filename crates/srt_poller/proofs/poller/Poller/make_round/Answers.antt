@@ -5,8 +5,8 @@ use Rattle.srt_poller.specs.Pollers.{sorting, named_in, round_state}
 use Rattle.srt_poller.proofs.Steps.{went_then, went_as, went_more, up_to_over}
 use Rattle.srt_poller.proofs.poller.Poller.make_round.Goals as goal
 
-pub returns : goal.returns
-returns g c schedules round =
+pub returns-clause-made : goal.returns-clause-made
+returns-clause-made g c schedules round =
     let class = sorting c.args.context.now.lobby.secret.now in
     let names = named_in c.args.context.now.lobby in
     let source = heard (g.S.Source.gave c.args.source.now) (g.S.Source.calls c.args.source.now) in
@@ -19,3 +19,6 @@ returns g c schedules round =
       up_to_over drained.1,
       went_more (omega (arith, c.listen.auto.ends)) (omega arith) (went_as (omega arith) (went_then (went_then resent listened) drained.2)),
     )
+
+pub returns-clause-visited : goal.returns-clause-visited
+returns-clause-visited g c none = omega (arith, c.drain.ensures.visited none, c.listen.auto.ends)

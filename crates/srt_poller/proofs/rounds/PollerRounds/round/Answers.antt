@@ -16,4 +16,4 @@ make_round-requires g c =
 pub returns-clause-went : goal.returns-clause-went
 returns-clause-went g c =
     let latest : c.begin.new.self.latest.moment ≡ c.args.self.now.plans.latest.moment = ap (λ (l : Latest). l.moment) c.begin.ensures.latest in
-    (c.begin.new.ends, c.begin.ensures.started, rw latest at c.make_round.ensures)
+    (c.begin.new.ends, c.begin.ensures.started, rw latest at c.make_round.ensures.made)
