@@ -1,5 +1,5 @@
 -- The lines of a changed configuration, and the counts of changes.
-use Rattle.std.specs.Prelude.{ℕ, ◌-◌, List, [], ◌∷◌, ◌++◌, codes, Option, None, Some, option_map, slice_get, length, if◌then◌else◌}
+use Rattle.std.specs.Prelude.{ℕ, ◌-◌, List, [], ◌∷◌, codes, Option, None, Some, option_map, slice_get, length, if◌then◌else◌}
 use Rattle.std.specs.Fmt.InlineText.{inline_text}
 use Rattle.std.specs.List.{flat_map}
 use Rattle.srt_types.specs.declared.shared.Entry.{Entry}

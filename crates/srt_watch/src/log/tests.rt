@@ -53,6 +53,7 @@ impl Write for Slow {
 }
 
 /// A machine whose clock moves by 20 milliseconds at each look.
+#[derive(Drop)]
 struct Ticking {
     moment: u64,
 }
