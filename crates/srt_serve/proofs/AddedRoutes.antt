@@ -26,7 +26,7 @@ use Rattle.srt_poller.specs.Pumped.{PumpedUnder, before, after}
 use Rattle.srt_serve.specs.inside.Arrived.{AreIndexed, report_of, marked}
 use Rattle.srt_serve.specs.NamesAtStart.{first_names}
 use Rattle.srt_serve.specs.Opened.{IsOpened, AreOpened, terms_in, new_clock, new_clocks}
-use Rattle.srt_serve.specs.Ran.{RanChanging, WereAnswered, RanUnder, RanUnderFrom, recorded_by, names_before}
+use Rattle.srt_serve.specs.Ran.{RanChanging, WereAdded, WereAnswered, RanUnder, RanUnderFrom, recorded_by, names_before}
 use Rattle.srt_serve.specs.Settled.{AreJoined, AreSettled}
 use Rattle.srt_serve.specs.inside.Polled.{PolledLate}
 use Rattle.srt_serve.proofs.Moments.{HaveTicks}
@@ -292,12 +292,12 @@ module _ (watched closes stops : Type 0) (class : Sorting) (schedules : List Sch
       → routes' ≡ routes ++ later → PolledWith routes routes' (marked places asked) (marked places' asked')
       → reported' ≡ joined reported moments → HaveTicks moments (new_clocks routes'') clocks → routes'' ≡ routes' ++ more
       → AreSettled accounts routes' ends' clocks
-      → (answered : Answer → Type 0) → WereAnswered answered asked' → (closes → answered AllClose)
+      → (answered : Answer → Type 0) → WereAdded answered (terms_in later) → WereAnswered answered asked' → (closes → answered AllClose)
       →
       RanChanging answered class schedules entries made (recorded_by gave to reported) (recorded_by gave' to' reported') report accounts
   unfolding PolledLate
   ran_changing entries reported reported' accounts routes routes' later more routes'' places places' asked asked' clocks moments known few named whose
-      opened indexed grew polled given ticked all settled answered answers all_close = elim polled.0 [
+      opened indexed grew polled given ticked all settled answered openings answers all_close = elim polled.0 [
         | inl none ↦ absurd (none.0 known)
         | inr some ↦
             let new = some.1.0 in
@@ -341,5 +341,5 @@ module _ (watched closes stops : Type 0) (class : Sorting) (schedules : List Sch
               | inl none ↦ inl none
               | inr ordered ↦ inr (all_close ordered)
             ] in
-            (added, closed, plans, ran.0, ran.1, planned, ran.2, requests, orders)
+            (added, closed, plans, ran.0, ran.1, planned, ran.2, openings, requests, orders)
       ]

@@ -30,10 +30,10 @@ use Rattle.srt_poller.proofs.Starting.{starts_alone}
 use Rattle.srt_serve.specs.NamesAtStart.{until, later_hidden, first_names}
 use Rattle.srt_serve.specs.Unchanged.{sorted_by, sorted_to, missed_by, missed, is_received, received, item_of, OwnScheduleDecides, AcceptedAreSorted}
 use Rattle.srt_serve.specs.Unchanged.{closes_route, beginning_by, beginnings, own_marks, LeftAsItWas, NothingChanged, ChangingRunsAreSo, UnchangingRunsAreSo}
-use Rattle.srt_serve.specs.Unchanged.{UnansweredStaysOpen}
+use Rattle.srt_serve.specs.Unchanged.{UnansweredStaysOpen, UnansweredIsNotAdded}
 use Rattle.srt_serve.specs.Unchanged.{is_closed_in, HeardAlike, SortsByOwnName, starts_of}
 use Rattle.srt_serve.specs.Unchanged.{NamesAreAlone, RefusedChangesNothing, AsIfNothingHappened, SentAsIfNothingHappened}
-use Rattle.srt_supervision.specs.Answers.{Answer, Closes}
+use Rattle.srt_supervision.specs.Answers.{Answer, Closes, Opens}
 use Rattle.srt_serve.proofs.NamesAtStart.{as_many_later, texts_at_start}
 use Rattle.srt_serve.proofs.Isolation.{routes_are_isolated, same_items_are_taken}
 use Rattle.srt_serve.proofs.OwnNames.{lobby_sorts_by_own_name}
@@ -225,6 +225,7 @@ changing_runs_are_so answered class schedules entries rounds old new report acco
   record { names_are = refl; entries_are = refl; planned = ran.5; ran = ran.6 },
   ran.7,
   ran.8,
+  ran.9,
 )
 
 unasked_by : (answered : Answer → Type 0) (q r : ℕ) (b rest : Bool) → (q == r) ≡ b → ∥ answered (Closes q) ∥₁ → (answered (Closes r) → ⊥) → rest ≡ false
@@ -238,6 +239,15 @@ pub unanswered_stays_open : (answered : Answer → Type 0) → UnansweredStaysOp
 unanswered_stays_open answered [] r known none = refl
 unanswered_stays_open answered (q ∷ requested) r known none =
     unasked_by answered q r (q == r) (is_requested requested r) refl known.0 none (unanswered_stays_open answered requested r known.1 none)
+
+pub unanswered_is_not_added : (answered : Answer → Type 0) → UnansweredIsNotAdded answered
+unanswered_is_not_added answered [] i terms known there none = cc
+unanswered_is_not_added answered (t ∷ added) zero terms known there none =
+    let one : t ≡ terms = cc in
+    let bad : true ≡ false =
+    ∥∥₁_elim known.0 (Bool-set _ _) (λ answer. absurd (none (subst (λ (u : Terms). answered (Opens u)) one answer))) in
+    cc
+unanswered_is_not_added answered (t ∷ added) (suc i) terms known there none = unanswered_is_not_added answered added i terms known.1 there none
 
 pub unchanging_runs_are_so : UnchangingRunsAreSo
 unchanging_runs_are_so class schedules entries rounds old new report accounts ran =

@@ -6,6 +6,7 @@ pub mod NamesAtStart
 pub mod Settlings
 pub mod Callers
 pub mod Routes
+pub mod Added
 pub mod AddedRoutes
 pub mod Latecomers
 pub mod Ends

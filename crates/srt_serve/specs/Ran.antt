@@ -12,7 +12,7 @@ use Rattle.srt_mailbox.specs.declared.accounts.Account.{Account}
 use Rattle.srt_mailbox.specs.Inbox.{polled_of, ticked_of, applied}
 use Rattle.srt_mailbox.specs.Counts.{counted}
 use Rattle.srt_supervision.specs.declared.report.Report.{Report}
-use Rattle.srt_supervision.specs.Answers.{Answer, AllClose, Closes}
+use Rattle.srt_supervision.specs.Answers.{Answer, AllClose, Closes, Opens}
 use Rattle.srt_poller.specs.Devices.{Heard, Carried, joined}
 use Rattle.srt_poller.specs.History.{Sorting, Event, Follow, at_first, state_after, IsOver, kept_after, kept_of, given, calls, handed}
 use Rattle.srt_poller.specs.History.{datagrams, attempts, of_lobby, of_route, answered, accepted, drained, closes_all_in, waits_in}
@@ -116,12 +116,16 @@ names_before schedules entries added = first_names schedules entries ++ map (λ 
 abbrev pub WereAnswered : (answered : Answer → Type 0) → (routes : List ℕ) → Type 0
 WereAnswered answered routes = AllByRecursion (λ r. ∥ answered (Closes r) ∥₁) routes
 
+-- the watcher answered that a route of each of these terms opens
+abbrev pub WereAdded : (answered : Answer → Type 0) → (added : List Terms) → Type 0
+WereAdded answered added = AllByRecursion (λ t. ∥ answered (Opens t) ∥₁) added
+
 -- A run of this many rounds. Meanwhile routes with the terms `added` were added, in the order of their indexes after the others, and those with the
 -- indexes `requested` were requested to close, at times that nobody knew before. The run did what it does if all routes had been known in advance, with the
 -- schedules `later`, the added ones hidden at first. A route that wasn't requested to close, and whose name no other visible one had in its opening round, kept
 -- its schedule; one whose name was in use opened in the first round in which it wasn't, or hadn't been opened before the last round (`ArePlans`).
--- Each route that was requested to close has the watcher's answer that it closes, and if a round closed all, the watcher answered so: `answered` is what is
--- known of its answers
+-- Each route that was added has the watcher's answer that a route of its terms opens, each that was requested to close has the answer that it closes, and if
+-- a round closed all, the watcher answered so: `answered` is what is known of its answers
 abbrev pub RanChanging : (answered : Answer → Type 0) → Sorting → List Schedule → List Terms → (rounds : ℕ) → (old new : Recorded) → Report → List Account →
     Type 0
 RanChanging answered class schedules entries rounds old new report accounts =
@@ -129,4 +133,4 @@ RanChanging answered class schedules entries rounds old new report accounts =
     × ArePlans rounds (λ r. Unit {0}) (starts_in later (at_first (names_before schedules entries added)) events) schedules
     (texts_of (names_before schedules entries added)) requested later
     × RanFrom (names_before schedules entries added) class later (entries ++ added) rounds old new report accounts events moments
-    × WereAnswered answered requested × ((closes_all_in events ≡ 0) ⊎ answered AllClose)
+    × WereAdded answered added × WereAnswered answered requested × ((closes_all_in events ≡ 0) ⊎ answered AllClose)

@@ -12,7 +12,7 @@ use Rattle.srt_lobby.specs.Opening.{fault_of}
 use Rattle.srt_mailbox.specs.declared.accounts.Account.{Account}
 use Rattle.srt_mailbox.specs.Inbox.{ticked_of}
 use Rattle.srt_supervision.specs.declared.report.Report.{Report}
-use Rattle.srt_supervision.specs.Answers.{Answer, AllClose, Closes}
+use Rattle.srt_supervision.specs.Answers.{Answer, AllClose, Closes, Opens}
 use Rattle.srt_poller.specs.Devices.{Arrival}
 use Rattle.srt_poller.specs.Schedules.{CloseOffer, begun}
 use Rattle.srt_poller.specs.History.{Sorting, Event, Begins, Accepts, Overflows, Refuses, State, at_first, state_by, Follow, calls, at_route, accepted}
@@ -20,7 +20,7 @@ use Rattle.srt_poller.specs.History.{closes_all_in}
 use Rattle.srt_poller.specs.Plans.{IsAlone, is_requested, texts_of, ArePlans}
 use Rattle.srt_poller.specs.Starts.{RoundStart, starts_in, IsUsedIn}
 use Rattle.srt_serve.specs.NamesAtStart.{until, first_names}
-use Rattle.srt_serve.specs.Ran.{RouteRan, Recorded, RanChanging, WereAnswered, RanUntil, names_before}
+use Rattle.srt_serve.specs.Ran.{RouteRan, Recorded, RanChanging, WereAdded, WereAnswered, RanUntil, names_before}
 use Rattle.srt_serve.specs.Isolation.{Trace, trace, IsTrace, sent_for, HasSentAll, places_of}
 
 -- no other visible route has the name of this one
@@ -188,8 +188,8 @@ pub record IsUnchanging (schedules : List Schedule) (entries : List Terms) (t : 
   pub schedules_are : t.schedules ≡ schedules
   pub ran : IsTrace t
 
--- A run to which routes may be added is such a run, and each route that was requested to close has the watcher's answer that it closes. If a round closed
--- all, the watcher answered so
+-- A run to which routes may be added is such a run. Each route that was added has the watcher's answer that a route of its terms opens, and each that was
+-- requested to close has the answer that it closes. If a round closed all, the watcher answered so
 abbrev pub ChangingRunsAreSo : (answered : Answer → Type 0) → Type 0
 ChangingRunsAreSo answered =
     (class : Sorting) (schedules : List Schedule) (entries : List Terms) (rounds : ℕ) (old new : Recorded) (report : Report) (accounts : List Account)
@@ -197,12 +197,17 @@ ChangingRunsAreSo answered =
     → (added : List Terms) × (requested : List ℕ) × (later : List Schedule) × (events : List Event) × (moments : List ℕ)
     × IsChanging schedules entries added requested
     (trace (names_before schedules entries added) class later (entries ++ added) rounds old new report accounts events moments)
-    × WereAnswered answered requested × ((closes_all_in events ≡ 0) ⊎ answered AllClose)
+    × WereAdded answered added × WereAnswered answered requested × ((closes_all_in events ≡ 0) ⊎ answered AllClose)
 
 -- a route of which the watcher didn't answer that it closes wasn't requested to close
 abbrev pub UnansweredStaysOpen : (answered : Answer → Type 0) → Type 0
 UnansweredStaysOpen answered =
     (requested : List ℕ) (r : ℕ) → WereAnswered answered requested → (answered (Closes r) → ⊥) → is_requested requested r ≡ false
+
+-- and a route of terms of which the watcher didn't answer that it opens wasn't added
+abbrev pub UnansweredIsNotAdded : (answered : Answer → Type 0) → Type 0
+UnansweredIsNotAdded answered =
+    (added : List Terms) (i : ℕ) (terms : Terms) → WereAdded answered added → slice_get added i ≡ Some terms → (answered (Opens terms) → ⊥) → ⊥
 
 -- and one to which none may be added is the other
 abbrev pub UnchangingRunsAreSo : Type 0

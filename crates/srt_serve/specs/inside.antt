@@ -4,3 +4,4 @@ pub mod Arrived
 pub mod Requests
 pub mod Changing
 pub mod Watched
+pub mod Reported

@@ -3,7 +3,7 @@
 //! that was written after the watcher's answer.
 
 use srt_supervision::Answers;
-use std::marker::PhantomData;
+use std::marker::{Brand, PhantomData};
 use std::sync::atomic::{AtomicIn, Rule};
 
 /// The rule of a word that is 0 until the watcher has ordered to close all.
@@ -36,12 +36,31 @@ impl<A: Answers> Rule for ClosesRoute<A> {
     ghost invariant = { λ n. (r : ℕ) → n ≡ suc r → A.answered (Closes r) };
 }
 
-/// The answers of a watcher of this type. No value of it is made: threads share it though they don't share the watcher.
-#[derive(Drop)]
-pub struct AnswersOf<T: Answers> {
-    word: AtomicIn<EndsRun<T>>,
+/// With how many routes a run begins. No code reads that: it is known of the places of the run's routes by their type.
+pub trait Beginning {
+    ghost use Rattle.std.specs.Prelude.{ℕ};
+
+    /// The number of routes with which the run begins. Those with the indexes from it on open by the watcher's answers.
+    ghost first: { ℕ };
 }
 
-impl<T: Answers> Answers for AnswersOf<T> {
+/// The beginning of one run: the call that begins it says how many routes there are.
+impl Beginning for Brand {
+    ghost first = { 0 };
+}
+
+/// The answers of a watcher of this type, in a run with this beginning. No value of it is made: threads share it though
+/// they don't share the watcher.
+#[derive(Drop)]
+pub struct AnswersOf<T: Answers, B: Beginning> {
+    word: AtomicIn<EndsRun<T>>,
+    of: PhantomData<B>,
+}
+
+impl<T: Answers, B: Beginning> Answers for AnswersOf<T, B> {
     ghost answered = { λ a. T.answered a };
+}
+
+impl<T: Answers, B: Beginning> Beginning for AnswersOf<T, B> {
+    ghost first = { B.first };
 }

@@ -5,11 +5,11 @@ ghost use Rattle.srt_types.specs.Terms.{terms_of};
 ghost use Rattle.srt_lobby.specs.Names.{as_hidden, name_of, new_name};
 ghost use Rattle.srt_mailbox.specs.Identities.{identity_in};
 ghost use Rattle.srt_mailbox.specs.Places.{arrived, locks_of};
-ghost use Rattle.srt_serve.specs.inside.Arrived.{AreIndexed, report_of};
+ghost use Rattle.srt_serve.specs.inside.Arrived.{AreIndexed, IsAnswered, AreAnswered, report_of};
 ghost use Rattle.srt_serve.specs.Opened.{new_clocks};
 ghost use Rattle.srt_supervision.specs.Answers.{Closes};
 
-use crate::answers::ClosesRoute;
+use crate::answers::{Beginning, ClosesRoute};
 use crate::ticking::TickEnds;
 use srt_lobby::NewName;
 use srt_mailbox::{Attachment, ClockEnd, Place, PollerEnds, Seat, SeatReader, open_seat};
@@ -21,19 +21,24 @@ use std::alloc::{AllocError, Global};
 use std::marker::PhantomData;
 use std::sync::atomic::{AtomicBool, AtomicIn, Ordering};
 
-/// The polling thread's attachment of a route: it gets it with its ends of the route.
+/// The polling thread's attachment of a route: it gets it with its ends of the route. That a route has one is evidence
+/// that the run began with it, or that the watcher requested to open a route of its terms.
 #[derive(Drop)]
-pub struct NameAttachment {
+pub struct NameAttachment<A: Answers + Beginning> {
     /// The route's name.
     pub name: NewName,
+    of: PhantomData<A>,
 }
 
-impl Attachment for NameAttachment {
-    ghost belongs = { λ terms index named. new_name named.name ≡ as_hidden (name_of terms) };
+impl<A: Answers + Beginning> Attachment for NameAttachment<A> {
+    ghost belongs = { λ terms index named. (new_name named.name ≡ as_hidden (name_of terms)) × IsAnswered A.answered A.first index terms };
 }
 
 /// Allocates this many places, all of them empty.
-pub fn open_places(alloc: Global, places: usize) -> Result<Vec<Place<NameAttachment>>, AllocError>
+pub fn open_places<A: Answers + Beginning>(
+    alloc: Global,
+    places: usize,
+) -> Result<Vec<Place<NameAttachment<A>>>, AllocError>
     ensures { IfOk result (λ opened. length opened.items ≡ places) }
 {
     let mut opened = Vec::with_capacity(alloc, places)?;
@@ -44,16 +49,22 @@ pub fn open_places(alloc: Global, places: usize) -> Result<Vec<Place<NameAttachm
 }
 
 /// Opens the route of this entry, with a seat. Allocates all memory that it will ever need. An error means out of memory,
-/// or that the entry or the index is out of its limits. Nothing is kept then.
-pub fn seat_route(
+/// or that the entry or the index is out of its limits. Nothing is kept then. Unless the run begins with the route, the
+/// watcher has requested to open it.
+pub fn seat_route<A: Answers + Beginning>(
     alloc: Global,
     entry: &Entry,
     index: usize,
-) -> Result<Seat<NameAttachment>, AllocError>
+) -> Result<Seat<NameAttachment<A>>, AllocError>
+    requires { IsAnswered A.answered A.first index (terms_of entry.now) }
     ensures { IfOk result (λ s. ((identity_in s.cell).terms ≡ terms_of entry.now) × ((identity_in s.cell).index ≡ index)) }
 {
     let name = NewName::of(alloc, entry)?;
-    match open_seat(alloc, entry, index, NameAttachment { name }) {
+    let attachment = NameAttachment {
+        name,
+        of: PhantomData,
+    };
+    match open_seat(alloc, entry, index, attachment) {
         Ok(seat) => Ok(seat),
         Err(_) => Err(AllocError),
     }
@@ -61,12 +72,15 @@ pub fn seat_route(
 
 /// The clock's ends of the added routes, in the order of their indexes.
 #[derive(Drop)]
-pub struct ClockArrivals<'a> {
+pub struct ClockArrivals<'a, A: Answers + Beginning>
+where
+    NameAttachment<A>: Attachment,
+{
     /// Reaches the routes.
-    pub reader: SeatReader<'a, NameAttachment>,
+    pub reader: SeatReader<'a, NameAttachment<A>>,
 }
 
-impl TickEnds<ClockEnd> for ClockArrivals<'_> {
+impl<A: Answers + Beginning> TickEnds<ClockEnd> for ClockArrivals<'_, A> {
     ghost added = { λ s. new_clocks (arrived s.reader) };
 
     ghost places = { λ s. locks_of s.reader };
@@ -186,24 +200,29 @@ impl<A: Answers> RouteNotices<A> {
 
 /// How the polling thread reaches the routes in the places, and gets those that are to close.
 #[derive(Drop)]
-pub struct PollerArrivals<'a, 'n, A: Answers> {
+pub struct PollerArrivals<'a, 'n, A: Answers + Beginning>
+where
+    NameAttachment<A>: Attachment,
+{
     /// Reaches the routes.
-    pub reader: SeatReader<'a, NameAttachment>,
+    pub reader: SeatReader<'a, NameAttachment<A>>,
     notices: &'n RouteNotices<A>,
     // the routes that were requested to close, the oldest first, each at most once
     requested: Vec<CloseRequest<A>>,
     ghost indexed: { AreIndexed (arrived reader) },
+    ghost answered: { AreAnswered A.answered A.first (arrived reader) },
 }
 
-impl<'a, 'n, A: Answers> PollerArrivals<'a, 'n, A> {
+impl<'a, 'n, A: Answers + Beginning> PollerArrivals<'a, 'n, A> {
     /// With a reader that has reached the first routes. Allocates room for the routes that are to close.
     pub fn new(
         alloc: Global,
-        reader: SeatReader<'a, NameAttachment>,
+        reader: SeatReader<'a, NameAttachment<A>>,
         notices: &'n RouteNotices<A>,
         routes: usize,
     ) -> Result<PollerArrivals<'a, 'n, A>, AllocError>
-        requires { AreIndexed (arrived reader) }
+        requires indexed { AreIndexed (arrived reader) }
+        requires answered { AreAnswered A.answered A.first (arrived reader) }
         ensures { IfOk result (λ a. (a.reader ≡ reader.entry) × (a.requested.items ≡ [])) }
     {
         Ok(PollerArrivals {
@@ -214,7 +233,7 @@ impl<'a, 'n, A: Answers> PollerArrivals<'a, 'n, A> {
     }
 }
 
-impl<A: Answers> Openings for PollerArrivals<'_, '_, A> {
+impl<A: Answers + Beginning> Openings for PollerArrivals<'_, '_, A> {
     ghost use Rattle.std.specs.Prelude.{Some};
     ghost use Rattle.srt_serve.specs.inside.Arrived.{marked};
     ghost use Rattle.srt_serve.specs.inside.Requests.{routes_of};
@@ -261,12 +280,17 @@ impl<A: Answers> Openings for PollerArrivals<'_, '_, A> {
 
 /// A place that a route can be put into. Code that opens routes while threads run is generic over this trait.
 pub trait RouteHost {
+    /// A route that can be put here.
+    type Seat: Drop;
+
     /// Puts a route here. False if the place has one already; then the new one is dropped.
-    fn host(&self, seat: Seat<NameAttachment>) -> bool;
+    fn host(&self, seat: Self::Seat) -> bool;
 }
 
-impl RouteHost for Place<NameAttachment> {
-    fn host(&self, seat: Seat<NameAttachment>) -> bool {
+impl<X: Attachment + Drop> RouteHost for Place<X> {
+    type Seat = Seat<X>;
+
+    fn host(&self, seat: Seat<X>) -> bool {
         self.put(seat).is_ok()
     }
 }

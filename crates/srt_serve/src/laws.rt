@@ -4,7 +4,7 @@ ghost use Rattle.srt_serve.specs.Isolation.{SentIsFront, SentIsWhole, RoutesAreI
 ghost use Rattle.srt_serve.specs.Unchanged.{LobbySortsByOwnName, SortedAlike, MarksAreOwn, OwnScheduleDecides};
 ghost use Rattle.srt_serve.specs.Unchanged.{OpenRoutesBeginAlike, AcceptedAreSorted, AsIfNothingHappened, SentAsIfNothingHappened};
 ghost use Rattle.srt_serve.specs.Unchanged.{ChangingRunsAreSo, UnchangingRunsAreSo, LeftAsItWas, NothingChanged, NamesAreAlone};
-ghost use Rattle.srt_serve.specs.Unchanged.{RefusedChangesNothing, UnansweredStaysOpen};
+ghost use Rattle.srt_serve.specs.Unchanged.{RefusedChangesNothing, UnansweredStaysOpen, UnansweredIsNotAdded};
 
 use srt_supervision::Answers;
 
@@ -53,10 +53,11 @@ pub fn unchanged_routes()
     ensures refused { RefusedChangesNothing }
 {}
 
-/// A run to which routes may be added is one that `unchanged_routes` is about, and a route of which the watcher didn't answer that it closes wasn't
-/// requested to close.
+/// A run to which routes may be added is one that `unchanged_routes` is about. A route of which the watcher didn't answer that it closes wasn't requested
+/// to close, and none was added of terms of which it didn't answer that a route of them opens.
 pub fn answered_changes<A: Answers>()
     // The contract of `run_until` says that a run is so.
     ensures changing { ChangingRunsAreSo A.answered }
     ensures unasked { UnansweredStaysOpen A.answered }
+    ensures unopened { UnansweredIsNotAdded A.answered }
 {}

@@ -24,6 +24,7 @@
 
 mod answers;
 mod arrivals;
+mod counters;
 mod inline_serving;
 pub mod laws;
 mod opening;

@@ -9,9 +9,11 @@ ghost use Rattle.srt_mailbox.specs.Places.{arrived, locks_of};
 ghost use Rattle.srt_poller.specs.declared.ends.Ends.{Ends as TheEnds};
 ghost use Rattle.srt_serve.specs.Opened.{IsOpened, AreOpened, terms_in, new_clock, new_clocks};
 
+use crate::answers::Beginning;
 use crate::arrivals::{ClockArrivals, NameAttachment, seat_route};
-use srt_mailbox::{ClockEnd, Place, PollerEnds, Seat, SeatReader};
+use srt_mailbox::{Attachment, ClockEnd, Place, PollerEnds, Seat, SeatReader};
 use srt_poller::Ends;
+use srt_supervision::Answers;
 use srt_types::Entry;
 use std::alloc::{AllocError, Global};
 use std::sync::OnceToken;
@@ -19,26 +21,29 @@ use std::sync::OnceToken;
 /// The first routes of a run, which have been taken from their seats. Each list is in the order of their indexes, and has
 /// room for as many as there are places.
 #[derive(Drop)]
-pub struct Opened<'a> {
+pub struct Opened<'a, A: Answers + Beginning>
+where
+    NameAttachment<A>: Attachment,
+{
     /// The polling thread's, which has reached all of them.
-    pub routes: SeatReader<'a, NameAttachment>,
+    pub routes: SeatReader<'a, NameAttachment<A>>,
     /// The poller's ends: of the inbox and of the outbox.
     pub ends: Vec<Ends>,
     /// The ticking thread's, which has reached all of them.
-    pub arrivals: ClockArrivals<'a>,
+    pub arrivals: ClockArrivals<'a, A>,
     /// The clock's ends of the inboxes.
     pub clocks: Vec<ClockEnd>,
     /// Of each place, which route it was given. No bytes.
-    pub put: Vec<OnceToken<'a, Seat<NameAttachment>>>,
+    pub put: Vec<OnceToken<'a, Seat<NameAttachment<A>>>>,
 }
 
 // Puts a route into the next place, and takes the poller's ends from there. Returns the knowledge that it is there.
-fn take_first<'a>(
-    routes: &mut SeatReader<'a, NameAttachment>,
+fn take_first<'a, A: Answers + Beginning>(
+    routes: &mut SeatReader<'a, NameAttachment<A>>,
     ends: &mut Vec<Ends>,
-    places: &'a [Place<NameAttachment>],
-    seat: Seat<NameAttachment>,
-) -> Result<OnceToken<'a, Seat<NameAttachment>>, AllocError>
+    places: &'a [Place<NameAttachment<A>>],
+    seat: Seat<NameAttachment<A>>,
+) -> Result<OnceToken<'a, Seat<NameAttachment<A>>>, AllocError>
     requires { locks_of routes.old ≡ map (λ p. p.seat.id) places.now }
     ensures put { IfOk result (λ t. (slice_get (locks_of routes.old) (length (arrived routes.old)) ≡ Some t.of)
         × (identity_in t.value.cell ≡ identity_in seat.cell)) }
@@ -64,8 +69,8 @@ fn take_first<'a>(
 }
 
 // Takes the clock's end of the next route.
-fn take_first_clock(
-    arrivals: &mut ClockArrivals<'_>,
+fn take_first_clock<A: Answers + Beginning>(
+    arrivals: &mut ClockArrivals<'_, A>,
     clocks: &mut Vec<ClockEnd>,
 ) -> Result<(), AllocError>
     ensures taken { OnOk result ((n : CellIdentity) × (arrived arrivals.new.reader ≡ arrived arrivals.old.reader ++ n ∷ [])
@@ -82,11 +87,12 @@ fn take_first_clock(
 /// Opens the routes of these entries, in order, in these places, which must be empty. Allocates all memory that they will
 /// ever need. An error means out of memory, that an entry is out of its limits (`run` requires that none is), or that there
 /// are fewer places.
-pub fn open_routes<'a>(
+pub fn open_routes<'a, A: Answers + Beginning>(
     alloc: Global,
     entries: &[Entry],
-    places: &'a [Place<NameAttachment>],
-) -> Result<Opened<'a>, AllocError>
+    places: &'a [Place<NameAttachment<A>>],
+) -> Result<Opened<'a, A>, AllocError>
+    requires { length entries.now ≤ A.first }
     ensures entries { IfOk result (λ o. terms_in (arrived o.routes) ≡ map terms_of entries.now) }
     ensures opened { IfOk result (λ o. AreOpened (arrived o.routes) o.ends.items) }
     ensures clocks { IfOk result (λ o. o.clocks.items ≡ new_clocks (arrived o.arrivals.reader)) }

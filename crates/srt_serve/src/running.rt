@@ -20,7 +20,7 @@ ghost use Rattle.srt_serve.specs.Opened.{AreOpened, terms_in, new_clocks};
 ghost use Rattle.srt_supervision.specs.Answers.{AllClose, RunEnds};
 ghost use Rattle.srt_serve.specs.Ran.{recorded_by, RanChanging, RanUnder, Ran as TheRan};
 
-use crate::answers::AnswersOf;
+use crate::answers::{AnswersOf, Beginning};
 use crate::arrivals::{ClockArrivals, NameAttachment, PollerArrivals, RouteNotices, open_places};
 use crate::opening::{Opened, open_routes};
 use crate::serving::{OtherThreads, PollerState, RunContext, serve_routes};
@@ -30,13 +30,14 @@ use crate::watcher_channel::WatcherChannel;
 use crate::watching::watch_last;
 use srt_cookie::Secret;
 use srt_lobby::Names;
-use srt_mailbox::{Account, ClockEnd, Gate, Place, Seat, SeatReader};
+use srt_mailbox::{Account, Attachment, ClockEnd, Gate, Place, Seat, SeatReader};
 use srt_poller::{Ends, Openings, Source, Wire};
 use srt_supervision::{Answers, NoWatcher, Report, Watch};
 use srt_types::product_limits::MAX_ROUTES;
 use srt_types::{Entry, Schedule};
 use srt_wakeups::Wakeups;
 use std::alloc::{AllocError, Global};
+use std::marker::Brand;
 use std::sync::{OnceToken, Wait};
 use std::thread::Threads;
 use thiserror::Error;
@@ -119,8 +120,11 @@ pub struct Crew<K: Drop, G: Drop, T: Drop> {
 
 // What the threads of a run share. It is opened before any of them is started.
 #[derive(Drop)]
-struct Shared<A: Answers> {
-    places: Vec<Place<NameAttachment>>,
+struct Shared<A: Answers + Beginning>
+where
+    NameAttachment<A>: Attachment,
+{
+    places: Vec<Place<NameAttachment<A>>>,
     notices: RouteNotices<A>,
     wakeups: Wakeups,
     // none if the run isn't watched
@@ -149,9 +153,12 @@ struct Task<'a> {
 
 // What the end of a run uses.
 #[derive(Drop)]
-struct Ending<'a> {
+struct Ending<'a, A: Answers + Beginning>
+where
+    NameAttachment<A>: Attachment,
+{
     // of each place, which route it was given before any thread was started
-    put: Vec<OnceToken<'a, Seat<NameAttachment>>>,
+    put: Vec<OnceToken<'a, Seat<NameAttachment<A>>>>,
     // none, and room for those of all routes
     accounts: Vec<Account>,
 }
@@ -196,7 +203,7 @@ fn open_channel<A: Answers>(
 }
 
 // Opens what the threads share, for a run that begins with this many routes.
-fn open_shared<A: Answers>(
+fn open_shared<A: Answers + Beginning>(
     alloc: Global,
     first: usize,
     workers: usize,
@@ -258,11 +265,11 @@ fn take_late<A: Answers, O: Openings>(
 // After all threads have ended: takes the clock's ends of the routes that were added since its last tick, and shows each
 // route once more to the watcher. Fails if the polling thread's reader hasn't reached all routes with which the run began,
 // or the ticking thread's all that the polling thread's has, or if these are more than 511.
-fn come_to_all<'a, R: Wait, K: Drop, T: Watch>(
-    context: &RunContext<'a, R, Place<NameAttachment>, AnswersOf<T>>,
-    put: &Vec<OnceToken<'a, Seat<NameAttachment>>>,
-    routes: &SeatReader<'a, NameAttachment>,
-    clocks: &mut Clocks<K, ClockEnd, ClockArrivals<'a>>,
+fn come_to_all<'a, R: Wait, K: Drop, A: Answers + Beginning, T: Watch>(
+    context: &RunContext<'a, R, Place<NameAttachment<A>>, A>,
+    put: &Vec<OnceToken<'a, Seat<NameAttachment<A>>>>,
+    routes: &SeatReader<'a, NameAttachment<A>>,
+    clocks: &mut Clocks<K, ClockEnd, ClockArrivals<'a, A>>,
     watch: &mut T,
 ) -> Result<(), Busy>
     requires put { map (λ t. t.of) put.now.items ≡ take (length put.now.items) (locks_of routes.now) }
@@ -285,23 +292,25 @@ fn come_to_all<'a, R: Wait, K: Drop, T: Watch>(
 
 // As `run_over`, over the routes with which the run begins.
 #[tactic(auto, unfolding(crate::specs::inside::Polled::AreUntouched))]
-fn run_opened<'a, R, S: Source, W: Wire, K, G, T>(
-    context: &RunContext<'a, R, Place<NameAttachment>, AnswersOf<T>>,
+fn run_opened<'a, R, S: Source, W: Wire, K, G, T, B>(
+    context: &RunContext<'a, R, Place<NameAttachment<AnswersOf<T, B>>>, AnswersOf<T, B>>,
     source: &mut S,
     wire: &mut W,
-    mut polling: PollerState<G, PollerArrivals<'a, 'a, AnswersOf<T>>>,
-    mut others: OtherThreads<Clocks<K, ClockEnd, ClockArrivals<'a>>, G, T>,
-    ending: Ending<'a>,
+    mut polling: PollerState<G, PollerArrivals<'a, 'a, AnswersOf<T, B>>>,
+    mut others: OtherThreads<Clocks<K, ClockEnd, ClockArrivals<'a, AnswersOf<T, B>>>, G, T>,
+    ending: Ending<'a, AnswersOf<T, B>>,
 ) -> Result<Watched<K, T>, RunFault>
 where
     R: Threads + Wait + Sync,
     K: Ticker + Send + Drop,
     G: Gate + Send + Drop,
     T: Watch + Send + Drop,
+    B: Beginning + Send + Sync,
     requires ready { AreReady context.now.schedules.now (names_of polling.names) polling.ends.items }
     requires room { IsSome context.now.channel → 511 ≤ vec_capacity polling.ends }
     requires few { context.now.rounds ≤ 2 ^ 48 }
     requires routes { length (terms_in (arrived polling.openings.reader)) ≤ 511 }
+    requires first { length (arrived polling.openings.reader) ≡ B.first }
     requires names { names_of polling.names ≡ first_names context.now.schedules.now (terms_in (arrived polling.openings.reader)) }
     requires opened { AreOpened (arrived polling.openings.reader) polling.ends.items }
     requires clocks { others.clocks.ends.items ≡ new_clocks (arrived others.clocks.arrivals.reader) }
@@ -359,8 +368,8 @@ where
 }
 
 // As `run_with`, over what its threads share and what was prepared: opens the routes.
-fn run_over<'a, R, S: Source, W: Wire, K, G, T>(
-    context: &RunContext<'a, R, Place<NameAttachment>, AnswersOf<T>>,
+fn run_over<'a, R, S: Source, W: Wire, K, G, T, B>(
+    context: &RunContext<'a, R, Place<NameAttachment<AnswersOf<T, B>>>, AnswersOf<T, B>>,
     entries: &[Entry],
     source: &mut S,
     wire: &mut W,
@@ -372,9 +381,11 @@ where
     K: Ticker + Send + Drop,
     G: Gate + Send + Drop,
     T: Watch + Send + Drop,
+    B: Beginning + Send + Sync,
     requires entries { fault_of (map terms_of entries.now) ≡ None }
     requires schedules { length context.now.schedules.now ≡ length entries.now }
     requires few { context.now.rounds ≤ 2 ^ 48 }
+    requires first { length entries.now ≡ B.first }
     requires names { names_of prepared.names ≡ first_names context.now.schedules.now (map terms_of entries.now) }
     requires accounts { (prepared.accounts.items ≡ []) × (511 ≤ vec_capacity prepared.accounts) }
     requires places { IsSome context.now.channel → length context.now.cells.now ≡ 511 }
@@ -437,7 +448,7 @@ where
 }
 
 // Runs the gateway as `run` and `run_until` do. If it isn't watched, the watcher is never called.
-fn run_with<'a, R, S: Source, W: Wire, K, G, T>(
+fn run_with<'a, R, S: Source, W: Wire, K, G, T, B>(
     rt: &'a R,
     alloc: Global,
     task: Task<'a>,
@@ -450,9 +461,11 @@ where
     K: Ticker + Send + Drop,
     G: Gate + Send + Drop,
     T: Watch + Send + Drop,
+    B: Beginning + Send + Sync,
     requires entries { fault_of (map terms_of task.entries.now) ≡ None }
     requires schedules { length task.schedules.now ≡ length task.entries.now }
     requires workers { (1 ≤ vec_len crew.gates.workers) × (vec_len crew.gates.workers ≤ 16) }
+    requires first { length task.entries.now ≡ B.first }
     requires few { task.rounds ≤ 2 ^ 48 }
     ensures fixed { task.entry.is_watched ≡ false → IfOk result (λ r. RanUnder (T.answered AllClose)
         (class_of (secret_bytes task.entry.secret.now)) task.entry.schedules.now (map terms_of task.entry.entries.now) r.rounds
@@ -478,7 +491,7 @@ where
         return Err(RunFault::OutOfMemory);
     };
     let workers = crew.gates.workers.len();
-    let Ok(shared) = open_shared::<AnswersOf<T>>(alloc, entries.len(), workers, is_watched) else {
+    let Ok(shared) = open_shared::<AnswersOf<T, B>>(alloc, entries.len(), workers, is_watched) else {
         return Err(RunFault::OutOfMemory);
     };
     let Shared {
@@ -550,7 +563,7 @@ where
         gates,
         watch: NoWatcher,
     };
-    match run_with(rt, alloc, task, source, wire, crew) {
+    match run_with::<_, _, _, _, _, _, Brand>(rt, alloc, task, source, wire, crew) {
         Ok(watched) => {
             let Watched {
                 report,
@@ -614,7 +627,7 @@ where
         rounds: plan.rounds,
         is_watched: true,
     };
-    run_with(rt, alloc, task, source, wire, crew)
+    run_with::<_, _, _, _, _, _, Brand>(rt, alloc, task, source, wire, crew)
 }
 
 #[cfg(test)]

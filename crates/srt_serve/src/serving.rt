@@ -11,7 +11,8 @@ ghost use Rattle.srt_poller.specs.Pumped.{before, after};
 ghost use Rattle.srt_supervision.specs.Answers.{Answer, AllClose, RunEnds};
 ghost use Rattle.srt_serve.specs.inside.Polled.{AreReady, Polled, AreUntouched};
 
-use crate::arrivals::{RouteHost, RouteNotices};
+use crate::answers::Beginning;
+use crate::arrivals::{NameAttachment, RouteHost, RouteNotices};
 use crate::inline_serving::InlineServer;
 use crate::ticking::Clockwork;
 use crate::watcher_channel::WatcherChannel;
@@ -19,7 +20,7 @@ use crate::watching::{Changer, watch_routes};
 use crate::working::work;
 use srt_cookie::Secret;
 use srt_lobby::Names;
-use srt_mailbox::{Gate, Serve};
+use srt_mailbox::{Gate, Seat, Serve};
 use srt_poller::{Ends, Openings, PollerTask, Pumping, Source, Wire, pump_changing, pump_under};
 use srt_supervision::{Answers, Watch};
 use srt_types::Schedule;
@@ -112,10 +113,12 @@ where
 }
 
 // Watches until the run has ended, if the run is watched.
-fn watch_over<R: Wait, C: Serve + RouteHost, A: Answers, T: Watch>(
+fn watch_over<R: Wait, A: Answers + Beginning, C, T: Watch>(
     context: &RunContext<R, C, A>,
     watch: &mut T,
 )
+where
+    C: Serve + RouteHost<Seat = Seat<NameAttachment<A>>>,
     requires { (a : Answer) → T.answered a → A.answered a }
 {
     name_thread(ThreadName::Watch);
@@ -131,12 +134,12 @@ fn watch_over<R: Wait, C: Serve + RouteHost, A: Answers, T: Watch>(
 }
 
 // Starts the workers, and watches in a thread more if the run is watched. Returns when all have ended.
-fn start_all<R, G, C, A, T>(context: &RunContext<R, C, A>, gates: &mut Vec<G>, watch: &mut T)
+fn start_all<R, G, A, C, T>(context: &RunContext<R, C, A>, gates: &mut Vec<G>, watch: &mut T)
 where
     R: Threads + Wait + Sync,
     G: Gate + Send + Drop,
-    C: Serve + RouteHost + Sync,
-    A: Answers + Sync,
+    A: Answers + Beginning + Sync,
+    C: Serve + RouteHost<Seat = Seat<NameAttachment<A>>> + Sync,
     T: Watch + Send,
     requires { (a : Answer) → T.answered a → A.answered a }
 {
@@ -213,7 +216,7 @@ fn poll<R: Wait, S: Source, W: Wire, O: Openings + Drop, C: Serve, G: Gate + Dro
 }
 
 // Ticks in a new thread, and starts the workers and the watching thread in another one. Returns when all have ended.
-fn tick_and_start<R, D, G, C, A, T>(
+fn tick_and_start<R, D, G, A, C, T>(
     context: &RunContext<R, C, A>,
     clocks: &mut D,
     gates: &mut Vec<G>,
@@ -223,8 +226,8 @@ where
     R: Threads + Wait + Sync,
     D: Clockwork + Send + Drop,
     G: Gate + Send + Drop,
-    C: Serve + RouteHost + Sync,
-    A: Answers + Sync,
+    A: Answers + Beginning + Sync,
+    C: Serve + RouteHost<Seat = Seat<NameAttachment<A>>> + Sync,
     T: Watch + Send + Drop,
     requires { (a : Answer) → T.answered a → A.answered a }
     ensures { D.ticked clocks.old clocks.new }
@@ -243,7 +246,7 @@ where
 
 /// Starts the workers and the ticking thread, watches in one more if the run is watched, and then polls. All threads have
 /// ended when it returns. `None` if one could not be started, or wasn't running after ten seconds; then nothing was read.
-pub fn serve_routes<R, S: Source, W: Wire, P, O, D, G, C, A, T>(
+pub fn serve_routes<R, S: Source, W: Wire, P, O, D, G, A, C, T>(
     context: &RunContext<R, C, A>,
     source: &mut S,
     wire: &mut W,
@@ -256,8 +259,8 @@ where
     O: Openings + Drop,
     D: Clockwork + Send + Drop,
     G: Gate + Send + Drop,
-    C: Serve + RouteHost + Sync,
-    A: Answers + Sync,
+    A: Answers + Beginning + Sync,
+    C: Serve + RouteHost<Seat = Seat<NameAttachment<A>>> + Sync,
     T: Watch + Send + Drop,
     requires answered { (a : Answer) → T.answered a → A.answered a }
     requires ready { AreReady context.now.schedules.now (names_of polling.old.names) polling.old.ends.items }

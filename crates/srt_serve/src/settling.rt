@@ -7,8 +7,7 @@ ghost use Rattle.srt_mailbox.specs.Identities.{identity_in};
 ghost use Rattle.srt_mailbox.specs.Places.{arrived, locks_of};
 ghost use Rattle.srt_serve.specs.Settled.{AreJoined, AreSettled};
 
-use crate::arrivals::NameAttachment;
-use srt_mailbox::{Account, ClockEnd, Seat, SeatReader};
+use srt_mailbox::{Account, Attachment, ClockEnd, Seat, SeatReader};
 use srt_poller::Ends;
 use srt_types::product_limits::MAX_ROUTES;
 use std::sync::{OnceToken, Wait};
@@ -19,9 +18,9 @@ pub struct Busy;
 
 /// Checks that the reader first reached the routes that were put into these places before any thread ran. It may have
 /// reached more. If it hasn't reached all of these, or more than 511, the routes can't be settled.
-pub fn began_with<'a>(
-    routes: &SeatReader<'a, NameAttachment>,
-    put: &Vec<OnceToken<'a, Seat<NameAttachment>>>,
+pub fn began_with<'a, X: Attachment + Drop>(
+    routes: &SeatReader<'a, X>,
+    put: &Vec<OnceToken<'a, Seat<X>>>,
 ) -> Result<(), Busy>
     requires { map (λ t. t.of) put.now.items ≡ take (length put.now.items) (locks_of routes.now) }
     ensures began { OnOk result ((more : List CellIdentity) × (arrived routes.now ≡ map (λ t. identity_in t.value.cell) put.now.items ++ more)) }
@@ -41,9 +40,9 @@ pub fn began_with<'a>(
 
 /// Checks that the ticking thread's reader reached all routes that the polling thread's did, the same at each index. It
 /// may have reached more. If it hasn't reached all, the routes can't be settled.
-pub fn reached_all<'a>(
-    routes: &SeatReader<'a, NameAttachment>,
-    arrivals: &SeatReader<'a, NameAttachment>,
+pub fn reached_all<'a, X: Attachment + Drop>(
+    routes: &SeatReader<'a, X>,
+    arrivals: &SeatReader<'a, X>,
 ) -> Result<(), Busy>
     requires { locks_of arrivals.now ≡ locks_of routes.now }
     ensures { OnOk result ((more : List CellIdentity) × (arrived arrivals.now ≡ arrived routes.now ++ more)) }
@@ -60,9 +59,9 @@ pub fn reached_all<'a>(
 /// Settles all routes that this reader reached and returns their final counters, in the order of their indexes. The lists
 /// must be in that order too; there may be more clock's ends. `accounts` must be empty and have room for all of them, so
 /// that nothing allocates.
-pub fn settle_routes<R: Wait>(
+pub fn settle_routes<R: Wait, X: Attachment + Drop>(
     rt: &R,
-    routes: &SeatReader<'_, NameAttachment>,
+    routes: &SeatReader<'_, X>,
     ends: Vec<Ends>,
     clocks: Vec<ClockEnd>,
     mut accounts: Vec<Account>,

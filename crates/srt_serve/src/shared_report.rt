@@ -1,7 +1,13 @@
 //! The poller's counts, as the polling thread leaves them for the watching one.
 
+ghost use Rattle.std.specs.Prelude.{◌≡◌};
+ghost use Rattle.srt_serve.specs.inside.Reported.{report_in};
+
 use srt_supervision::Report;
 use std::sync::atomic::{AtomicBool, AtomicU64, Ordering};
+
+// The number of counts in a report.
+const COUNTS: usize = 10;
 
 /// A report that one thread leaves and another one takes. The one writes the counts only while they are wanted, and the
 /// other reads them only while they aren't, so that what is taken is a report of one time.
@@ -9,16 +15,44 @@ use std::sync::atomic::{AtomicBool, AtomicU64, Ordering};
 pub struct SharedReport {
     // no report was left since the last one was taken
     is_wanted: AtomicBool,
-    read: AtomicU64,
-    answered: AtomicU64,
-    accepted: AtomicU64,
-    full: AtomicU64,
-    dropped: AtomicU64,
-    not_allowed: AtomicU64,
-    memory: AtomicU64,
-    sent: AtomicU64,
-    lost: AtomicU64,
-    faults: AtomicU64,
+    // in the order of a report's fields
+    counts: [AtomicU64; COUNTS],
+}
+
+// The counts of a report, in the order of its fields.
+fn numbers_of(report: &Report) -> [u64; COUNTS]
+    ensures { report_in result ≡ report.now }
+{
+    [
+        report.read,
+        report.answered,
+        report.accepted,
+        report.full,
+        report.dropped,
+        report.not_allowed,
+        report.memory,
+        report.sent,
+        report.lost,
+        report.faults,
+    ]
+}
+
+// The report of which these are the counts.
+fn report_of(numbers: &[u64; COUNTS]) -> Report
+    ensures { result ≡ report_in numbers.now }
+{
+    Report {
+        read: numbers[0],
+        answered: numbers[1],
+        accepted: numbers[2],
+        full: numbers[3],
+        dropped: numbers[4],
+        not_allowed: numbers[5],
+        memory: numbers[6],
+        sent: numbers[7],
+        lost: numbers[8],
+        faults: numbers[9],
+    }
 }
 
 impl SharedReport {
@@ -26,16 +60,18 @@ impl SharedReport {
     pub const fn new() -> SharedReport {
         SharedReport {
             is_wanted: AtomicBool::new(true),
-            read: AtomicU64::new(0),
-            answered: AtomicU64::new(0),
-            accepted: AtomicU64::new(0),
-            full: AtomicU64::new(0),
-            dropped: AtomicU64::new(0),
-            not_allowed: AtomicU64::new(0),
-            memory: AtomicU64::new(0),
-            sent: AtomicU64::new(0),
-            lost: AtomicU64::new(0),
-            faults: AtomicU64::new(0),
+            counts: [
+                AtomicU64::new(0),
+                AtomicU64::new(0),
+                AtomicU64::new(0),
+                AtomicU64::new(0),
+                AtomicU64::new(0),
+                AtomicU64::new(0),
+                AtomicU64::new(0),
+                AtomicU64::new(0),
+                AtomicU64::new(0),
+                AtomicU64::new(0),
+            ],
         }
     }
 
@@ -51,16 +87,11 @@ impl SharedReport {
     // Not written out in the poller's loop: a report is wanted many rounds apart.
     #[inline(never)]
     fn store(&self, report: &Report) {
-        self.read.store(report.read, Ordering::SeqCst);
-        self.answered.store(report.answered, Ordering::SeqCst);
-        self.accepted.store(report.accepted, Ordering::SeqCst);
-        self.full.store(report.full, Ordering::SeqCst);
-        self.dropped.store(report.dropped, Ordering::SeqCst);
-        self.not_allowed.store(report.not_allowed, Ordering::SeqCst);
-        self.memory.store(report.memory, Ordering::SeqCst);
-        self.sent.store(report.sent, Ordering::SeqCst);
-        self.lost.store(report.lost, Ordering::SeqCst);
-        self.faults.store(report.faults, Ordering::SeqCst);
+        let numbers = numbers_of(report);
+        let counts = &self.counts[..];
+        for at in 0..COUNTS {
+            counts[at].store(numbers[at], Ordering::SeqCst);
+        }
     }
 
     /// The report that was left, if there is one since the last was taken; from then on the next one is wanted. Only one
@@ -75,17 +106,11 @@ impl SharedReport {
     }
 
     fn load(&self) -> Report {
-        Report {
-            read: self.read.load(Ordering::SeqCst),
-            answered: self.answered.load(Ordering::SeqCst),
-            accepted: self.accepted.load(Ordering::SeqCst),
-            full: self.full.load(Ordering::SeqCst),
-            dropped: self.dropped.load(Ordering::SeqCst),
-            not_allowed: self.not_allowed.load(Ordering::SeqCst),
-            memory: self.memory.load(Ordering::SeqCst),
-            sent: self.sent.load(Ordering::SeqCst),
-            lost: self.lost.load(Ordering::SeqCst),
-            faults: self.faults.load(Ordering::SeqCst),
+        let counts = &self.counts[..];
+        let mut numbers = [0; COUNTS];
+        for at in 0..COUNTS {
+            numbers[at] = counts[at].load(Ordering::SeqCst);
         }
+        report_of(&numbers)
     }
 }

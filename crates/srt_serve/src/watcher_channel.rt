@@ -9,12 +9,13 @@
 ghost use Rattle.srt_supervision.specs.Answers.{IsOrdered};
 
 use crate::answers::{ClosesAll, EndsRun};
+use crate::counters::{Count, Counter, MissedRefusals, SocketFaults};
 use crate::shared_report::SharedReport;
 use crossbeam_queue::ArrayQueue;
 use srt_supervision::{Answers, Order, Refusal};
 use std::alloc::{AllocError, Global};
 use std::sync::Wait;
-use std::sync::atomic::{AtomicIn, AtomicU64, Ordering};
+use std::sync::atomic::{AtomicIn, Ordering};
 
 // The most refusals that wait for the watcher, which takes them many times a second.
 const REFUSAL_PLACES: usize = 64;
@@ -27,10 +28,10 @@ pub struct WatcherChannel<A: Answers> {
     // 1 if the order is to end
     ends: AtomicIn<EndsRun<A>>,
     // the number of socket faults
-    faults: AtomicU64,
+    faults: Counter<SocketFaults>,
     refusals: ArrayQueue<Refusal>,
     // the number of refusals for which there was no place, of all codes together
-    missed: AtomicU64,
+    missed: Counter<MissedRefusals>,
     /// The counts of the poller.
     pub report: SharedReport,
 }
@@ -42,9 +43,9 @@ impl<A: Answers> WatcherChannel<A> {
         Ok(WatcherChannel {
             closes: AtomicIn::new(0),
             ends: AtomicIn::new(0),
-            faults: AtomicU64::new(0),
+            faults: Counter::new(),
             refusals: ArrayQueue::new(alloc, REFUSAL_PLACES)?,
-            missed: AtomicU64::new(0),
+            missed: Counter::new(),
             report: SharedReport::new(),
         })
     }
@@ -75,19 +76,19 @@ impl<A: Answers> WatcherChannel<A> {
 
     /// Counts a fault of the socket.
     pub fn failed(&self) {
-        self.faults.fetch_add(1, Ordering::SeqCst);
+        self.faults.add();
     }
 
     /// The number of faults so far.
-    pub fn faults(&self) -> u64 {
-        self.faults.load(Ordering::SeqCst)
+    pub fn faults(&self) -> Count<SocketFaults> {
+        self.faults.read()
     }
 
     /// Whether a refusal would find no place. Counts it as missed then.
     pub fn misses(&self) -> bool {
         let is_full = self.refusals.is_full();
         if is_full {
-            self.missed.fetch_add(1, Ordering::SeqCst);
+            self.missed.add();
         }
         is_full
     }
@@ -95,13 +96,13 @@ impl<A: Answers> WatcherChannel<A> {
     /// Leaves a refusal for the watcher, or counts it as missed if 64 wait.
     pub fn leave<R: Wait>(&self, rt: &R, refusal: Refusal) {
         if self.refusals.push(rt, refusal).is_err() {
-            self.missed.fetch_add(1, Ordering::SeqCst);
+            self.missed.add();
         }
     }
 
     /// The number of refusals so far for which there was no place.
-    pub fn missed(&self) -> u64 {
-        self.missed.load(Ordering::SeqCst)
+    pub fn missed(&self) -> Count<MissedRefusals> {
+        self.missed.read()
     }
 
     /// The refusal that has waited longest.

@@ -1,15 +1,17 @@
 //! The watching thread of a run: it shows the routes to a watcher, reports refusals to it, passes its orders to the poller,
 //! and makes its changes of the routes.
 
-ghost use Rattle.std.specs.Prelude.{◌≡◌, ◌↔◌, ◌≤◌, ◌-◌, true, IfOk, IfErr, length, map, min, take};
+ghost use Rattle.std.specs.Prelude.{◌≡◌, ◌-◌, IfOk, IfErr, length, map, min, take};
 ghost use Rattle.srt_types.specs.Terms.{terms_of};
 ghost use Rattle.srt_serve.specs.Opened.{terms_in};
 ghost use Rattle.srt_mailbox.specs.Identities.{identity_in};
 ghost use Rattle.srt_serve.specs.inside.Changing.{IsChangeFault};
-ghost use Rattle.srt_serve.specs.inside.Watched.{known_first, known_with, known_checked};
-ghost use Rattle.srt_supervision.specs.Answers.{Answer};
+ghost use Rattle.srt_serve.specs.inside.Watched.{known_first, known_with, known_checked, status_of};
+ghost use Rattle.srt_supervision.specs.Answers.{Answer, AreOpenings};
 
+use crate::answers::Beginning;
 use crate::arrivals::{NameAttachment, RouteHost, RouteNotices, seat_route};
+use crate::counters::{Count, MissedRefusals, SocketFaults};
 use crate::watcher_channel::WatcherChannel;
 use srt_mailbox::{Observer, Seat, Serve};
 use srt_route::Route;
@@ -32,7 +34,7 @@ const QUIET_CHECKS: u32 = 2;
 
 /// Makes the changes that a watcher requests.
 #[derive(Drop)]
-pub struct Changer<'a, C, A: Answers> {
+pub struct Changer<'a, C, A: Answers + Beginning> {
     /// Allocates the memory of the routes that open.
     pub alloc: Global,
     /// The places of all routes, the taken ones first.
@@ -43,9 +45,10 @@ pub struct Changer<'a, C, A: Answers> {
     pub routes: usize,
 }
 
-impl<C: RouteHost, A: Answers> Changer<'_, C, A> {
+impl<A: Answers + Beginning, C: RouteHost<Seat = Seat<NameAttachment<A>>>> Changer<'_, C, A> {
     // Opens all routes of a change, without a place.
-    fn open_all(&self, entries: &[Entry]) -> Result<Vec<Seat<NameAttachment>>, ChangeFault>
+    fn open_all(&self, entries: &[Entry]) -> Result<Vec<Seat<NameAttachment<A>>>, ChangeFault>
+        requires { AreOpenings A.answered (map terms_of entries.now) }
         ensures terms { IfOk result (λ seats. terms_in (map (λ s. identity_in s.cell) seats.items) ≡ map terms_of entries.now) }
         ensures fault { IfErr result (λ fault. IsChangeFault (length self.now.places.now - self.now.routes) (length entries.now) fault) }
     {
@@ -68,7 +71,7 @@ impl<C: RouteHost, A: Answers> Changer<'_, C, A> {
     }
 
     // Puts the routes of a change into their places.
-    fn host_all(&mut self, seats: Vec<Seat<NameAttachment>>) {
+    fn host_all(&mut self, seats: Vec<Seat<NameAttachment<A>>>) {
         for seat in seats {
             if let Some(place) = self.places.get(self.routes) {
                 place.host(seat);
@@ -86,7 +89,8 @@ impl<C: RouteHost, A: Answers> Changer<'_, C, A> {
     }
 }
 
-impl<C: RouteHost, A: Answers> ChangeRoutes for Changer<'_, C, A> {
+impl<A: Answers + Beginning, C: RouteHost<Seat = Seat<NameAttachment<A>>>> ChangeRoutes
+    for Changer<'_, C, A> {
     ghost requires_of = { λ a. A.answered a };
 
     // Allocates all memory first, then puts the routes into their places, and then notifies the polling thread.
@@ -220,15 +224,13 @@ impl Known {
     }
 
     // Returns what the watcher gets before its next rest.
-    fn status<A: Answers>(&self, channel: &WatcherChannel<A>) -> RunStatus
-        ensures quiet { (result.is_quiet ≡ true) ↔ (2 ≤ self.now.quiet) }
-        ensures counts { result.counts ≡ self.now.counts }
-        ensures reports { result.reports ≡ self.now.reports }
+    fn status(&self, faults: Count<SocketFaults>, missed: Count<MissedRefusals>) -> RunStatus
+        ensures { result ≡ status_of self.now faults.number missed.number }
     {
         RunStatus {
             is_quiet: self.quiet >= QUIET_CHECKS,
-            faults: channel.faults(),
-            missed: channel.missed(),
+            faults: faults.number,
+            missed: missed.number,
             counts: self.counts,
             reports: self.reports,
         }
@@ -236,7 +238,7 @@ impl Known {
 }
 
 // Lets the watcher rest once, and then executes its order and its changes.
-fn watch_once<R: Wait, C: Serve + RouteHost, A: Answers, T: Watch>(
+fn watch_once<R: Wait, A: Answers + Beginning, C, T: Watch>(
     rt: &R,
     changer: &mut Changer<'_, C, A>,
     wakeups: &Wakeups,
@@ -244,10 +246,12 @@ fn watch_once<R: Wait, C: Serve + RouteHost, A: Answers, T: Watch>(
     watch: &mut T,
     known: &mut Known,
 )
+where
+    C: Serve + RouteHost<Seat = Seat<NameAttachment<A>>>,
     requires { (a : Answer) → T.answered a → A.answered a }
 {
     *known = known.with_counts(channel.report.take());
-    let order = watch.next(known.status(channel));
+    let order = watch.next(known.status(channel.faults(), channel.missed()));
     channel.set_order(order);
     report_refusals(rt, channel, watch);
     let looks = watch.wants_routes();
@@ -262,13 +266,15 @@ fn watch_once<R: Wait, C: Serve + RouteHost, A: Answers, T: Watch>(
 /// Watches until the run has ended. After each rest of the watcher the poller gets its order, the refusals that wait are
 /// reported, the watcher changes the routes, and the routes are shown if it wants them. What is known of the watcher's
 /// answers is known of those that the polling thread gets.
-pub fn watch_routes<R: Wait, C: Serve + RouteHost, A: Answers, T: Watch>(
+pub fn watch_routes<R: Wait, A: Answers + Beginning, C, T: Watch>(
     rt: &R,
     mut changer: Changer<'_, C, A>,
     wakeups: &Wakeups,
     channel: &WatcherChannel<A>,
     watch: &mut T,
 )
+where
+    C: Serve + RouteHost<Seat = Seat<NameAttachment<A>>>,
     requires { (a : Answer) → T.answered a → A.answered a }
 {
     wakeups.arrive();

@@ -1,6 +1,7 @@
 -- What is known between two rests of a watcher.
-use Rattle.std.specs.Prelude.{Bool, true, false, ◌+◌, ◌-◌, ◌^◌, min, Option, None, Some}
+use Rattle.std.specs.Prelude.{Bool, true, false, ℕ, nat_lt, ◌+◌, ◌-◌, ◌^◌, min, Option, None, Some}
 use Rattle.srt_supervision.specs.declared.report.Report.{Report}
+use Rattle.srt_supervision.specs.declared.watch.RunStatus.{RunStatus}
 use Rattle.srt_serve.specs.declared.watching.Known.{Known}
 
 -- before the first report
@@ -33,3 +34,14 @@ known_with (Some counts) known = record { counts = counts; reports = min (known.
 abbrev pub known_checked : (is_quiet : Bool) → Known → Known
 known_checked true known = record { counts = known.counts; reports = known.reports; quiet = min (known.quiet + 1) (2 ^ 32 - 1) }
 known_checked false known = record { counts = known.counts; reports = known.reports; quiet = 0 }
+
+-- what the watcher gets, with the numbers of socket faults and of refusals for which there was no place
+abbrev pub status_of : Known → (faults missed : ℕ) → RunStatus
+status_of known faults missed =
+    record {
+      is_quiet = nat_lt 1 known.quiet;
+      faults = faults;
+      missed = missed;
+      counts = known.counts;
+      reports = known.reports;
+    }

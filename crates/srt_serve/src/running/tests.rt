@@ -4,7 +4,7 @@ ghost use Rattle.std.specs.Prelude.{◌≡◌, None, map, length};
 ghost use Rattle.srt_types.specs.Terms.{terms_of};
 ghost use Rattle.srt_lobby.specs.Opening.{fault_of};
 
-use crate::answers::AnswersOf;
+use crate::answers::{AnswersOf, Beginning};
 use crate::arrivals::PollerArrivals;
 use crate::opening::{Opened, open_routes};
 use crate::running::{Prepared, Shared, open_shared, prepare};
@@ -81,6 +81,13 @@ impl Ticker for Device {
     }
 }
 
+/// The beginning of a run, with as many routes as there may be.
+struct MostRoutes;
+
+impl Beginning for MostRoutes {
+    ghost first = { 511 };
+}
+
 /// Begins a run of five rounds with one worker, once it is over: so it is if a thread couldn't be started. Returns what
 /// the poller reports.
 fn serve_once_over<R>(
@@ -100,7 +107,7 @@ where
         return Err(Fail::from("memory"));
     };
     let Prepared { names, accounts: _ } = prepared;
-    let Ok(shared) = open_shared::<AnswersOf<NoWatcher>>(alloc, entries.len(), 1, false) else {
+    let Ok(shared) = open_shared::<AnswersOf<NoWatcher, MostRoutes>>(alloc, entries.len(), 1, false) else {
         return Err(Fail::from("memory"));
     };
     let Shared {

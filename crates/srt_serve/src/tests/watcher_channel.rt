@@ -79,12 +79,12 @@ fn refusals_that_find_no_place_are_counted(rt: HostRuntime) -> Result<(), Fail> 
     );
     inline.replied(7, peer(), &conclusion_answer().bytes(alloc)?);
     inline.replied(7, peer(), &header_alone().bytes(alloc)?);
-    assert!(rt; channel.take(&rt).is_none() && channel.missed() == 0);
+    assert!(rt; channel.take(&rt).is_none() && channel.missed().number == 0);
     inline.replied(7, peer(), &refusal);
     for _ in 0..69u32 {
         inline.answered(&names, peer(), &conclusion, &refusal);
     }
-    assert_eq!(rt; channel.missed(), 6);
+    assert_eq!(rt; channel.missed().number, 6);
     assert_reported(&rt, &channel, Some(7), 1002, b"", None);
     for _ in 0..63u32 {
         assert_reported(
@@ -99,7 +99,7 @@ fn refusals_that_find_no_place_are_counted(rt: HostRuntime) -> Result<(), Fail> 
     assert!(rt; channel.take(&rt).is_none());
     inline.failed();
     inline.failed();
-    assert_eq!(rt; channel.faults(), 2);
+    assert_eq!(rt; channel.faults().number, 2);
     Ok(())
 }
 

@@ -4,8 +4,11 @@ use Rattle.srt_mailbox.specs.Places.{arrived}
 use Rattle.srt_serve.proofs.Openings.{one_more, terms_grow, clocks_grow, tokens_grow}
 use Rattle.srt_serve.proofs.opening.open_routes.Goals as goal
 
+pub seat_route-requires : goal.seat_route-requires
+seat_route-requires g c late = absurd (omega (arith, late, c.requires, c.loop-entry-test.true, c.loop-entry.invariant.index))
+
 pub loop-entry-preserved : goal.loop-entry-preserved
-loop-entry-preserved c =
+loop-entry-preserved g c =
     let taken = c.in_ok-token.ensures.taken in
     let clocked = c.in_ok-take_first_clock.ensures.taken in
     record {

@@ -7,7 +7,7 @@ use Rattle.srt_serve.specs.Opened.{AreOpened, terms_in, new_clocks}
 use Rattle.srt_serve.proofs.opening.open_routes.Given as goal
 
 abbrev pub invariant-loop-entry : goal.invariant-loop-entry
-invariant-loop-entry l = record {
+invariant-loop-entry g l = record {
   terms : terms_in (arrived l.routes) ≡ map terms_of (take l.entry-index l.entries);
   opened : AreOpened (arrived l.routes) l.ends.items;
   clocks : l.clocks.items ≡ new_clocks (arrived l.arrivals.reader);

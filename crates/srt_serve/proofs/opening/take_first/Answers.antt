@@ -6,7 +6,7 @@ use Rattle.srt_serve.proofs.Openings.{first_taken, place_put}
 use Rattle.srt_serve.proofs.opening.take_first.Goals as goal
 
 pub returns-clause-taken : goal.returns-clause-taken
-returns-clause-taken c =
+returns-clause-taken g c =
     let given = c.in-Some-next_poller.ensures.some in
     let taken : TheEnds = record { ingress = c.in-Some-next_poller.taken.ingress; drain = c.in-Some-next_poller.taken.drain } in
     let first =
@@ -15,7 +15,7 @@ returns-clause-taken c =
     (taken, first.0, c.in_ok-push.ensures.items, first.1)
 
 pub returns-clause-put : goal.returns-clause-put
-returns-clause-put c = (
+returns-clause-put g c = (
   place_put (λ p. p.seat.id) c.args.places.now (locks_of c.args.routes.now) c.routes-index.result (length (arrived c.args.routes.now))
       c.in-Some.place.now _ c.requires c.routes-index.ensures c.in-Some.ensures.lookup.1 c.in-Some.ensures.lookup.3.0 c.in-Ok.ensures.put.0,
   ap (λ s. identity_in s.cell) c.in-Ok.ensures.put.1,

@@ -4,6 +4,7 @@ use Rattle.srt_mailbox.specs.Cells.{CellIdentity}
 use Rattle.srt_mailbox.proofs.inbox.ClockEnd.TheSendSync as clock_is
 use Rattle.srt_serve.proofs.Ends.{all_ticked, rounds_for}
 use Rattle.srt_serve.proofs.Latecomers.{polled_late}
+use Rattle.srt_serve.proofs.Added.{were_added}
 use Rattle.srt_serve.proofs.AddedRoutes.{same_places, changed_joined, ran_fixed, ran_changing, all_answered}
 use Rattle.srt_serve.proofs.Sends.{places_sync, arrivals_send, clocks_send}
 use Rattle.srt_serve.proofs.running.run_opened.Goals as goal
@@ -58,7 +59,10 @@ returns-clause-changing g c known =
     late (ap g.K.Ticker.gave c.come_to_all.ensures.ticker ∙ c.in-Some.ensures.ticked.1.1)
     (all_ticked _ _ _ _ _ _ _ _ _ c.in-Some.ensures.ticked.1 c.requires.clocks c.in-Ok.ensures.taken.1
     c.in-Ok.ensures.taken.2)
-    c.in-Ok.ensures.all.1 c.in-Ok-settle_routes.ensures g.T.Answers.answered (all_answered c.take_late.new.openings.requested.items) (λ known. known)
+    c.in-Ok.ensures.all.1 c.in-Ok-settle_routes.ensures g.T.Answers.answered
+    (were_added g.T.Answers.answered g.B.Beginning.first _ _ c.in-Ok.ensures.began.0 c.requires.first
+    (grew ∙ ap (λ (ns : List CellIdentity). ns ++ c.in-Ok.ensures.began.0) c.requires.put.1) c.take_late.new.openings.answered)
+    (all_answered c.take_late.new.openings.requested.items) (λ known. known)
 
 pub returns-clause-rounds : goal.returns-clause-rounds
 returns-clause-rounds g c = rounds_for _ _ _ _ _ _ _ _ _ _ _ c.in-Some.ensures.pumped

@@ -1,8 +1,14 @@
 use Rattle.std.proofs.Common.{arith, ap, ◌∙◌, [], ◌∷◌, length, map}
 use Rattle.std.proofs.lemmas.List.{map-append, length-append}
 use Rattle.srt_mailbox.specs.Identities.{identity_in}
+use Rattle.srt_serve.proofs.Added.{entry_answered}
 use Rattle.srt_serve.proofs.Openings.{terms_grow}
 use Rattle.srt_serve.proofs.watching.Changer.open_all.Goals as goal
+
+pub seat_route-requires : goal.seat_route-requires
+seat_route-requires g c =
+    entry_answered g.A.Answers.answered g.A.Beginning.first _ c.args.entries.now c.loop-entry.entry-index c.entry-item.result c.loop-entry-test.true
+    c.entry-item.is c.requires
 
 pub loop-entry-preserved : goal.loop-entry-preserved
 loop-entry-preserved g c = record {
