@@ -244,7 +244,7 @@ impl<A: Answers + Beginning> Openings for PollerArrivals<'_, '_, A> {
     // them.
     ghost requested = { λ s. Some (marked (locks_of s.reader) (routes_of s.requested.items)) };
 
-    fn has_changes(&self) -> bool {
+    fn has_changes(&mut self) -> bool {
         self.notices.take_pending()
     }
 
