@@ -155,12 +155,12 @@ byte-transposed planes word k below few =
     let w : ℕ = slice_index (transposed_words planes) word in
     let byte : ℕ = w / 2 ^ (8 * k) % 256 in
     let same = λ (p : ℕ) (inside : p < 0 + 8).
-        let at1 : (p + 8 * k) % 8 ≡ p = omega arith in
-        let at2 : (p + 8 * k) / 8 * 8 + word ≡ 8 * k + word = omega arith in
-        low-bit (w / 2 ^ (8 * k)) p (omega arith) ∙ right-bit w (8 * k) p ∙
-        transposed-bit planes word (p + 8 * k) below (omega arith) ∙
-        ap (λ (n : ℕ). bit_at (slice_index planes n) ((p + 8 * k) / 8 * 8 + word)) at1 ∙
-        ap (λ (n : ℕ). bit_at (slice_index planes p) n) at2 in
+    let at1 : (p + 8 * k) % 8 ≡ p = omega arith in
+    let at2 : (p + 8 * k) / 8 * 8 + word ≡ 8 * k + word = omega arith in
+    low-bit (w / 2 ^ (8 * k)) p (omega arith) ∙ right-bit w (8 * k) p ∙
+    transposed-bit planes word (p + 8 * k) below (omega arith) ∙
+    ap (λ (n : ℕ). bit_at (slice_index planes n) ((p + 8 * k) / 8 * 8 + word)) at1 ∙
+    ap (λ (n : ℕ). bit_at (slice_index planes p) n) at2 in
     sym (number-bits byte (omega arith)) ∙
     ap number (same_over_range (λ p. bit_at byte p) (λ p. bit_at (slice_index planes p) (8 * k + word)) 0 8 same)
 

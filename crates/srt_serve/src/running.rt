@@ -491,7 +491,8 @@ where
         return Err(RunFault::OutOfMemory);
     };
     let workers = crew.gates.workers.len();
-    let Ok(shared) = open_shared::<AnswersOf<T, B>>(alloc, entries.len(), workers, is_watched) else {
+    let Ok(shared) = open_shared::<AnswersOf<T, B>>(alloc, entries.len(), workers, is_watched)
+    else {
         return Err(RunFault::OutOfMemory);
     };
     let Shared {

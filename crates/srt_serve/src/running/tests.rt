@@ -107,7 +107,8 @@ where
         return Err(Fail::from("memory"));
     };
     let Prepared { names, accounts: _ } = prepared;
-    let Ok(shared) = open_shared::<AnswersOf<NoWatcher, MostRoutes>>(alloc, entries.len(), 1, false) else {
+    let Ok(shared) = open_shared::<AnswersOf<NoWatcher, MostRoutes>>(alloc, entries.len(), 1, false)
+    else {
         return Err(Fail::from("memory"));
     };
     let Shared {

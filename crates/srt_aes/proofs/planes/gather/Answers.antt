@@ -13,8 +13,8 @@ bytes_of : (planes : List ℕ) (word from block : ℕ) → word < 8 → word ≡
 bytes_of planes word from block few is =
     let n : ℕ = slice_index (transposed_words planes) word in
     let at = λ (k : ℕ) (inside : k < 8).
-        let same : 8 * k + word ≡ 8 * k + from + block = omega (arith, is) in
-        byte-transposed planes word k few inside ∙ ap (λ (m : ℕ). byte_at m planes) same in
+    let same : 8 * k + word ≡ 8 * k + from + block = omega (arith, is) in
+    byte-transposed planes word k few inside ∙ ap (λ (m : ℕ). byte_at m planes) same in
     let first : n % 256 ≡ n / 2 ^ (8 * 0) % 256 = omega arith in
     let e0 = first ∙ at 0 (omega arith) in
     let e1 = at 1 (omega arith) in
