@@ -48,7 +48,7 @@ def of_law(folder: str, edit: str, changes: list[Change]) -> Placed:
     name, laws = law_of(edit), f"{folder}/src/laws.rt"
     if not name:
         raise CannotCopy("it changes a definition, and names no law that is about it")
-    if not os.path.isfile(laws) or f"\npub fn {name}()" not in read(laws):
+    if not os.path.isfile(laws) or not re.search(rf"^pub fn {re.escape(name)}(?:<[^>]*>)?\(\)", read(laws), re.MULTILINE):
         raise CannotCopy(f"there is no law {name} in laws.rt")
     law = Function("src/laws.rt", "", name, 0, 0)
     return Placed(os.path.basename(edit), law, f"laws::{name}", tuple(changes))
