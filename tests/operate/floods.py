@@ -1,4 +1,5 @@
 """Floods of refusals: the log stays short, its counts add up, and a stream of another route loses nothing."""
+import fcntl
 import os
 import re
 import signal
@@ -145,24 +146,30 @@ def unread_log():
         expect(run.texts()[0].startswith("serving at "), f"the log begins with {run.texts()[0]!r}")
 
 
+def with_small_pipe() -> None:
+    """Lets the pipe of standard error hold one page."""
+    fcntl.fcntl(2, 1031, 4096)  # F_SETPIPE_SZ
+
+
 @case("what a log leaves out that nobody reads is counted once somebody reads it")
 def read_again():
     if not can_block():
         raise Skipped("`env` can't start a program with signals blocked")
-    with Run([live("steady")], "--no-time", reads=False) as run:
+    with Run([live("steady")], "--no-time", reads=False, limit=with_small_pipe) as run:
         Caller(run.address).induce(10)
-        # A line of such a name has 1,023 bytes, so that 10 a second fill what is kept in seven seconds.
-        flood = Flood(run.address, "\x01" * 300, 500, 50)
+        # A line of such a name has 319 bytes, so that 10 a second fill the pipe and the 64 KiB that are kept in 22 seconds.
+        flood = Flood(run.address, "\x01" * 300, 600, 20)
         flood.start()
         flood.join()
         flood.expect_refused()
         run.read()
-        run.line(LEFT_OUT, 5)
+        # Those for which there was no room are told in one line once all is written that waited.
+        run.line(r"lines left out \d{3}", 5)
         expect_polite(run.stop(), ["steady"])
         told = [it for it in run.texts() if "\\x01" in it]
         left_out = sum(int(found[1]) for found in (re.fullmatch(LEFT_OUT, it) for it in run.texts()) if found)
-        expect(60 <= len(told) <= 80, f"{len(told)} refusals are told, {left_out} lines left out")
-        expect(len(told) + left_out == 500, f"{len(told)} refusals are told and {left_out} lines left out, of 500")
+        expect(200 <= len(told) <= 235, f"{len(told)} refusals are told, {left_out} lines left out")
+        expect(len(told) + left_out == 600, f"{len(told)} refusals are told and {left_out} lines left out, of 600")
 
 
 @case("what waits in the log at the stop is written before the gateway ends, if somebody reads it within a second")
