@@ -10,6 +10,7 @@ invariant_of-self g c = record {
       next_indexed _ _ c.next_poller.result (arrived c.args.self.now.reader) (arrived c.next_poller.new.self) (λ e h. (h.0, h.1, h.2))
       (λ same. ap arrived same) c.next_poller.ensures.some c.next_poller.ensures.none c.args.self.now.indexed;
   answered =
-      next_answered g.A.Answers.answered g.A.Beginning.first _ _ c.next_poller.result (arrived c.args.self.now.reader) (arrived c.next_poller.new.self) (λ e h. (h.0, h.1, h.2, h.4.1))
+      next_answered g.A.Answers.answered g.A.Beginning.first _ _ c.next_poller.result
+      (arrived c.args.self.now.reader) (arrived c.next_poller.new.self) (λ e h. (h.0, h.1, h.2, h.4.1))
       (λ same. ap arrived same) c.next_poller.ensures.some c.next_poller.ensures.none c.args.self.now.answered;
 }
