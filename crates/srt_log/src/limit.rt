@@ -69,14 +69,14 @@ impl LineLimit {
         }
     }
 
-    /// Returns how many lines of the current second are beyond so many.
+    /// Returns how many lines of the current second are beyond `most`.
     pub(crate) fn beyond(&self, most: u64) -> u64
         ensures { (calls : List LimitCall) → StandsFor self.now calls → result ≡ lines_in calls - most }
     {
         self.lines.saturating_sub(most)
     }
 
-    /// Begins a new second, if it has come, and returns how many lines the one before had beyond so many; else 0.
+    /// Begins a new second, if it has come, and returns how many lines the one before had beyond `most`; else 0.
     pub(crate) fn begin_second(&mut self, moment: u64, most: u64) -> u64
         ensures stands { (calls : List LimitCall) → StandsFor self.old calls → StandsFor self.new (record { is_line = false; moment = moment } ∷ calls) }
         ensures left_out { (calls : List LimitCall) → StandsFor self.old calls → result ≡ omitted_within most calls moment }

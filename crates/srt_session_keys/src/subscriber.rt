@@ -107,7 +107,7 @@ impl SubscriberKeys {
         }
     }
 
-    /// Whether the next key is to be announced at `now`, in microseconds, if so many payloads were queued so far. One that is
+    /// Whether the next key is to be announced at `now`, in microseconds, if `queued` payloads were queued so far. One that is
     /// counts as sent: [`message`](Self::message) returns its contents. Makes the key at its first announcement.
     pub fn announce(&mut self, queued: u64, now: u64) -> bool
         requires { queued < 2 ^ 62 }

@@ -37,7 +37,7 @@ pub record IsStopping (machine : MachineFacts) : Type 0 where
   pub requested_at : ℕ
   pub stopped : WasStopped machine requested_at
 
--- the run may end: nothing is left to send, or a second has passed
+-- the run may end: a second has passed, or a twentieth of one if the watcher takes the run for quiet, of which nothing is known here
 pub record IsStopOver (machine : MachineFacts) : Type 0 where
   pub requested_at : ℕ
   pub moment : ℕ

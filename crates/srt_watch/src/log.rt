@@ -135,7 +135,7 @@ pub(crate) enum Drained {
     All,
     /// The time was over, at this moment.
     Over(u64),
-    /// After so many rests the clock hadn't come to the end of the time.
+    /// After this number of rests the clock hadn't come to the end of the time.
     Rested(u32),
 }
 

@@ -19,7 +19,7 @@ struct Slow {
 }
 
 impl Slow {
-    /// Returns one whose reader comes back after so many flushes.
+    /// Returns one whose reader comes back after this number of flushes.
     fn of(flushes: u32) -> Slow {
         Slow {
             flushes,

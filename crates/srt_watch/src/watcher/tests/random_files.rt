@@ -21,7 +21,7 @@ const NAMES: [&str; 3] = ["studio", "news", "guest"];
 /// How many files a test has: ten thousand in all, in tests that end within their time.
 const FILES: u32 = 2_000;
 
-/// A watcher is replaced by a new one beyond so many indexes, before a line would say that few are left.
+/// A watcher is replaced by a new one beyond this number of indexes, before a line would say that few are left.
 const MANY_INDEXES: usize = 390;
 
 type Following<'a> = Watcher<'a, Set, Vec<u8>, Shown, RandomFiles>;
@@ -551,7 +551,7 @@ fn follow_file(
     Ok(())
 }
 
-/// A watcher follows at most so many files. Returns how many it followed.
+/// A watcher follows at most `most` files. Returns how many it followed.
 fn follow_files(
     rt: &impl Abort,
     alloc: Global,
