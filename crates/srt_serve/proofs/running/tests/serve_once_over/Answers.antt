@@ -20,7 +20,7 @@ new-requires-clause-indexed g c = opened_indexed _ _ c.in-Ok-open_routes.ensures
 
 pub new-requires-clause-answered : goal.new-requires-clause-answered
 new-requires-clause-answered g c =
-    first_answered _ _ _ (omega (
+    first_answered (λ answer. ⊥) 511 _ (omega (
       arith,
       few_entries (map terms_of c.args.entries.now) c.requires.entries,
       length-map (arrived c.in-Ok-open_routes.opened.routes) (λ n. n.terms),
