@@ -297,7 +297,7 @@ class KeyRow:
 def key_rows(index: Index) -> Dict[str, KeyRow]:
     """The code's table of keys: `kind`, `limits` and `choices` of each."""
     table = index.text(KEY_TABLE)
-    limits = index.text("crates/srt_types/src/limits.rt") + index.text(PRODUCT_LIMITS)
+    limits = index.text("crates/srt_types/src/protocol_limits.rt") + index.text(PRODUCT_LIMITS)
     texts = dict(re.findall(r'Key::(\w+) => "(\w+)"', table))
     numbers = {name: int(value.replace("_", "")) for name, value in re.findall(r"const (\w+): usize = ([\d_]+);", limits + table)}
     words = dict(re.findall(r'const (\w+): &str = "(\w+)";', table))

@@ -106,7 +106,7 @@ def value_in(index: Index, path: str, pattern: str) -> float:
 
 
 def limit(index: Index, name: str) -> float:
-    path = f"crates/srt_types/src/limits.rt" if f"const {name}:" in index.text("crates/srt_types/src/limits.rt") else "crates/srt_types/src/product_limits.rt"
+    path = f"crates/srt_types/src/protocol_limits.rt" if f"const {name}:" in index.text("crates/srt_types/src/protocol_limits.rt") else "crates/srt_types/src/product_limits.rt"
     return value_in(index, path, rf"const {name}: \w+ = ([\d_]+|1 << \d+);")
 
 

@@ -24,7 +24,7 @@ def body_numbers(text: str) -> Set[int]:
 
 def literal_bodies(index: Index) -> List[str]:
     """Files with a limit above 500 as a literal in a body, beside the limits' own file."""
-    both = "".join(index.text(f"crates/srt_types/src/{it}limits.rt") for it in ("", "product_"))
+    both = "".join(index.text(f"crates/srt_types/src/{it}limits.rt") for it in ("protocol_", "product_"))
     limits = re.findall(r"const \w+: \w+ = ([\d_]+);", both)
     large = {it for it in (int(it.replace("_", "")) for it in limits) if it > 500}
     code = (it for it in sorted(index.files) if re.match(r"crates/\w+/src/.*\.rt$", it) and not is_test(it))
@@ -74,7 +74,7 @@ CAUSES = {
 
 def codes_of(index: Index) -> List[int]:
     """The codes that the code gives."""
-    return sorted(int(it) for it in re.findall(r"RefusalCode::\w+ => (\d+)", index.text("crates/srt_hs/src/refusals.rt")))
+    return sorted(int(it) for it in re.findall(r"RefusalCode::\w+ => (\d+)", index.text("crates/srt_hs/src/refusal_codes.rt")))
 
 
 def stated_causes(index: Index, path: str, mark: str) -> Dict[int, str]:
@@ -93,7 +93,7 @@ def order_in(text: str) -> List[int]:
 def wrong_causes(index: Index) -> Tuple[int, List[str]]:
     """Each code has the same causes in PROTOCOL, in the comments of the codes and in callers.md, and PROTOCOL and the comments
     check them in the same order."""
-    code_file = "crates/srt_hs/src/refusals.rt"
+    code_file = "crates/srt_hs/src/refusal_codes.rt"
     homes = {"docs/PROTOCOL.md": r"\n\n|\n(?=\d+\. )|\n\||(?<=\.) ", code_file: r"\n *\w+,\n", "docs/operating/callers.md": r"\n(?=\|)"}
     wrong = []
     for path, mark in homes.items():

@@ -7,7 +7,7 @@
 use anyhow::bail;
 use srt_cookie::Secret;
 use srt_hub::{Arrived, SrtGateway};
-use srt_types::limits::MAX_DATAGRAM;
+use srt_types::protocol_limits::MAX_DATAGRAM;
 use srt_types::{Access, Entry, Mode, Peer, Rules};
 
 /// The secret of the cookies. A gateway in production must have a secret value that nobody else knows.

@@ -6,8 +6,8 @@ use Rattle.srt_types.specs.declared.shared.Mode.{Mode}
 use Rattle.srt_types.specs.declared.shared.Mode.TheVariants.{Live, Buffer}
 use Rattle.srt_hs.specs.declared.handshake.HsReq.{HsReq}
 use Rattle.srt_hs.specs.declared.handshake.HsKind.TheVariants as kinds
-use Rattle.srt_hs.specs.declared.refusals.RefusalCode.{RefusalCode}
-use Rattle.srt_hs.specs.declared.refusals.RefusalCode.TheVariants as codes
+use Rattle.srt_hs.specs.declared.refusal_codes.RefusalCode.{RefusalCode}
+use Rattle.srt_hs.specs.declared.refusal_codes.RefusalCode.TheVariants as codes
 use Rattle.srt_hs.specs.declared.writing.AnswerKind.{AnswerKind}
 use Rattle.srt_hs.specs.declared.writing.AnswerKind.TheVariants.{Induction, Refusal, Conclusion}
 use Rattle.srt_hs.specs.Grammar.{Blocks, no_blocks, kind_of}

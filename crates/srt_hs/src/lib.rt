@@ -10,7 +10,7 @@
 //! `contents.rt`, copy the contents of two blocks.
 //!
 //! Encoding: fill an [`HsAnswer`] with an [`AnswerKind`] and [`write`] it, all in `writing.rt`. [`RefusalCode`], in
-//! `refusals.rt`, lists each reason for a refusal with its causes.
+//! `refusal_codes.rt`, lists each reason for a refusal with its causes.
 //!
 //! Keys: [`key_request`] (`key_requests.rt`) finds the KMREQ block in the same bytes. [`read_key_message`] and
 //! [`write_key_message`] (`key_reading.rt`) read its contents as a [`KeyMessageRef`] (`key_message.rt`), or return the first
@@ -27,7 +27,7 @@ mod key_reading;
 mod key_requests;
 pub mod laws;
 mod reading;
-mod refusals;
+mod refusal_codes;
 mod writing;
 
 pub use contents::{congestion, stream_id};
@@ -38,7 +38,7 @@ pub use key_message::{KeyFault, KeyMessageRef, SentKeys};
 pub use key_reading::{read_key_message, write_key_message};
 pub use key_requests::{KeyRequest, key_request};
 pub use reading::read;
-pub use refusals::RefusalCode;
+pub use refusal_codes::RefusalCode;
 pub use writing::{AnswerKind, HsAnswer, write};
 
 #[cfg(test)]

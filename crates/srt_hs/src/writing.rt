@@ -5,7 +5,7 @@ ghost use Rattle.srt_hs.specs.View.{text_words};
 ghost use Rattle.srt_hs.specs.Text.{answer_text, fields_text, flags_of, hsrsp_text, congestion_text};
 
 use crate::CongestionText;
-use crate::refusals::{RefusalCode, code};
+use crate::refusal_codes::{RefusalCode, code};
 use srt_types::{Mode, write_at, write_words};
 
 /// The kind of an answer, and its content apart from the initial number. The other fields of the 48 bytes are fixed:

@@ -13,7 +13,7 @@ use Rattle.srt_packet.specs.Reading.{packet_in}
 use Rattle.srt_hs.specs.declared.handshake.HsKind.{HsKind}
 use Rattle.srt_hs.specs.declared.handshake.HsKind.TheVariants as kinds
 use Rattle.srt_hs.specs.declared.handshake.HsFault.{HsFault}
-use Rattle.srt_hs.specs.declared.refusals.RefusalCode.{RefusalCode}
+use Rattle.srt_hs.specs.declared.refusal_codes.RefusalCode.{RefusalCode}
 use Rattle.srt_hs.specs.Grammar.{Handshake}
 use Rattle.srt_hs.specs.Reading.{handshake_in}
 use Rattle.srt_streamid.specs.declared.reading.Ask.{Ask}

@@ -3,8 +3,8 @@ use Rattle.std.proofs.Common.{◌≡◌, ℕ, Bool, true, false, cond, ◌&&◌,
 use Rattle.srt_types.specs.declared.shared.Peer.{Peer}
 use Rattle.srt_types.specs.declared.shared.Role.{Role}
 use Rattle.srt_types.specs.Access.{lists, is_right_key, in_role}
-use Rattle.srt_hs.specs.declared.refusals.RefusalCode.{RefusalCode}
-use Rattle.srt_hs.specs.declared.refusals.RefusalCode.TheVariants as codes
+use Rattle.srt_hs.specs.declared.refusal_codes.RefusalCode.{RefusalCode}
+use Rattle.srt_hs.specs.declared.refusal_codes.RefusalCode.TheVariants as codes
 use Rattle.srt_hs.specs.Grammar.{Handshake}
 use Rattle.srt_streamid.specs.declared.reading.Ask.{Ask}
 use Rattle.srt_streamid.specs.declared.reading.AskFault.{AskFault}

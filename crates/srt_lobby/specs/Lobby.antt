@@ -16,8 +16,8 @@ use Rattle.srt_hs.specs.declared.handshake.HsFault.{HsFault}
 use Rattle.srt_hs.specs.declared.writing.HsAnswer.{HsAnswer}
 use Rattle.srt_hs.specs.declared.writing.AnswerKind.{AnswerKind}
 use Rattle.srt_hs.specs.declared.writing.AnswerKind.TheVariants as answers
-use Rattle.srt_hs.specs.declared.refusals.RefusalCode.{RefusalCode}
-use Rattle.srt_hs.specs.declared.refusals.RefusalCode.TheVariants as codes
+use Rattle.srt_hs.specs.declared.refusal_codes.RefusalCode.{RefusalCode}
+use Rattle.srt_hs.specs.declared.refusal_codes.RefusalCode.TheVariants as codes
 use Rattle.srt_hs.specs.Grammar.{Handshake}
 use Rattle.srt_hs.specs.Reading.{handshake_in}
 use Rattle.srt_hs.specs.Text.{answer_text}

@@ -8,7 +8,7 @@ ghost use Rattle.srt_loss.specs.Spelling.{Spells, HasFault};
 ghost use Rattle.srt_loss.specs.Text.{range_of};
 
 use crate::circle::{number_of, steps};
-use srt_types::limits::RANGE_END;
+use srt_types::protocol_limits::RANGE_END;
 use srt_types::{Seq31, read_word};
 use std::marker::Model;
 

@@ -21,7 +21,7 @@ use crate::outbox::OutboxSender;
 use crate::outbox_rule::Parcel;
 use crate::spares::Boxes;
 use srt_route::{Reply, Route};
-use srt_types::limits::MAX_PAYLOAD;
+use srt_types::protocol_limits::MAX_PAYLOAD;
 use srt_types::{Entry, Item, Turned};
 use std::marker::Model;
 use std::snapshot::Snapshot;

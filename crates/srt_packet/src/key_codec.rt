@@ -6,7 +6,7 @@ ghost use Rattle.srt_packet.specs.KeyPacket.{KeyPacket as ThePacket, SpellsKeyPa
 ghost use Rattle.srt_packet.specs.KeyPacket.{key_packet_of, key_packet_read};
 
 use crate::key_packet::{KeyPacketKind, KeyPacketRef};
-use srt_types::limits::MAX_DATAGRAM;
+use srt_types::protocol_limits::MAX_DATAGRAM;
 use srt_types::{read_word, write_at};
 
 fn kind_of(word0: u32) -> Option<KeyPacketKind>

@@ -5,7 +5,7 @@ ghost use Rattle.srt_packet.specs.Grammar.{Packet as ThePacket, Spells};
 ghost use Rattle.srt_packet.specs.Reading.{data_in, control_in, body_in, packet_after, packet_in, IsFirstFault};
 ghost use Rattle.srt_packet.specs.View.{body_read, packet_of, packet_read};
 
-use srt_types::limits::{MAX_DATAGRAM, MAX_PAYLOAD};
+use srt_types::protocol_limits::{MAX_DATAGRAM, MAX_PAYLOAD};
 use srt_types::{PayloadRef, read_word};
 
 /// Why bytes are no packet. If several faults apply, the first variant is returned (the order is our choice).

@@ -13,7 +13,7 @@ use crate::rates::Meter;
 use srt_packet::{Body, Rates};
 use srt_timing::{AckBook, Rtt};
 use srt_types::Seq31;
-use srt_types::limits::{FULL_ACK_INTERVAL_US, FULL_ACKS_KEPT, LIGHT_ACK_PACKETS};
+use srt_types::protocol_limits::{FULL_ACK_INTERVAL_US, FULL_ACKS_KEPT, LIGHT_ACK_PACKETS};
 use std::alloc::{AllocError, Global};
 
 /// The pair that a Full ACK reports.

@@ -12,7 +12,7 @@ ghost use Rattle.srt_pub.specs.Publishing.Report.{KeepAlive as TheKeepAlive};
 use crate::log::Log;
 use crate::session::Publisher;
 use srt_packet::{Body, EncodedPacket};
-use srt_types::limits::KEEP_ALIVE_AFTER_US;
+use srt_types::protocol_limits::KEEP_ALIVE_AFTER_US;
 
 impl Publisher {
     ghost use Rattle.srt_pub.specs.Stands.{opening_of};

@@ -6,7 +6,7 @@ ghost use Rattle.srt_pub.specs.Publishing.{region_in};
 
 use crate::session::{Publisher, steps};
 use srt_types::Seq31;
-use srt_types::limits::RANGE_END;
+use srt_types::protocol_limits::RANGE_END;
 
 /// The position of a data packet's number relative to the window.
 #[derive(Clone, Copy, Debug, PartialEq, Eq)]

@@ -5,7 +5,7 @@ ghost use Rattle.srt_types.specs.Window.{counted_from};
 ghost use Rattle.srt_pub.specs.Publishing.{loses_window, is_past_window};
 
 use crate::session::Publisher;
-use srt_types::limits::RANGE_END;
+use srt_types::protocol_limits::RANGE_END;
 use srt_types::{Mode, Seq31};
 
 impl Publisher {

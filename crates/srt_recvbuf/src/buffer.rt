@@ -7,7 +7,7 @@ ghost use Rattle.srt_types.specs.Window.{word_of, counted_from, in_window, offse
 ghost use Rattle.srt_recvbuf.specs.Cells.{width_of, cell_at, cell_is_missing, cell_is_received};
 
 use crate::window::{NumberState, Seek, Window};
-use srt_types::limits::RANGE_END;
+use srt_types::protocol_limits::RANGE_END;
 use srt_types::{PayloadRef, Seq31};
 use std::alloc::{AllocError, Global};
 

@@ -9,7 +9,7 @@ use crate::buffer::RecvBuf;
 use crate::window::Seek;
 use arrayvec::ArrayVec;
 use srt_types::Seq31;
-use srt_types::limits::MAX_NAK_RUNS;
+use srt_types::protocol_limits::MAX_NAK_RUNS;
 
 impl RecvBuf {
     ghost use Rattle.srt_recvbuf.specs.Stands.{said_runs, words_of};

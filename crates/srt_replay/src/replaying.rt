@@ -24,8 +24,8 @@ use crate::texts::{
 use crate::writer::CountedWriter;
 use srt_config::Config;
 use srt_hub::{Doors, Gateway, Hub, Lobby, OutOfMemory, RouteStep, SrtGateway};
-use srt_types::limits::MAX_DATAGRAM;
 use srt_types::product_limits::{MAX_TAPE_LINE, MAX_TAPE_LINES};
+use srt_types::protocol_limits::MAX_DATAGRAM;
 use srt_types::{Access, Entry, OpenFault, Peer, Rules};
 use std::alloc::Global;
 use std::io::{BufRead, Write};

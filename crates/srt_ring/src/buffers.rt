@@ -2,7 +2,7 @@
 
 ghost use Rattle.std.specs.Prelude.{◌≡◌, ◌≤◌, [], length, take};
 
-use srt_types::limits::MAX_PAYLOAD;
+use srt_types::protocol_limits::MAX_PAYLOAD;
 
 #[derive(Drop)]
 struct PayloadArray {

@@ -5,7 +5,7 @@ use Rattle.srt_types.specs.Terms.{Terms}
 use Rattle.srt_route.specs.declared.refusals.RefusalCause.{RefusalCause}
 use Rattle.srt_route.specs.declared.agreement.Agreement.{Agreement}
 use Rattle.srt_route.specs.declared.admission.Admission.{Admission}
-use Rattle.srt_route.specs.declared.conclusion.Conclusion.{Conclusion}
+use Rattle.srt_route.specs.declared.conclusion_reading.Conclusion.{Conclusion}
 use Rattle.srt_route.specs.Sessions.{Session, receiver_ms, sender_ms, agreed_mtu}
 use Rattle.srt_route.specs.Route.{decision}
 

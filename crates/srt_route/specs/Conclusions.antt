@@ -12,7 +12,7 @@ use Rattle.srt_hs.specs.View.{text_of}
 use Rattle.srt_streamid.specs.declared.reading.Ask.{Ask}
 use Rattle.srt_streamid.specs.declared.reading.AskFault.{AskFault}
 use Rattle.srt_streamid.specs.Reading.{ask_in}
-use Rattle.srt_route.specs.declared.conclusion.Conclusion.{Conclusion}
+use Rattle.srt_route.specs.declared.conclusion_reading.Conclusion.{Conclusion}
 
 -- the flag STREAM (section 3.2.1.1.1)
 abbrev pub wants_stream : (flags : ℕ) → Bool

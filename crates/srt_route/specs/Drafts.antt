@@ -5,7 +5,7 @@ use Rattle.srt_types.specs.Terms.{Terms}
 use Rattle.srt_types.specs.Items.{Item}
 use Rattle.srt_pub.specs.Publishing.{Note, correction_of}
 use Rattle.srt_sub.specs.declared.resend_all.Resending.TheVariants.{AtEachTimeout}
-use Rattle.srt_route.specs.declared.conclusion.Conclusion.{Conclusion}
+use Rattle.srt_route.specs.declared.conclusion_reading.Conclusion.{Conclusion}
 use Rattle.srt_route.specs.Sessions.{agreed_terms, is_draining}
 use Rattle.srt_route.specs.Route.{after}
 

@@ -1,7 +1,7 @@
 -- The ended sessions that a route keeps, and its counts.
 use Rattle.std.specs.Prelude.{◌≡◌, ℕ, ◌+◌, ◌-◌, ◌^◌, min, Bool, true, false, Option, None, Some, slice_index_or, if◌then◌else◌}
-use Rattle.srt_hs.specs.declared.refusals.RefusalCode.{RefusalCode}
-use Rattle.srt_hs.specs.declared.refusals.RefusalCode.TheVariants as codes
+use Rattle.srt_hs.specs.declared.refusal_codes.RefusalCode.{RefusalCode}
+use Rattle.srt_hs.specs.declared.refusal_codes.RefusalCode.TheVariants as codes
 use Rattle.srt_route.specs.declared.refusals.RefusalCause.{RefusalCause}
 use Rattle.srt_route.specs.declared.refusals.RefusalCause.TheVariants as refusals
 use Rattle.srt_packet.specs.Grammar.{Body, Shutdown}

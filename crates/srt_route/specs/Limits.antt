@@ -3,7 +3,7 @@ use Rattle.std.specs.Prelude.{◌≡◌, ℕ, ◌+◌, ◌≤◌, true, None, So
 use Rattle.srt_types.specs.declared.shared.Peer.{Peer}
 use Rattle.srt_types.specs.Terms.{Terms}
 use Rattle.srt_types.specs.Items.{Item}
-use Rattle.srt_route.specs.declared.conclusion.Conclusion.{Conclusion}
+use Rattle.srt_route.specs.declared.conclusion_reading.Conclusion.{Conclusion}
 use Rattle.srt_route.specs.declared.refusals.RefusalCause.TheVariants as causes
 use Rattle.srt_route.specs.Opening.{fault_of}
 use Rattle.srt_route.specs.Sessions.{advanced, free_slots, open_publishers, publishes, sessions_from}

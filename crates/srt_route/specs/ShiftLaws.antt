@@ -16,7 +16,7 @@ use Rattle.srt_hs.specs.declared.writing.AnswerKind.TheVariants as answers
 use Rattle.srt_hs.specs.declared.writing.HsAnswer.{HsAnswer}
 use Rattle.srt_hs.specs.Grammar.{Handshake}
 use Rattle.srt_hs.specs.Reading.{handshake_in}
-use Rattle.srt_route.specs.declared.conclusion.Conclusion.{Conclusion}
+use Rattle.srt_route.specs.declared.conclusion_reading.Conclusion.{Conclusion}
 use Rattle.srt_route.specs.Conclusions.{conclusion_in}
 use Rattle.srt_route.specs.Route.{Answers, output_text}
 use Rattle.srt_pub.specs.Heard as to_publisher

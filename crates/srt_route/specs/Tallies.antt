@@ -8,7 +8,7 @@ use Rattle.srt_packet.specs.Grammar.{Packet}
 use Rattle.srt_packet.specs.Reading.{packet_in}
 use Rattle.srt_route.specs.declared.refusals.RefusalCause.{RefusalCause}
 use Rattle.srt_route.specs.declared.admission.Admission.{Admission}
-use Rattle.srt_route.specs.declared.conclusion.Conclusion.{Conclusion}
+use Rattle.srt_route.specs.declared.conclusion_reading.Conclusion.{Conclusion}
 use Rattle.srt_route.specs.declared.ledger.Ledger.{Ledger}
 use Rattle.srt_route.specs.declared.ledger.Refusals.{Refusals}
 use Rattle.srt_route.specs.declared.route.Route.{Route as TheRoute}

@@ -13,7 +13,7 @@ ghost use Rattle.srt_route.specs.inside.Calls.{Admits, OpensSession, TakesConclu
 use crate::agreement::{Agreement, agree};
 use crate::answer::{accepted, answer_to, refusal};
 use crate::arrival::Arrival;
-use crate::conclusion::Conclusion;
+use crate::conclusion_reading::Conclusion;
 use crate::ledger::Ledger;
 use crate::part::Part;
 use crate::refusals::RefusalCause;
@@ -23,7 +23,7 @@ use crate::socket_ids::id_at;
 use crate::standby::{leading_after, unused_buffers};
 use crate::start::start_buffers;
 use crate::table::Table;
-use srt_types::limits::{MAX_MTU, MIN_MTU};
+use srt_types::protocol_limits::{MAX_MTU, MIN_MTU};
 use srt_types::{Mode, Peer, Role};
 
 /// The slot in which a session opens, and the negotiated parameters.

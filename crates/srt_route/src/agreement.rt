@@ -6,8 +6,8 @@ ghost use Rattle.srt_types.specs.Terms.{Terms};
 ghost use Rattle.srt_route.specs.Sessions.{agreed_ms};
 ghost use Rattle.srt_route.specs.Admission.{agreement_of};
 
-use crate::conclusion::Conclusion;
-use srt_types::limits::MAX_MTU;
+use crate::conclusion_reading::Conclusion;
+use srt_types::protocol_limits::MAX_MTU;
 use srt_types::{Mode, Rules};
 
 /// The negotiated parameters of a session, and the rules of the route.

@@ -6,10 +6,10 @@ ghost use Rattle.srt_route.specs.Written.{written};
 ghost use Rattle.srt_route.specs.Sessions.{agreed};
 ghost use Rattle.srt_route.specs.Route.{Answers, refusal, sent};
 ghost use Rattle.srt_route.specs.Admission.{agreement_of};
-ghost use Rattle.srt_route.specs.declared.conclusion.Conclusion.{Conclusion as TheConclusion};
+ghost use Rattle.srt_route.specs.declared.conclusion_reading.Conclusion.{Conclusion as TheConclusion};
 
 use crate::agreement::Agreement;
-use crate::conclusion::Conclusion;
+use crate::conclusion_reading::Conclusion;
 use crate::replies::Reply;
 use arrayvec::ArrayVec;
 use srt_hs::{AnswerKind, HsAnswer, RefusalCode, write};

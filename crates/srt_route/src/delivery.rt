@@ -19,7 +19,7 @@ use crate::standby::{active_buffers, deliver_standby};
 use crate::table::Table;
 use srt_pub::Publisher;
 use srt_types::Mode;
-use srt_types::limits::MAX_PAYLOADS;
+use srt_types::protocol_limits::MAX_PAYLOADS;
 
 /// Returns the number of payloads that fit into the subscriber's send buffer; None if the seat has no open subscriber.
 fn room_of(seat: &Seat) -> Option<u32>

@@ -20,7 +20,7 @@ ghost use Rattle.srt_route.specs.inside.Calls.{AnswersItem, AnswersPacket, Taken
 use crate::admission::conclude;
 use crate::arrival::{Arrival, Receipt};
 use crate::closing::{close_seats, tell_lost};
-use crate::conclusion::conclusion_in;
+use crate::conclusion_reading::conclusion_in;
 use crate::draining::{drains_after, end_unless};
 use crate::files::{note_end, of_libsrt, shutdown_end};
 use crate::ledger::{Ledger, cause_of, shutdown_cause};

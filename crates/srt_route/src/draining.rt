@@ -24,7 +24,7 @@ use crate::table::Table;
 use crate::view::latency_in;
 use srt_packet::Kind;
 use srt_pub::PubEnd;
-use srt_types::limits::PEER_IDLE_TIMEOUT_US;
+use srt_types::protocol_limits::PEER_IDLE_TIMEOUT_US;
 use srt_types::{Callers, Mode, Role};
 
 /// Returns the time until which the publisher's session of this slot drains after a packet, in microseconds; None if it

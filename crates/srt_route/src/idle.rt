@@ -21,7 +21,7 @@ use crate::seat::{Seat, Session, count_expired, recounted};
 use crate::standby::take_over;
 use crate::table::Table;
 use srt_types::Callers;
-use srt_types::limits::PEER_IDLE_TIMEOUT_US;
+use srt_types::protocol_limits::PEER_IDLE_TIMEOUT_US;
 
 /// Whether five seconds have passed since a peer was last heard, in microseconds.
 fn has_fallen_silent(heard: u64, clock: u64) -> bool

@@ -21,7 +21,7 @@
 //! - 1: the clock.
 //! - 2: `idle.rt` ends idle sessions, drops what is too late, and lets the standby take over.
 //! - 3: `dispatch.rt` processes a packet of a session, a conclusion or a Close (`closing.rt`). For conclusions,
-//!   `conclusion.rt` reads them, `admission.rt` checks for each refusal, `refusals.rt` has the causes, `agreement.rt`
+//!   `conclusion_reading.rt` reads them, `admission.rt` checks for each refusal, `refusals.rt` has the causes, `agreement.rt`
 //!   the negotiated values and `answer.rt` the answer.
 //! - 4: `delivery.rt` delivers payloads, and `draining.rt` ends sessions that have drained.
 //! - 5 and 6: `transmit.rt` sends the publishers' packets and then the subscribers'.
@@ -38,7 +38,7 @@ mod agreement;
 mod answer;
 mod arrival;
 mod closing;
-mod conclusion;
+mod conclusion_reading;
 mod delivery;
 mod dispatch;
 mod draining;

@@ -5,8 +5,8 @@ ghost use Rattle.std.specs.Result.{result_err};
 ghost use Rattle.srt_types.specs.Terms.{terms_of};
 ghost use Rattle.srt_route.specs.Opening.{fault_of, fault_at_rest};
 
-use srt_types::limits::MOMENT_END;
 use srt_types::product_limits::MAX_ROUTES;
+use srt_types::protocol_limits::MOMENT_END;
 use srt_types::{Entry, OpenFault, is_name};
 
 /// Checks whether a route with this index can be opened with the entry, memory aside. The error is the first fault that

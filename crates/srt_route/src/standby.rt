@@ -13,7 +13,7 @@ use crate::publisher_buffers::PublisherBuffers;
 use crate::seat::{Seat, Session, count_draining, have_publisher};
 use crate::table::Table;
 use srt_pub::Publisher;
-use srt_types::limits::MAX_PAYLOADS;
+use srt_types::protocol_limits::MAX_PAYLOADS;
 use srt_types::{Mode, Role};
 
 /// Returns the buffers for a publisher that opens while at most one is open: those that the open one doesn't use,

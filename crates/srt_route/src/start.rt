@@ -7,7 +7,7 @@ ghost use Rattle.srt_route.specs.inside.OneSession.{BeginsUnder, PublisherBegins
 
 use crate::agreement::Agreement;
 use crate::arrival::Arrival;
-use crate::conclusion::Conclusion;
+use crate::conclusion_reading::Conclusion;
 use crate::seat::Seat;
 use srt_pub::Publisher;
 use srt_sub::{Resending, Subscriber};

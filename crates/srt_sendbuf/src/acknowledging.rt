@@ -6,7 +6,7 @@ ghost use Rattle.srt_types.specs.Window.{word_of};
 
 use crate::buffer::{SendBuf, message_after};
 use srt_types::Seq31;
-use srt_types::limits::ACK_REACH;
+use srt_types::protocol_limits::ACK_REACH;
 
 impl SendBuf {
     ghost use Rattle.srt_sendbuf.specs.Sending.{base, acknowledged_at, after_ack, is_growth};

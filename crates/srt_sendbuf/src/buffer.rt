@@ -13,7 +13,7 @@ ghost use Rattle.srt_sendbuf.specs.Parts.{is_in_parts, AreWithin};
 use crate::parts::{PARTS, next_parts, split};
 use crate::ring::{Marked, Ring};
 use srt_loss::{LossRef, Ranges};
-use srt_types::limits::ACK_REACH;
+use srt_types::protocol_limits::ACK_REACH;
 use srt_types::{Msg26, Seq31};
 use std::alloc::{AllocError, Global};
 

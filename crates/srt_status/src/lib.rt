@@ -10,7 +10,7 @@
 //! Calls: [`put_metrics`] (`metrics.rt`) and [`put_json`] (`json.rt`) put the snapshots into a text, [`request_in`] reads
 //! a request, and [`respond`] (`response.rt`) makes the response to it. The names, the help and the values of all
 //! metrics are in `figures.rt`, those of the process in `process.rt`, labels in `labels.rt`; the parts of a text are in
-//! `text.rt` and `peers.rt`, and [`OVERVIEW`], the page for people, in `overview.rt`.
+//! `text.rt` and `peers.rt`, and [`OVERVIEW`], the page for people, in `page.rt`.
 #![tactic(auto)]
 
 mod connection;
@@ -19,7 +19,7 @@ mod gateway;
 mod json;
 mod labels;
 mod metrics;
-mod overview;
+mod page;
 mod peers;
 mod process;
 mod request;
@@ -31,7 +31,7 @@ pub use connection::{Connection, PATIENCE};
 pub use gateway::{CauseCounts, ChangeCounts, GatewayStatus, ProcessUse, RefusalCounts};
 pub use json::put_json;
 pub use metrics::put_metrics;
-pub use overview::OVERVIEW;
+pub use page::OVERVIEW;
 pub use request::{Method, Page, Request, request_in};
 pub use response::respond;
 pub use routes::{EndCounts, LimitCounts, RouteStatus};

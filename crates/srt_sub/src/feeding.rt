@@ -7,7 +7,7 @@ ghost use Rattle.srt_sub.specs.Subscribing.{expired};
 use crate::session::Subscriber;
 use srt_timing::too_late_before;
 use srt_types::Mode;
-use srt_types::limits::HEADERS;
+use srt_types::protocol_limits::HEADERS;
 
 impl Subscriber {
     ghost use Rattle.srt_sub.specs.Stands.{BecomesBy};

@@ -10,7 +10,7 @@ use crate::history::History;
 use crate::packets::keep_alive;
 use crate::session::Subscriber;
 use srt_packet::EncodedPacket;
-use srt_types::limits::KEEP_ALIVE_AFTER_US;
+use srt_types::protocol_limits::KEEP_ALIVE_AFTER_US;
 
 impl Subscriber {
     ghost use Rattle.srt_sub.specs.Stands.{BecomesAt, WritesAt};

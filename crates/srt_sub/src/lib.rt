@@ -13,7 +13,7 @@
 //! false.
 //!
 //! Files: `feeding.rt` has the rules for feeding and the too-late drop; `hearing.rt` for ACK, NAK and SHUTDOWN;
-//! `emission.rt` for the packets at an event's end and their order; `drop_request.rt` for drop requests;
+//! `event_packets.rt` for the packets at an event's end and their order; `drop_request.rt` for drop requests;
 //! `resend_all.rt` for resending everything; `credit.rt` for the limit on resends; `keep_alive.rt` for KEEPALIVEs.
 //! `history.rt` stores the flow window and other state; `counts.rt` has the counters, and `statistics.rt` the
 //! snapshot; `session.rt` begins a session; `packets.rt` writes packets. `specs/Subscribing.antt` defines what a
@@ -24,7 +24,7 @@
 mod counts;
 mod credit;
 mod drop_request;
-mod emission;
+mod event_packets;
 mod feeding;
 mod hearing;
 mod history;

@@ -4,7 +4,7 @@ ghost use Rattle.std.specs.Prelude.{◌≡◌, ℕ, ◌+◌, ◌-◌, ◌%◌, �
 ghost use Rattle.srt_types.specs.Counts.{ack_number};
 ghost use Rattle.srt_timing.specs.inside.Steps.{IsStepsBack};
 
-use srt_types::limits::{FULL_ACKS_KEPT, MAX_RTT_SAMPLE_US};
+use srt_types::protocol_limits::{FULL_ACKS_KEPT, MAX_RTT_SAMPLE_US};
 use std::alloc::{AllocError, Global};
 
 /// The greatest number of a Full ACK. 1 follows it (our choice).

@@ -3,7 +3,7 @@
 ghost use Rattle.std.specs.Prelude.{◌≡◌, ◌≤◌};
 ghost use Rattle.srt_timing.specs.RoundTrip.{start as at_first, with_sample, nak_interval as interval_of, resend_after as resend_of, round_trip_of};
 
-use srt_types::limits::{MIN_NAK_INTERVAL_US, RESEND_MARGIN_US};
+use srt_types::protocol_limits::{MIN_NAK_INTERVAL_US, RESEND_MARGIN_US};
 
 /// A smoothed round-trip time and its variance, both in microseconds. No method allocates, and each is O(1).
 #[derive(Clone, Copy, Debug, PartialEq, Eq)]

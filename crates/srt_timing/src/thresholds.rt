@@ -3,7 +3,7 @@
 ghost use Rattle.std.specs.Prelude.{◌≡◌, ℕ, ◌^◌, ◌<◌, ◌↔◌, pos, ◌-ℤ◌, ◌<ℤ◌};
 ghost use Rattle.srt_timing.specs.Deadline.{IsTooLate, too_late_at};
 
-use srt_types::limits::MIN_TLPKTDROP_US;
+use srt_types::protocol_limits::MIN_TLPKTDROP_US;
 
 /// Returns the threshold of too-late packet drop: a packet that was queued before the returned time is too late at
 /// `now`. It is `now` less the greater of 1.25 times the session's delay `latency` and one second (section 4.6). All

@@ -1,7 +1,7 @@
 //! The words of a conclusion's extension blocks (draft-sharabayko-srt-01, section 3.2.1), also of those that are malformed.
 
 use crate::text::Words;
-use srt_types::limits::MAX_DATAGRAM;
+use srt_types::protocol_limits::MAX_DATAGRAM;
 use srt_types::read_word;
 
 /// The names of the low eight flags of an HSREQ (section 3.2.1.1.1), the lowest bit first.

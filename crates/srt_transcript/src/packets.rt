@@ -6,7 +6,7 @@ use crate::handshakes::put_handshake;
 use crate::losses::{NUMBER, put_losses};
 use crate::text::Words;
 use srt_packet::{Kind, PacketFault, decode};
-use srt_types::limits::MAX_DATAGRAM;
+use srt_types::protocol_limits::MAX_DATAGRAM;
 use srt_types::read_word;
 
 /// The length of a packet's header, in bytes.

@@ -1,4 +1,4 @@
--- The limits and intervals that definitions name, with their units. `src/limits.rt` has more about each.
+-- The limits and intervals that definitions name, with their units. `src/protocol_limits.rt` has more about each.
 use Rattle.std.specs.Prelude.{ℕ}
 
 -- the minimum time between two NAKs of all gaps, in microseconds (section 4.8.2)

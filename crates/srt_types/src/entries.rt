@@ -1,15 +1,14 @@
-//! The form of a route's name, and the limits of its numbers. Both are our choice.
+//! The limits of a route's numbers, which are our choice.
 
 ghost use Rattle.std.specs.Prelude.{◌≡◌};
-ghost use Rattle.std.specs.List.{list_all};
 ghost use Rattle.srt_types.specs.Terms.{terms_of};
-ghost use Rattle.srt_types.specs.Entries.{is_between, is_between_if, is_name_byte, is_name, are_rules, draft_rules, in_limits};
+ghost use Rattle.srt_types.specs.Entries.{is_between, is_between_if, are_rules, draft_rules, in_limits};
 
-use crate::limits::{MAX_WINDOW, MIN_WINDOW};
 use crate::product_limits::{
-    MAX_LATENCY_MS, MAX_NAME, MAX_QUEUE, MAX_RESEND_PERCENT, MAX_RESERVED, MAX_SESSIONS,
-    MAX_TAKEOVER_MS, MIN_LATENCY_MS, MIN_QUEUE, MIN_RESEND_PERCENT, MIN_TAKEOVER_MS,
+    MAX_LATENCY_MS, MAX_QUEUE, MAX_RESEND_PERCENT, MAX_RESERVED, MAX_SESSIONS, MAX_TAKEOVER_MS,
+    MIN_LATENCY_MS, MIN_QUEUE, MIN_RESEND_PERCENT, MIN_TAKEOVER_MS,
 };
+use crate::protocol_limits::{MAX_WINDOW, MIN_WINDOW};
 use crate::shared::{Callers, Entry, Rules};
 
 /// Whether `low <= n <= high`.
@@ -17,30 +16,6 @@ pub fn is_between(low: usize, high: usize, n: usize) -> bool
     ensures { result ≡ is_between low high n }
 {
     low <= n && n <= high
-}
-
-fn is_name_byte(byte: u8) -> bool
-    ensures { result ≡ is_name_byte byte }
-{
-    (b'a'..=b'z').contains(&byte)
-        || (b'A'..=b'Z').contains(&byte)
-        || (b'0'..=b'9').contains(&byte)
-        || (b'-'..=b'/').contains(&byte)
-        || byte == b'_'
-}
-
-fn are_name_bytes(bytes: &[u8]) -> bool
-    ensures { result ≡ list_all is_name_byte bytes.now }
-{
-    bytes.iter().all(|b| is_name_byte(*b))
-}
-
-/// Whether these bytes are a valid route name: 1 to 64 bytes, each an ASCII letter or digit, `-`, `_`, `.` or `/`.
-/// Linear in the length.
-pub fn is_name(name: &[u8]) -> bool
-    ensures { result ≡ is_name name.now }
-{
-    is_between(1, MAX_NAME, name.len()) && are_name_bytes(name)
 }
 
 fn is_between_if(low: usize, high: usize, n: Option<u32>) -> bool

@@ -11,25 +11,27 @@
 //! Shared types, in `shared.rt`: [`Peer`], [`Item`] (the input of a route), [`PayloadRef`], [`Entry`] (a route's
 //! configuration), [`Access`] (its access rules), [`NotAdmitted`] (the reason for a rejection), [`Rules`] (what a route
 //! does beyond the draft), [`Schedule`] (when it opens and closes), [`Mode`], [`Role`], [`Callers`], [`Turned`],
-//! [`OpenFault`]. An `Entry` is checked in `entries.rt`, a caller in `access.rt`; words in network byte order are in
-//! `words.rt`, all limits and intervals of the protocol in `limits.rt`, and those of configurations and inputs in
-//! `product_limits.rt`.
+//! [`OpenFault`]. An `Entry` is checked in `entries.rt`, a route's name in `route_name.rt`, a caller in `access.rt`; words
+//! in network byte order are in `words.rt`, all limits and intervals of the protocol in `protocol_limits.rt`, and those of
+//! configurations and inputs in `product_limits.rt`.
 #![tactic(auto)]
 
 mod access;
 mod entries;
 pub mod laws;
-pub mod limits;
 mod numbers;
 pub mod product_limits;
+pub mod protocol_limits;
+mod route_name;
 mod shared;
 mod stamps;
 mod words;
 
 pub use access::{is_mapped, is_same_site};
-pub use entries::{is_between, is_name};
-pub use limits::MOMENT_END;
+pub use entries::is_between;
 pub use numbers::{Msg26, Seq31};
+pub use protocol_limits::MOMENT_END;
+pub use route_name::is_name;
 pub use shared::{
     Access, Callers, Entry, Item, Mode, Network, NotAdmitted, OpenFault, PayloadRef, Peer, Role,
     RoleAccess, Rules, Schedule, Turned,

@@ -1,5 +1,5 @@
 //! The limits of the product: of a configuration's keys, and of the files, requests and lines that it reads and writes. All are
-//! our choice; those of the protocol are in `limits.rt`. Types, contracts and a few bodies have these numbers as literals.
+//! our choice; those of the protocol are in `protocol_limits.rt`. Types, contracts and a few bodies have these numbers as literals.
 
 /// The minimum latency of a live session that can be configured, in milliseconds.
 pub const MIN_LATENCY_MS: usize = 20;

@@ -1,8 +1,11 @@
-//! How long the threads of a run sleep, and how much work makes them share it. Durations are in microseconds, by their
-//! names `_US`; all else are counts.
+//! How long the threads of a run sleep, and how much work makes them share it. The unit of a duration is in
+//! its name, `_US` or `_MS`; all else are counts.
 
 ghost use Rattle.std.specs.Prelude.{◌≡◌};
 ghost use Rattle.srt_wakeups.specs.inside.Pacing.{doze_us, rest_us, all_rest, wakes_worker};
+
+/// How long the ticking thread sleeps before each tick of the routes, in milliseconds.
+pub const TICK_MS: u64 = 10;
 
 /// How long a worker that found nothing to do sleeps at most before it looks again.
 pub const NAP_US: u64 = 500;

@@ -3,7 +3,7 @@ use Rattle.std.specs.Prelude.{ℕ, ◌+◌, ◌-◌, ◌^◌, ◌==◌, ◌&&◌
 use Rattle.srt_types.specs.declared.shared.Role.TheVariants.{Publish, Request}
 use Rattle.srt_types.specs.declared.shared.NotAdmitted.{NotAdmitted}
 use Rattle.srt_types.specs.declared.shared.NotAdmitted.TheVariants.{NoName, UnknownName, Address, Key}
-use Rattle.srt_hs.specs.declared.refusals.RefusalCode.TheVariants as reasons
+use Rattle.srt_hs.specs.declared.refusal_codes.RefusalCode.TheVariants as reasons
 use Rattle.srt_route.specs.declared.route.Route.{Route}
 use Rattle.srt_route.specs.declared.refusals.RefusalCause.TheVariants as causes
 use Rattle.srt_route.specs.declared.totals.Totals.{Totals}

@@ -2,11 +2,9 @@
 
 use srt_host::Since;
 use srt_serve::Ticker;
+use srt_wakeups::pacing::TICK_MS;
 use std::thread;
 use std::time::{Clock, Duration, Instant};
-
-/// The time that the ticking thread sleeps before each moment, in milliseconds.
-const TICK: u64 = 10;
 
 /// The clock of the poller: the microseconds since the gateway's start.
 #[derive(Drop)]
@@ -52,7 +50,7 @@ impl<R: Clock> Ticker for ClockTicker<'_, R> {
     ghost gave = { λ s. None };
 
     fn next(&mut self) -> u64 {
-        thread::sleep(self.rt, Duration::from_millis(TICK));
+        thread::sleep(self.rt, Duration::from_millis(TICK_MS));
         self.since.moment()
     }
 }

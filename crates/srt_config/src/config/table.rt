@@ -3,12 +3,12 @@
 ghost use Rattle.std.specs.Prelude.{◌≡◌, ◌^◌, ◌<◌, option_map};
 ghost use Rattle.srt_config.specs.KeyTable.{key_name, kind_of, limits_of, both_texts, choices_of, is_private};
 
-use srt_types::limits::{MAX_WINDOW, MIN_WINDOW};
 use srt_types::product_limits::{
     MAX_KEY, MAX_LATENCY_MS, MAX_NAME, MAX_NETWORKS, MAX_QUEUE, MAX_RESEND_PERCENT, MAX_RESERVED,
     MAX_ROUND, MAX_ROUTES, MAX_SESSIONS, MAX_TAKEOVER_MS, MAX_WORKERS, MIN_LATENCY_MS, MIN_QUEUE,
     MIN_RESEND_PERCENT, MIN_TAKEOVER_MS, SECRET_DIGITS,
 };
+use srt_types::protocol_limits::{MAX_WINDOW, MIN_WINDOW};
 
 /// The mode of a route for live streams.
 pub(crate) const LIVE: &str = "live";

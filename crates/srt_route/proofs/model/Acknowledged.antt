@@ -24,7 +24,7 @@ use Rattle.srt_pub.specs.Publishing as publisher
 use Rattle.srt_pub.specs.Stands as lists
 use Rattle.srt_sub.specs.Subscribing as subscriber
 use Rattle.srt_route.specs.Queues.{payload_in}
-use Rattle.srt_route.specs.declared.conclusion.Conclusion.{Conclusion}
+use Rattle.srt_route.specs.declared.conclusion_reading.Conclusion.{Conclusion}
 use Rattle.srt_route.specs.declared.refusals.RefusalCause.{RefusalCause}
 use Rattle.srt_route.specs.Past.{Agreed, Past, Publishes, Subscribes, ends_with, expired_past, has_left, is_shutdown, passed_past, past_of}
 use Rattle.srt_route.specs.Past.{reported_past, took_past}

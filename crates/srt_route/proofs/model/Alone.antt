@@ -13,7 +13,7 @@ use Rattle.srt_packet.specs.declared.reading.PacketFault.{PacketFault}
 use Rattle.srt_packet.specs.Grammar.{Packet}
 use Rattle.srt_packet.specs.Reading.{packet_in}
 use Rattle.srt_route.specs.declared.refusals.RefusalCause.{RefusalCause}
-use Rattle.srt_route.specs.declared.conclusion.Conclusion.{Conclusion}
+use Rattle.srt_route.specs.declared.conclusion_reading.Conclusion.{Conclusion}
 use Rattle.srt_route.specs.Past.{passed_past}
 use Rattle.srt_route.specs.Sessions.{Session, is_open_in, is_active, is_free, free_slot, terms_of, time_in, aged, advanced, marked, marked_if}
 use Rattle.srt_route.specs.Sessions.{passed, takes_over, time_end, with_end}

@@ -20,7 +20,7 @@ use Rattle.srt_sendbuf.specs.Sending.{Queued, lost, next, front}
 use Rattle.srt_pub.specs.Publishing as publisher
 use Rattle.srt_sub.specs.Subscribing as subscriber
 use Rattle.srt_sub.specs.Heard as to_subscriber
-use Rattle.srt_route.specs.declared.conclusion.Conclusion.{Conclusion}
+use Rattle.srt_route.specs.declared.conclusion_reading.Conclusion.{Conclusion}
 use Rattle.srt_route.specs.Past.{Past, Publishes, Subscribes, Agreed, ToPublisher, ToSubscriber, loses_window, reports_of, answers_to}
 use Rattle.srt_route.specs.Sessions.{Session, is_draining, is_subscriber, is_open_in, is_idle, is_recent, by_slot, speaks, time_in, terms_of, advanced}
 use Rattle.srt_route.specs.Sessions.{publishes}

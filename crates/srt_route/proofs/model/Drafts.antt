@@ -10,7 +10,7 @@ use Rattle.srt_types.specs.Items.{Item, Received, Tick, Close}
 use Rattle.srt_packet.specs.declared.reading.PacketFault.{PacketFault}
 use Rattle.srt_packet.specs.Grammar.{Body, Packet}
 use Rattle.srt_packet.specs.Reading.{packet_in}
-use Rattle.srt_route.specs.declared.conclusion.Conclusion.{Conclusion}
+use Rattle.srt_route.specs.declared.conclusion_reading.Conclusion.{Conclusion}
 use Rattle.srt_route.specs.declared.refusals.RefusalCause.{RefusalCause}
 use Rattle.srt_route.specs.Past.{has_left, is_shutdown}
 use Rattle.srt_route.specs.Sessions.{Session, advanced, aged, aged_at, is_active, is_draining, is_over, is_publisher, marked, marked_if}

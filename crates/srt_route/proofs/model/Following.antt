@@ -12,7 +12,7 @@ use Rattle.srt_packet.specs.declared.reading.PacketFault.{PacketFault}
 use Rattle.srt_packet.specs.Grammar.{Packet}
 use Rattle.srt_packet.specs.Reading.{packet_in}
 use Rattle.srt_route.specs.declared.refusals.RefusalCause.{RefusalCause}
-use Rattle.srt_route.specs.declared.conclusion.Conclusion.{Conclusion}
+use Rattle.srt_route.specs.declared.conclusion_reading.Conclusion.{Conclusion}
 use Rattle.srt_route.specs.Activity.{ActiveGoesOn}
 use Rattle.srt_route.specs.Sessions.{Session, active, advanced, aged, generation_of, is_active, is_open_in, is_publisher, leads, marked, marked_if, passed}
 use Rattle.srt_route.specs.Sessions.{passed_at, publishes, takes_over, time_end, time_in, with_end}

@@ -18,7 +18,7 @@ use Rattle.srt_packet.specs.Grammar.{Packet}
 use Rattle.srt_packet.specs.Reading.{packet_in}
 use Rattle.srt_route.specs.declared.refusals.RefusalCause.{RefusalCause}
 use Rattle.srt_route.specs.declared.refusals.RefusalCause.TheVariants as causes
-use Rattle.srt_route.specs.declared.conclusion.Conclusion.{Conclusion}
+use Rattle.srt_route.specs.declared.conclusion_reading.Conclusion.{Conclusion}
 use Rattle.srt_route.specs.Limits.{KeepsSlots, PublishersHaveSlots, NoneIsKeptFromPublishers, FewOfAnAddress}
 use Rattle.srt_route.specs.Sessions.{Session, advanced, aged, free_slot, free_slots, generation_of, is_active, is_free, is_from, is_open_in, is_publisher}
 use Rattle.srt_route.specs.Sessions.{is_subscriber, marked, marked_if, open_publishers, passed, publishes, sessions_from, takes_over, time_end, with_end}

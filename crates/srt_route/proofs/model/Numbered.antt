@@ -28,7 +28,7 @@ use Rattle.srt_route.specs.Route.{is_of, least_room, packet_end, packet_taken, p
 use Rattle.srt_route.specs.Route.{taken_by, took_if, took_packet, without_destination}
 use Rattle.srt_route.specs.Acknowledged.{AreAllBelow, DeliversAll, OneAloneDelivers, number_in, numbers_at, numbers_delivered, numbers_in, numbers_of}
 use Rattle.srt_route.specs.Acknowledged.{opened_as}
-use Rattle.srt_route.specs.declared.conclusion.Conclusion.{Conclusion}
+use Rattle.srt_route.specs.declared.conclusion_reading.Conclusion.{Conclusion}
 use Rattle.srt_route.specs.declared.refusals.RefusalCause.{RefusalCause}
 use Rattle.srt_route.specs.Past.{Agreed, Past, Publishes, Subscribes, expired_past, passed_past, past_of, reported_past, took_past}
 use Rattle.srt_route.proofs.model.Acknowledged.{Kept, KeptIn, taken_all_keep}

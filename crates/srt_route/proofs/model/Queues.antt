@@ -16,7 +16,7 @@ use Rattle.srt_sendbuf.specs.Sending.{Queued, Sending, all_lost, sent}
 use Rattle.srt_sub.specs.Heard as to_subscriber
 use Rattle.srt_sub.specs.Subscribing as subscriber
 use Rattle.srt_route.specs.declared.refusals.RefusalCause.{RefusalCause}
-use Rattle.srt_route.specs.declared.conclusion.Conclusion.{Conclusion}
+use Rattle.srt_route.specs.declared.conclusion_reading.Conclusion.{Conclusion}
 use Rattle.srt_route.specs.Past.{Past, Publishes, Subscribes, Agreed, expired_past, took_past, passed_past, reported_past}
 use Rattle.srt_route.specs.Sessions.{Session, advanced, aged, aged_at, generation_of, is_active, is_over, is_publisher, marked, marked_if, passed, passed_at}
 use Rattle.srt_route.specs.Sessions.{reported, reported_at, stamp_in, takes_over, terms_of, time_end, time_in, with_end}

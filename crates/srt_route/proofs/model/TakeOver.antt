@@ -19,7 +19,7 @@ use Rattle.srt_types.specs.Runs.{least_from, numbers_from}
 use Rattle.srt_types.specs.declared.shared.Mode.TheVariants.{Live, Buffer}
 use Rattle.srt_recvbuf.specs.Receiving.{Request, Receiving, is_dropped, is_requested, is_received, passed as passed_over}
 use Rattle.srt_pub.specs.Publishing as publisher
-use Rattle.srt_route.specs.declared.conclusion.Conclusion.{Conclusion}
+use Rattle.srt_route.specs.declared.conclusion_reading.Conclusion.{Conclusion}
 use Rattle.srt_route.specs.Sessions.{Session, publishes, is_publisher, is_open_in, by_slot, open_publishers, active, has_slot, is_active}
 use Rattle.srt_route.specs.Sessions.{free_slot, free_slots, generation_of, time_in, is_over, aged_at, aged, passed_at, passed, reported_at, reported}
 use Rattle.srt_route.specs.Sessions.{advanced, first_opened, leads, marked, marked_if, sessions_from, takes_over}

@@ -10,7 +10,7 @@ use Rattle.srt_packet.specs.Grammar.{PeerError, UserDefined}
 use Rattle.srt_packet.specs.Reading.{packet_in}
 use Rattle.srt_packet.specs.Text.{text}
 use Rattle.srt_packet.specs.declared.writing.Body.TheVariants as out
-use Rattle.srt_route.specs.declared.conclusion.Conclusion.{Conclusion}
+use Rattle.srt_route.specs.declared.conclusion_reading.Conclusion.{Conclusion}
 use Rattle.srt_route.specs.Past.{is_shutdown, ToPublisher, ToSubscriber}
 use Rattle.srt_route.specs.Route.{Output, Answers, Says, Ends, Reply, output_text, sent, concludes, after, replies_to, reply, solo}
 use Rattle.srt_route.specs.Shifted.{shifted, shifted_body, shifted_reading, renumbered, renumbered_datagram, renumbered_item}

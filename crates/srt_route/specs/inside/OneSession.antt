@@ -31,7 +31,7 @@ use Rattle.srt_sub.specs.declared.session.Subscriber.{Subscriber}
 use Rattle.srt_route.specs.declared.agreement.Agreement.{Agreement}
 use Rattle.srt_route.specs.declared.arrival.Arrival.{Arrival}
 use Rattle.srt_route.specs.declared.reply_queue.ReplyQueue.{ReplyQueue}
-use Rattle.srt_route.specs.declared.conclusion.Conclusion.{Conclusion}
+use Rattle.srt_route.specs.declared.conclusion_reading.Conclusion.{Conclusion}
 use Rattle.srt_route.specs.declared.seat.Seat.{Seat}
 use Rattle.srt_route.specs.declared.seat.Session.{Session as StoredSession}
 use Rattle.srt_route.specs.Sessions.{agreed_terms}

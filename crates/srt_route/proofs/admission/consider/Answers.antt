@@ -1,5 +1,5 @@
 use Rattle.std.proofs.Common.{Result, ◌∙◌, refl, sym, ap}
-use Rattle.srt_hs.specs.declared.refusals.RefusalCode.{RefusalCode}
+use Rattle.srt_hs.specs.declared.refusal_codes.RefusalCode.{RefusalCode}
 use Rattle.srt_route.specs.declared.refusals.RefusalCause.{RefusalCause}
 use Rattle.srt_route.specs.declared.admission.Admission.{Admission}
 use Rattle.srt_route.specs.Route.{decision, refusal}

@@ -7,7 +7,7 @@ ghost use Rattle.srt_packet.specs.Encoded.{bytes_of, IsPacketText};
 use crate::packets::media;
 use crate::session::{Phase, Subscriber};
 use srt_packet::EncodedPacket;
-use srt_types::limits::MAX_EVENT_PACKETS;
+use srt_types::protocol_limits::MAX_EVENT_PACKETS;
 
 impl Subscriber {
     ghost use Rattle.srt_sub.specs.Emission.{WritesNextAt, EndsAt, WritesNext, Ends};
