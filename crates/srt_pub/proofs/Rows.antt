@@ -14,7 +14,7 @@ use Rattle.srt_pub.specs.Heard.{heard_from}
 use Rattle.srt_pub.specs.Publishing.{Terms, Publishing, opened, took, deliveries, delivered, reports, reported, Full, latest_confirmed}
 use Rattle.srt_pub.specs.Publishing.{round_trip, confirmed_by, is_full_due, acks_at, naks, correction_of, clock_of}
 use Rattle.srt_timing.specs.Clock.{sampled}
-use Rattle.srt_timing.specs.declared.clock.Clock.{Clock}
+use Rattle.srt_timing.specs.declared.drift_windows.Clock.{Clock}
 use Rattle.srt_pub.specs.Publishing.{shorter, longest_up_to_median, median_interval, packet_rate}
 use Rattle.srt_pub.specs.Calls.{ended}
 use Rattle.srt_pub.specs.Says.{says}

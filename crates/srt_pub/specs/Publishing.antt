@@ -14,7 +14,7 @@ use Rattle.srt_types.specs.Runs.{Range, Run, runs}
 use Rattle.srt_types.specs.Counts.{ack_number}
 use Rattle.srt_timing.specs.Deadline.{due_time}
 use Rattle.srt_timing.specs.Clock.{Sample, clock_after}
-use Rattle.srt_timing.specs.declared.clock.Clock.{Clock}
+use Rattle.srt_timing.specs.declared.drift_windows.Clock.{Clock}
 use Rattle.srt_timing.specs.RoundTrip.{RoundTrip, after_samples, nak_interval}
 use Rattle.srt_recvbuf.specs.Receiving.{Arrival, Receiving, nothing_yet, end_of, gaps, gaps_from, ack_point, available, is_received, is_waiting}
 use Rattle.srt_recvbuf.specs.Receiving.{deliverable, in_order, passed, received, requested, put_of}

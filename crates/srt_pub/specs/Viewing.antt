@@ -2,7 +2,7 @@
 use Rattle.std.specs.Prelude.{◌≡◌, ◌-◌, option_map}
 use Rattle.srt_timing.specs.RoundTrip.{RoundTrip}
 use Rattle.srt_recvbuf.specs.Receiving.{end_of, available}
-use Rattle.srt_timing.specs.declared.clock.Clock.{Clock}
+use Rattle.srt_timing.specs.declared.drift_windows.Clock.{Clock}
 use Rattle.srt_pub.specs.Publishing.{Terms, Publishing, round_trip, clock_of}
 use Rattle.srt_pub.specs.Counting.{Counted, delivered_in}
 use Rattle.srt_pub.specs.declared.statistics.Statistics.{Statistics}

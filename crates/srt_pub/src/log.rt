@@ -8,7 +8,7 @@ ghost use Rattle.srt_types.specs.declared.shared.Mode.TheVariants.{Live as TheLi
 ghost use Rattle.srt_types.specs.declared.shared.Callers.TheVariants.{Draft as TheDraft};
 ghost use Rattle.srt_pub.specs.Publishing.{Terms, Arrived, clock_of, confirmed_by, confirmed_notes, correction_of, rating};
 ghost use Rattle.srt_timing.specs.Clock.{IsSlow, sampled};
-ghost use Rattle.srt_timing.specs.declared.clock.Clock.{Clock};
+ghost use Rattle.srt_timing.specs.declared.drift_windows.Clock.{Clock};
 ghost use Rattle.srt_pub.specs.Kept.{clock_in};
 ghost use Rattle.srt_pub.specs.declared.region.Region.{Region};
 ghost use Rattle.srt_pub.specs.Calls.{listed};

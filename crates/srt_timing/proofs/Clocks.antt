@@ -8,8 +8,8 @@ use Rattle.srt_types.proofs.Lifts.{lift_is}
 use Rattle.srt_timing.specs.Clock.{Sample, lateness, unexpired, with_sample, change_by, closed_from, closed, sampled, clock_after}
 use Rattle.srt_timing.specs.Clock.{IsSlow, LatenessIsNear, CorrectionsAreSlow, AreAsLate, RightClocksStand}
 use Rattle.srt_timing.specs.Clock.{window_expiry_us, window_length_us}
-use Rattle.srt_timing.specs.declared.clock.Clock.{Clock}
-use Rattle.srt_timing.specs.declared.clock.Window.{Window}
+use Rattle.srt_timing.specs.declared.drift_windows.Clock.{Clock}
+use Rattle.srt_timing.specs.declared.drift_windows.Window.{Window}
 
 -- what holds of both holds of the one that a test selects
 if_either : {X : Type 0} (P : X → Type 0) (b : Bool) (x y : X) → P x → P y → P (if b then x else y)

@@ -3,8 +3,8 @@ use Rattle.std.proofs.Common.{◌≡◌, ℕ, Option, None, Some, List, [], ◌�
 use Rattle.srt_types.specs.Lift.{lift}
 use Rattle.srt_timing.specs.Deadline.{due_time}
 use Rattle.srt_timing.specs.Clock.{Sample, sampled, clock_after}
-use Rattle.srt_timing.specs.declared.clock.Clock.{Clock}
-use Rattle.srt_timing.specs.declared.clock.Window.{Window}
+use Rattle.srt_timing.specs.declared.drift_windows.Clock.{Clock}
+use Rattle.srt_timing.specs.declared.drift_windows.Window.{Window}
 
 abbrev sample : (time stamp round_trip : ℕ) → Sample
 sample time stamp round_trip = record { time = time; stamp = stamp; round_trip = round_trip }

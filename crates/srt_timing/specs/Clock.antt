@@ -6,8 +6,8 @@ use Rattle.std.specs.Option.{ForSome}
 use Rattle.std.specs.Prelude.{ℤ, pos, ◌+ℤ◌, ◌-ℤ◌, ◌*ℤ◌, ◌≤ℤ◌}
 use Rattle.std.specs.Int.{int_min, int_max}
 use Rattle.srt_timing.specs.Deadline.{corrected_time}
-use Rattle.srt_timing.specs.declared.clock.Window.{Window}
-use Rattle.srt_timing.specs.declared.clock.Clock.{Clock}
+use Rattle.srt_timing.specs.declared.drift_windows.Window.{Window}
+use Rattle.srt_timing.specs.declared.drift_windows.Clock.{Clock}
 
 -- a sample: an ACKACK that confirms a Full ACK arrives at this time with this timestamp, and the round-trip time is
 -- this one

@@ -1,5 +1,5 @@
 -- The clock that a value of the code represents.
-use Rattle.srt_timing.specs.declared.clock.Clock.{Clock}
+use Rattle.srt_timing.specs.declared.drift_windows.Clock.{Clock}
 use Rattle.srt_timing.specs.declared.drift.Drift.{Drift}
 
 abbrev pub clock_of : Drift → Clock

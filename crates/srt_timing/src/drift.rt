@@ -6,7 +6,7 @@
 ghost use Rattle.std.specs.Prelude.{◌≡◌, ◌^◌, ◌<◌, ◌≤◌};
 ghost use Rattle.srt_timing.specs.Clock.{IsBounded, IsSlow, clock_at_first, sampled};
 
-use crate::clock::{Clock, closed_if_long, lateness, unexpired, with_sample};
+use crate::drift_windows::{Clock, closed_if_long, lateness, unexpired, with_sample};
 use srt_types::Stamp32;
 
 /// The drift of a sender's clock since a session's opening. No method allocates, and each is O(1).

@@ -26,9 +26,9 @@
 #![tactic(auto)]
 
 mod book;
-mod clock;
 mod deadlines;
 mod drift;
+mod drift_windows;
 pub mod laws;
 mod round_trip;
 mod sampled;

@@ -2,7 +2,7 @@ use Rattle.std.proofs.Common.{ap, ◌∙◌, sym, subst, rules, w64, SFits, ℤ,
 use Rattle.std.specs.Option.{ForSome}
 use Rattle.std.proofs.lemmas.Int.{to_z-of_z}
 use Rattle.srt_timing.specs.Clock.{Sample, IsNear, sampled, closed_if_long, with_sample, lateness}
-use Rattle.srt_timing.specs.declared.clock.Window.{Window}
+use Rattle.srt_timing.specs.declared.drift_windows.Window.{Window}
 use Rattle.srt_timing.proofs.Clocks.{kept, taken}
 use Rattle.srt_timing.proofs.drift.Drift.sample.Goals as goal
 

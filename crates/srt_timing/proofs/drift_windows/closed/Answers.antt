@@ -1,7 +1,7 @@
 use Rattle.std.proofs.Common.{arith, rules, w64, SFits}
 use Rattle.std.proofs.lemmas.Int.{ints, to_z-of_z}
 use Rattle.srt_timing.proofs.Clocks.{closed_some}
-use Rattle.srt_timing.proofs.clock.closed.Goals as goal
+use Rattle.srt_timing.proofs.drift_windows.closed.Goals as goal
 
 pub returns-in-Some-clause-value : goal.returns-in-Some-clause-value
 returns-in-Some-clause-value c =

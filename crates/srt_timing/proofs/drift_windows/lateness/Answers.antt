@@ -1,7 +1,7 @@
 use Rattle.std.proofs.Common.{◌≡◌, pos, arith, rules, w64, SFits, to_z}
 use Rattle.std.proofs.lemmas.Int.{ints, to_z-of_z}
 use Rattle.srt_timing.specs.Deadline.{corrected_time}
-use Rattle.srt_timing.proofs.clock.lateness.Goals as goal
+use Rattle.srt_timing.proofs.drift_windows.lateness.Goals as goal
 
 pub returns-clause-value : goal.returns-clause-value
 returns-clause-value c =

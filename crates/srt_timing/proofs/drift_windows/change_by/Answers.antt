@@ -1,7 +1,7 @@
 use Rattle.std.proofs.Common.{◌-ℤ◌, ◌/◌, ap, ◌∙◌, rules, w64, SFits}
 use Rattle.std.proofs.lemmas.Int.{to_z-of_z}
 use Rattle.srt_timing.specs.Clock.{limited, parts}
-use Rattle.srt_timing.proofs.clock.change_by.Goals as goal
+use Rattle.srt_timing.proofs.drift_windows.change_by.Goals as goal
 
 pub returns-clause-value : goal.returns-clause-value
 returns-clause-value c =
