@@ -8,13 +8,10 @@ use std::test::Fail;
 fn round_trips(rt: HostRuntime) -> Result<(), Fail> {
     let mut times = Rtt::start();
     assert_eq!(rt; (times.rtt(), times.variance()), (100_000, 50_000));
-    assert_eq!(rt; times.nak_interval(), 150_000);
     assert_eq!(rt; times.resend_after(), 320_000);
     times.sample(20_000);
     assert_eq!(rt; (times.rtt(), times.variance()), (90_000, 57_500));
-    assert_eq!(rt; times.nak_interval(), 160_000);
     times.set(3_000, 1_000);
-    assert_eq!(rt; times.nak_interval(), 20_000);
     // 7 x 3000 + 3003 is 8 x 3000 + 3, and 3 x 1000 + 3 is 4 x 750 + 3: both are rounded down.
     times.sample(3_003);
     assert_eq!(rt; (times.rtt(), times.variance()), (3_000, 750));
