@@ -1,11 +1,13 @@
 -- Access control of a route: for each role a list of networks and a key (our choice).
 use Rattle.std.specs.Prelude.{ℕ, ◌-◌, ◌/◌, ◌%◌, ◌^◌, ◌==◌, nat_lt, Bool, true, false, not, List, [], ◌∷◌, take, Option, None, Some, string_bytes}
-use Rattle.std.specs.Prelude.{nat_eq, nat_le, ◌&&◌, ◌||◌, if◌then◌else◌}
+use Rattle.std.specs.Prelude.{is_some, nat_eq, nat_le, ◌&&◌, ◌||◌, if◌then◌else◌}
 use Rattle.std.specs.Int.{w128, from_be_bytes}
 use Rattle.std.specs.List.{list_any, starts_with}
 use Rattle.std.specs.Option.{option_map}
 use Rattle.std.specs.Str.{bytes_eq}
 use Rattle.srt_types.specs.declared.shared.Access.{Access}
+use Rattle.srt_types.specs.declared.shared.KeyLength.{KeyLength}
+use Rattle.srt_types.specs.declared.shared.KeyLength.TheVariants.{Aes128, Aes192, Aes256}
 use Rattle.srt_types.specs.declared.shared.Network.{Network}
 use Rattle.srt_types.specs.declared.shared.Network.TheVariants.{V4, V6}
 use Rattle.srt_types.specs.declared.shared.Peer.{Peer}
@@ -14,31 +16,55 @@ use Rattle.srt_types.specs.declared.shared.Role.TheVariants.{Publish, Request}
 use Rattle.srt_types.specs.declared.shared.RoleAccess.{RoleAccess}
 use Rattle.srt_types.specs.Words.{word_at}
 
--- the access rules for one role: the allowed networks, or any address if none are given; the required key, or no key
+-- the access rules for one role: the allowed networks, or any address if none are given; the required key, or no key;
+-- the passphrase of encrypted sessions, or none if they aren't encrypted
 pub record RoleTerms : Type 0 where
   pub from : Option (List Network)
   pub key : Option (List ℕ)
+  pub passphrase : Option (List ℕ)
 
--- the access rules of a route
+-- the access rules of a route, with the length of the keys that callers of secured roles must bring, or any length
 pub record AccessTerms : Type 0 where
   pub publish : RoleTerms
   pub request : RoleTerms
+  pub key_length : Option KeyLength
 
--- rules that admit every caller in one role
+-- rules that admit every caller in one role, without encryption
 abbrev pub every_caller : RoleTerms
-every_caller = record { from = None; key = None }
+every_caller = record { from = None; key = None; passphrase = None }
 
--- rules that admit every caller in both roles
+-- rules that admit every caller in both roles, without encryption
 abbrev pub anyone : AccessTerms
-anyone = record { publish = every_caller; request = every_caller }
+anyone = record { publish = every_caller; request = every_caller; key_length = None }
 
 -- the rules that a value of the code represents, for one role
 abbrev pub role_access_of : RoleAccess → RoleTerms
-role_access_of access = record { from = option_map (λ networks. networks.items) access.from; key = option_map string_bytes access.key }
+role_access_of access =
+    record {
+      from = option_map (λ networks. networks.items) access.from;
+      key = option_map string_bytes access.key;
+      passphrase = option_map string_bytes access.passphrase;
+    }
 
 -- the rules that a value of the code represents, for both roles
 abbrev pub access_of : Access → AccessTerms
-access_of access = record { publish = role_access_of access.publish; request = role_access_of access.request }
+access_of access =
+    record { publish = role_access_of access.publish; request = role_access_of access.request; key_length = access.key_length }
+
+-- whether sessions of a role are encrypted: it has a passphrase
+abbrev pub is_secured : RoleTerms → Bool
+is_secured role = is_some role.passphrase
+
+-- the number of bytes of a key of this length (section 3.2.2, KLen)
+abbrev pub bytes_in : KeyLength → ℕ
+bytes_in Aes128 = 16
+bytes_in Aes192 = 24
+bytes_in Aes256 = 32
+
+-- whether keys of this many bytes have the required length; if none is required, true
+abbrev pub is_right_length : (required : Option KeyLength) → (bytes : ℕ) → Bool
+is_right_length None bytes = true
+is_right_length (Some length) bytes = bytes == bytes_in length
 
 -- the rules for this role
 abbrev pub in_role : AccessTerms → Role → RoleTerms

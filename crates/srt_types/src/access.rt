@@ -1,13 +1,13 @@
-//! Access control of routes: networks and keys (our choice).
+//! Access control of routes: networks, keys and passphrases (our choice).
 
 ghost use Rattle.std.specs.Prelude.{◌≡◌, ◌≤◌, option_map, string_bytes, IfOk, length};
 ghost use Rattle.std.specs.List.{list_any};
 ghost use Rattle.std.specs.Option.{option_copied};
 ghost use Rattle.srt_types.specs.Access.{every_caller, anyone, role_access_of, access_of, in_role, is_mapped as is_of_ipv4, ipv4_in, network_of};
 ghost use Rattle.srt_types.specs.Access.{ipv6_network_of, is_within, front_bits, contains, site, is_same_site as are_of_a_site, lists};
-ghost use Rattle.srt_types.specs.Access.{is_right_key, admits, knows};
+ghost use Rattle.srt_types.specs.Access.{is_right_key, admits, knows, is_secured, bytes_in, is_right_length};
 
-use crate::shared::{Access, Network, Peer, Role, RoleAccess};
+use crate::shared::{Access, KeyLength, Network, Peer, Role, RoleAccess};
 use crate::words::read_word;
 use std::alloc::{AllocError, Global};
 
@@ -143,25 +143,46 @@ fn copied_list(
     }
 }
 
-/// Returns a copy of a key. Allocates; an error if the allocation fails.
-fn copied_key(alloc: Global, key: &Option<String>) -> Result<Option<String>, AllocError>
-    ensures { IfOk result (λ copy. option_map string_bytes copy ≡ option_map string_bytes key.now) }
+/// Returns a copy of a text. Allocates; an error if the allocation fails.
+fn copied_text(alloc: Global, text: &Option<String>) -> Result<Option<String>, AllocError>
+    ensures { IfOk result (λ copy. option_map string_bytes copy ≡ option_map string_bytes text.now) }
 {
-    match key.as_ref() {
-        Some(key) => Ok(Some(String::from_str(alloc, key.as_str())?)),
+    match text.as_ref() {
+        Some(text) => Ok(Some(String::from_str(alloc, text.as_str())?)),
         None => Ok(None),
     }
 }
 
+impl KeyLength {
+    /// Returns the number of bytes of a key: 16, 24 or 32.
+    pub fn bytes(self) -> usize
+        ensures { result ≡ bytes_in self }
+    {
+        match self {
+            KeyLength::Aes128 => 16,
+            KeyLength::Aes192 => 24,
+            KeyLength::Aes256 => 32,
+        }
+    }
+}
+
 impl RoleAccess {
-    /// Returns the rules that admit every caller: neither a list of networks nor a key.
+    /// Returns the rules that admit every caller: neither a list of networks nor a key, and no passphrase.
     pub fn every_caller() -> RoleAccess
         ensures { role_access_of result ≡ every_caller }
     {
         RoleAccess {
             from: None,
             key: None,
+            passphrase: None,
         }
+    }
+
+    /// Whether the role has a passphrase, so that its sessions are encrypted.
+    pub fn is_secured(&self) -> bool
+        ensures { result ≡ is_secured (role_access_of self.now) }
+    {
+        self.passphrase.is_some()
     }
 
     /// Whether the list contains the caller's address. Without a list, always. Linear in the number of networks.
@@ -193,19 +214,21 @@ impl RoleAccess {
     {
         Ok(RoleAccess {
             from: copied_list(alloc, &self.from)?,
-            key: copied_key(alloc, &self.key)?,
+            key: copied_text(alloc, &self.key)?,
+            passphrase: copied_text(alloc, &self.passphrase)?,
         })
     }
 }
 
 impl Access {
-    /// Returns the rules that admit every caller in both roles.
+    /// Returns the rules that admit every caller in both roles, without encryption.
     pub fn anyone() -> Access
         ensures { access_of result ≡ anyone }
     {
         Access {
             publish: RoleAccess::every_caller(),
             request: RoleAccess::every_caller(),
+            key_length: None,
         }
     }
 
@@ -226,6 +249,16 @@ impl Access {
         self.publish.lists(peer) || self.request.lists(peer)
     }
 
+    /// Whether keys of this many bytes have the length that is required. If none is, always.
+    pub fn is_right_length(&self, bytes: usize) -> bool
+        ensures { result ≡ is_right_length (access_of self.now).key_length bytes }
+    {
+        match self.key_length {
+            Some(length) => bytes == length.bytes(),
+            None => true,
+        }
+    }
+
     /// Returns a copy. Allocates; an error if the allocation fails.
     pub fn copy(&self, alloc: Global) -> Result<Access, AllocError>
         ensures { IfOk result (λ copy. access_of copy ≡ access_of self.now) }
@@ -233,6 +266,7 @@ impl Access {
         Ok(Access {
             publish: self.publish.copy(alloc)?,
             request: self.request.copy(alloc)?,
+            key_length: self.key_length,
         })
     }
 }

@@ -9,8 +9,8 @@
 //! them, first choose a reference: `Seq31::offset_in` a window, or `Stamp32::lift` near a time.
 //!
 //! Shared types, in `shared.rt`: [`Peer`], [`Item`] (the input of a route), [`PayloadRef`], [`Entry`] (a route's
-//! configuration), [`Access`] (its access rules), [`NotAdmitted`] (the reason for a rejection), [`Rules`] (what a route
-//! does beyond the draft), [`Schedule`] (when it opens and closes), [`Mode`], [`Role`], [`Callers`], [`Turned`],
+//! configuration), [`Access`] (its access rules), [`KeyLength`] (that of encrypted sessions), [`NotAdmitted`] (the reason
+//! for a rejection), [`Rules`] (what a route does beyond the draft), [`Schedule`] (when it opens and closes), [`Mode`], [`Role`], [`Callers`], [`Turned`],
 //! [`OpenFault`]. An `Entry` is checked in `entries.rt`, a route's name in `route_name.rt`, a caller in `access.rt`; words
 //! in network byte order are in `words.rt`, all limits and intervals of the protocol in `protocol_limits.rt`, and those of
 //! configurations and inputs in `product_limits.rt`.
@@ -33,8 +33,8 @@ pub use numbers::{Msg26, Seq31};
 pub use protocol_limits::MOMENT_END;
 pub use route_name::is_name;
 pub use shared::{
-    Access, Callers, Entry, Item, Mode, Network, NotAdmitted, OpenFault, PayloadRef, Peer, Role,
-    RoleAccess, Rules, Schedule, Turned,
+    Access, Callers, Entry, Item, KeyLength, Mode, Network, NotAdmitted, OpenFault, PayloadRef,
+    Peer, Role, RoleAccess, Rules, Schedule, Turned,
 };
 pub use stamps::Stamp32;
 pub use words::{read_word, write_at, write_words};

@@ -78,23 +78,40 @@ pub enum Network {
     },
 }
 
-/// The access rules for one role. A field that is `None` admits every caller.
-#[derive(Debug, Drop)]
+/// The access rules for one role. A list or key that is `None` admits every caller. No type with a passphrase has a
+/// `Debug`: none is ever printed.
+#[derive(Drop)]
 pub struct RoleAccess {
     /// The networks that admitted callers connect from: 1 to 16, of IPv4, of IPv6 or of both. If present, no other
     /// address is admitted.
     pub from: Option<Vec<Network>>,
     /// The key that a Stream ID must have: 1 to 64 bytes.
     pub key: Option<String>,
+    /// The passphrase of encrypted sessions: 10 to 79 bytes. If present, a conclusion must bring keys that are wrapped
+    /// under it, and the role is *secured*; otherwise none is admitted that brings keys (section 6.1.4).
+    pub passphrase: Option<String>,
+}
+
+/// The length of the keys of an encrypted session: the field KLen (section 3.2.2).
+#[derive(Clone, Copy, Debug, PartialEq, Eq)]
+pub enum KeyLength {
+    /// 16 bytes: AES-128.
+    Aes128,
+    /// 24 bytes: AES-192.
+    Aes192,
+    /// 32 bytes: AES-256.
+    Aes256,
 }
 
 /// The access rules of a route (our choice).
-#[derive(Debug, Drop)]
+#[derive(Drop)]
 pub struct Access {
     /// The rules for publishers.
     pub publish: RoleAccess,
     /// The rules for callers that request the stream.
     pub request: RoleAccess,
+    /// The length of the keys that callers of secured roles must bring; None if they choose it.
+    pub key_length: Option<KeyLength>,
 }
 
 /// What a route does beyond the draft if its configuration enables it (our choice). The type doesn't enforce the limits
@@ -119,7 +136,7 @@ pub struct Rules {
 
 /// The configuration of one route. The type doesn't enforce the limits of its fields: `in_limits` and `is_name` check
 /// them.
-#[derive(Debug, Drop)]
+#[derive(Drop)]
 pub struct Entry {
     /// The name that Stream IDs request: 1 to 64 bytes, as `is_name` requires.
     pub name: String,

@@ -1,6 +1,9 @@
 //! Numbers and times next to the values at which they wrap.
 
-use crate::{Msg26, Network, Seq31, Stamp32, is_same_site, read_word, write_at};
+use crate::{
+    Access, KeyLength, Msg26, Network, RoleAccess, Seq31, Stamp32, is_same_site, read_word,
+    write_at,
+};
 use std::net::Ipv6Addr;
 use std::test::Fail;
 
@@ -133,6 +136,32 @@ fn a_site_is_an_ipv4_address_or_64_bits(rt: HostRuntime) -> Result<(), Fail> {
             is_same_site(&bytes_of(address)?, &bytes_of(other)?),
             is_same
         );
+    }
+    Ok(())
+}
+
+#[test]
+fn a_copy_is_secured_by_its_own_passphrase(rt: HostRuntime) -> Result<(), Fail> {
+    let secured = RoleAccess {
+        from: None,
+        key: None,
+        passphrase: Some(String::from_str(rt.alloc(), "correct horse battery")?),
+    };
+    let access = Access {
+        publish: secured,
+        request: RoleAccess::every_caller(),
+        key_length: Some(KeyLength::Aes192),
+    };
+    let copy = access.copy(rt.alloc())?;
+    drop(access);
+    assert!(rt; copy.publish.is_secured());
+    assert!(rt; !copy.request.is_secured());
+    assert!(rt; copy.is_right_length(24));
+    assert!(rt; !copy.is_right_length(16));
+    assert!(rt; !copy.is_right_length(32));
+    match copy.publish.passphrase.as_ref() {
+        Some(text) => assert!(rt; text.as_str() == "correct horse battery"),
+        None => return Err(Fail::from("a copy without the passphrase")),
     }
     Ok(())
 }

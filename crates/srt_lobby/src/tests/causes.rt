@@ -54,11 +54,14 @@ fn guarded(alloc: Global) -> Result<Access, Fail> {
         publish: RoleAccess {
             from: Some(from),
             key: Some(String::from_str(alloc, "in")?),
+            passphrase: None,
         },
         request: RoleAccess {
             from: None,
             key: Some(String::from_str(alloc, "out")?),
+            passphrase: None,
         },
+        key_length: None,
     })
 }
 
