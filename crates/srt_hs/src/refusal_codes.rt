@@ -9,10 +9,10 @@ ghost use Rattle.srt_hs.specs.Text.{code_of};
 /// handshake, or has a wrong cookie, isn't answered.
 ///
 /// If several causes apply, the first one determines the reason. `srt_lobby` checks, in this order: the version (1008),
-/// the initial number and the HSREQ (1004), KMREQ (1011), FILTER (1014), GROUP (1015), the Stream ID and its route
-/// (1002). Then `srt_route` checks the flag STREAM (1012), the MTU and the window (1004), a third publisher (1002), the
-/// number of sessions of the caller's IP address (1003), a free slot (1003), and whether the free slots are reserved
-/// for publishers (1003).
+/// the initial number and the HSREQ (1004), a KMREQ for a role without a passphrase (1011), FILTER (1014), GROUP (1015),
+/// the Stream ID and its route (1002), and the keys for a role with a passphrase (1011). Then `srt_route` checks the flag
+/// STREAM (1012), the MTU and the window (1004), a third publisher (1002), the number of sessions of the caller's IP
+/// address (1003), a free slot (1003), and whether the free slots are reserved for publishers (1003).
 #[derive(Clone, Copy, Debug, PartialEq, Eq)]
 pub enum RefusalCode {
     /// 1002, `SRT_REJ_PEER`: the conclusion has no Stream ID block. Or its Stream ID has a fault: not UTF-8, a mode
@@ -29,7 +29,8 @@ pub enum RefusalCode {
     Rogue,
     /// 1008, `SRT_REJ_VERSION`: the version of the handshake isn't 5.
     Version,
-    /// 1011, `SRT_REJ_UNSECURE`: there is a KMREQ block. The gateway doesn't encrypt.
+    /// 1011, `SRT_REJ_UNSECURE`: there is a KMREQ block, and the requested role has no passphrase. Or it has one, and the
+    /// conclusion hasn't exactly one KMREQ block with a key material message of the required key length.
     Unsecure,
     /// 1012, `SRT_REJ_MESSAGEAPI`: the flag STREAM of the HSREQ is set for a route in live mode, or not set for one in
     /// buffer mode.

@@ -8,7 +8,6 @@ use Rattle.std.proofs.lemmas.List.{length-append}
 use Rattle.std.proofs.lemmas.List.Folds.{prefix_len-append}
 use Rattle.std.proofs.lemmas.List.Sums.{prefix_len-le-length}
 use Rattle.srt_types.specs.declared.shared.Peer.{Peer}
-use Rattle.srt_types.specs.declared.shared.Role.{Role}
 use Rattle.srt_packet.specs.declared.reading.PacketFault.{PacketFault}
 use Rattle.srt_packet.specs.Grammar as packets
 use Rattle.srt_packet.specs.Grammar.{Packet, Body}
@@ -16,8 +15,8 @@ use Rattle.srt_packet.specs.Reading.{packet_in}
 use Rattle.srt_hs.specs.declared.handshake.HsKind.{HsKind}
 use Rattle.srt_hs.specs.declared.handshake.HsKind.TheVariants as kinds
 use Rattle.srt_hs.specs.declared.handshake.HsFault.{HsFault}
-use Rattle.srt_hs.specs.declared.refusal_codes.RefusalCode.{RefusalCode}
 use Rattle.srt_hs.specs.Grammar.{Handshake}
+use Rattle.srt_hs.specs.KeyRequest.{Asked, key_request_in}
 use Rattle.srt_hs.specs.Reading.{handshake_in}
 use Rattle.srt_streamid.specs.declared.reading.Ask.{Ask}
 use Rattle.srt_streamid.specs.declared.reading.AskFault.{AskFault}
@@ -26,11 +25,12 @@ use Rattle.srt_cookie.specs.Cookie.{is_right}
 use Rattle.srt_lobby.specs.declared.classes.Class.{Class}
 use Rattle.srt_lobby.specs.declared.classes.Class.TheVariants.{Dropped}
 use Rattle.srt_lobby.specs.declared.classes.Cause.TheVariants as causes
-use Rattle.srt_lobby.specs.Names.{RouteName, is_requested, index_of, is_shown_at, knows_caller, knows_caller_at, admits_caller}
-use Rattle.srt_lobby.specs.Lobby.{reason_of, admitted, route_named, route_requested, by_route, by_reason, of_conclusion, by_kind, of_handshake}
-use Rattle.srt_lobby.specs.Lobby.{of_body, if_known, by_place, to_session, of_packet, class_of}
+use Rattle.srt_lobby.specs.declared.names.RequestedRole.{RequestedRole}
+use Rattle.srt_lobby.specs.Names.{RouteName, is_requested, index_of, is_shown_at, knows_caller, knows_caller_at, secures}
+use Rattle.srt_lobby.specs.Lobby.{reason_of, role_of, role_named, role_requested, key_brought, of_role, by_reason, of_request, of_conclusion, by_kind}
+use Rattle.srt_lobby.specs.Lobby.{of_handshake, of_body, if_known, by_place, to_session, of_packet, class_of}
 use Rattle.srt_lobby.specs.Changing.{AreHidden, HiddenChangeNothing}
-use Rattle.srt_lobby.proofs.Finds.{found_shown}
+use Rattle.srt_lobby.proofs.Kept.{role_shown}
 
 -- a place, if it is below this number
 found : (place many : ℕ) → Option ℕ
@@ -96,46 +96,47 @@ slice_more (name ∷ names) more zero shown = refl
 slice_more (name ∷ names) more (suc r) shown = slice_more names more r shown
 
 module _ (secret : List ℕ) (names more : List RouteName) (hidden : AreHidden more) (peer : Peer) (moment : ℕ) where
-  admitted_more : (role : Role) (brought : Option (List ℕ)) (text : List ℕ) (o : Option ℕ) → index_of names text ≡ o →
-      admitted (names ++ more) peer role brought o ≡ admitted names peer role brought o
-  admitted_more role brought text (Some r) is =
-      ap (λ (n : Option RouteName). cond (admits_caller peer role brought n) (Some r) None) (slice_more names more r (found_shown names r text is))
-  admitted_more role brought text None is = refl
-
-  named_more : (bytes : List ℕ) (ask : Result Ask AskFault) → route_named (names ++ more) peer bytes ask ≡ route_named names peer bytes ask
-  named_more bytes (Ok ask) =
-      ap (admitted (names ++ more) peer ask.role (key_of bytes)) (index_more names more hidden (name_of bytes ask))
-      ∙ admitted_more ask.role (key_of bytes) (name_of bytes ask) (index_of names (name_of bytes ask)) refl
+  named_more : (bytes : List ℕ) (ask : Result Ask AskFault) → role_named (names ++ more) bytes ask ≡ role_named names bytes ask
+  named_more bytes (Ok ask) = ap (role_of ask.role) (index_more names more hidden (name_of bytes ask))
   named_more bytes (Err fault) = refl
 
-  requested_more : (id : Option (List ℕ)) → route_requested (names ++ more) peer id ≡ route_requested names peer id
+  requested_more : (id : Option (List ℕ)) → role_requested (names ++ more) id ≡ role_requested names id
   requested_more (Some bytes) = named_more bytes (ask_in bytes)
   requested_more None = refl
 
-  reason_more : (hs : Handshake) (reason : Option RefusalCode) → by_reason (names ++ more) peer hs reason ≡ by_reason names peer hs reason
-  reason_more hs (Some code) = refl
-  reason_more hs None = ap (by_route hs) (requested_more hs.blocks.stream_id)
+  request_more : (keys : Asked) (hs : Handshake) (brought : Option (List ℕ)) (o : Option RequestedRole)
+      → ((q : RequestedRole) → o ≡ Some q → is_shown_at names q.route ≡ true)
+      → of_request (names ++ more) peer keys hs brought o ≡ of_request names peer keys hs brought o
+  request_more keys hs brought (Some q) shown =
+      ap (λ (n : Option RouteName). by_reason hs (reason_of (secures q.role n) hs) (of_role peer keys hs brought q n))
+      (slice_more names more q.route (shown q refl))
+  request_more keys hs brought None shown = refl
 
-  conclusion_more : (hs : Handshake) → of_conclusion (names ++ more) peer hs ≡ of_conclusion names peer hs
+  conclusion_more : (keys : Asked) (hs : Handshake) → of_conclusion (names ++ more) peer keys hs ≡ of_conclusion names peer keys hs
   unfolding of_conclusion
-  conclusion_more hs = reason_more hs (reason_of hs)
+  conclusion_more keys hs =
+      let brought = key_brought hs.blocks.stream_id in
+      ap (of_request (names ++ more) peer keys hs brought) (requested_more hs.blocks.stream_id)
+      ∙ request_more keys hs brought (role_requested names hs.blocks.stream_id) (role_shown names hs.blocks.stream_id)
 
-  kind_more : (hs : Handshake) (kind : HsKind) → by_kind secret (names ++ more) peer moment hs kind ≡ by_kind secret names peer moment hs kind
-  kind_more hs kinds.Induction = refl
-  kind_more hs kinds.WaveHand = refl
-  kind_more hs kinds.Conclusion =
-      ap (λ (c : Class). cond (is_right secret peer moment hs.cookie) c (Dropped causes.WrongCookie)) (conclusion_more hs)
-  kind_more hs kinds.Agreement = refl
-  kind_more hs kinds.Done = refl
-  kind_more hs (kinds.Refusal number) = refl
+  kind_more : (keys : Asked) (hs : Handshake) (kind : HsKind)
+      → by_kind secret (names ++ more) peer moment keys hs kind ≡ by_kind secret names peer moment keys hs kind
+  kind_more keys hs kinds.Induction = refl
+  kind_more keys hs kinds.WaveHand = refl
+  kind_more keys hs kinds.Conclusion =
+      ap (λ (c : Class). cond (is_right secret peer moment hs.cookie) c (Dropped causes.WrongCookie)) (conclusion_more keys hs)
+  kind_more keys hs kinds.Agreement = refl
+  kind_more keys hs kinds.Done = refl
+  kind_more keys hs (kinds.Refusal number) = refl
 
-  handshake_more : (hs : Result Handshake HsFault) → of_handshake secret (names ++ more) peer moment hs ≡ of_handshake secret names peer moment hs
-  handshake_more (Ok hs) = kind_more hs hs.kind
-  handshake_more (Err fault) = refl
+  handshake_more : (keys : Asked) (hs : Result Handshake HsFault)
+      → of_handshake secret (names ++ more) peer moment keys hs ≡ of_handshake secret names peer moment keys hs
+  handshake_more keys (Ok hs) = kind_more keys hs hs.kind
+  handshake_more keys (Err fault) = refl
 
   body_more : (body : Body) → of_body secret (names ++ more) peer moment body ≡ of_body secret names peer moment body
   body_more (packets.Data number encryption payload) = refl
-  body_more (packets.Handshake info) = handshake_more (handshake_in info)
+  body_more (packets.Handshake info) = handshake_more (key_request_in info) (handshake_in info)
   body_more packets.KeepAlive = refl
   body_more (packets.Ack number info) = refl
   body_more (packets.Nak info) = refl

@@ -1,6 +1,6 @@
 -- The class of a datagram and the routes.
 use Rattle.std.proofs.Common.{◌≡◌, ℕ, ◌-◌, ◌+◌, ◌/◌, ◌^◌, ◌<◌, ◌≤◌, Bool, true, false, cond, ◌&&◌, List, length, Option, None, Some, Result, slice_get}
-use Rattle.std.proofs.Common.{Ok, Err, nat_lt, ◌==◌, refl, sym, ap, ◌∙◌, arith}
+use Rattle.std.proofs.Common.{Ok, Err, nat_lt, ◌==◌, refl, sym, ap, subst, ◌∙◌, arith}
 use Rattle.std.proofs.lemmas.Bool.Decides.{nat_tests}
 use Rattle.srt_types.specs.declared.shared.Peer.{Peer}
 use Rattle.srt_types.specs.declared.shared.Role.{Role}
@@ -14,7 +14,9 @@ use Rattle.srt_hs.specs.declared.handshake.HsKind.TheVariants as kinds
 use Rattle.srt_hs.specs.declared.handshake.HsFault.{HsFault}
 use Rattle.srt_hs.specs.declared.writing.AnswerKind.{AnswerKind}
 use Rattle.srt_hs.specs.declared.refusal_codes.RefusalCode.{RefusalCode}
+use Rattle.srt_hs.specs.declared.refusal_codes.RefusalCode.TheVariants as codes
 use Rattle.srt_hs.specs.Grammar.{Handshake}
+use Rattle.srt_hs.specs.KeyRequest.{Asked, key_request_in}
 use Rattle.srt_hs.specs.Reading.{handshake_in}
 use Rattle.srt_streamid.specs.declared.reading.Ask.{Ask}
 use Rattle.srt_streamid.specs.declared.reading.AskFault.{AskFault}
@@ -23,9 +25,11 @@ use Rattle.srt_cookie.specs.Cookie.{is_right}
 use Rattle.srt_lobby.specs.declared.classes.Class.{Class}
 use Rattle.srt_lobby.specs.declared.classes.Class.TheVariants.{Route, Dropped}
 use Rattle.srt_lobby.specs.declared.classes.Cause.TheVariants as causes
-use Rattle.srt_lobby.specs.Names.{RouteName, index_of, shows, is_shown_at, knows_caller, knows_caller_at, admits_caller, admits_caller_at}
-use Rattle.srt_lobby.specs.Lobby.{answered, reason_of, admitted, route_named, route_requested, by_route, by_reason, of_conclusion, by_kind, of_handshake}
-use Rattle.srt_lobby.specs.Lobby.{of_body, if_known, by_place, to_session, of_packet, class_of}
+use Rattle.srt_lobby.specs.declared.names.RequestedRole.{RequestedRole}
+use Rattle.srt_lobby.specs.Names.{RouteName, index_of, shows, is_shown_at, knows_caller, knows_caller_at, admits_caller, secures}
+use Rattle.srt_lobby.specs.Keys.{has_keys}
+use Rattle.srt_lobby.specs.Lobby.{answered, refused, reason_of, role_of, role_named, role_requested, key_brought, if_keyed, of_role, by_reason, of_request}
+use Rattle.srt_lobby.specs.Lobby.{of_conclusion, by_kind, of_handshake, of_body, if_known, by_place, to_session, of_packet, class_of}
 use Rattle.srt_lobby.specs.Laws.{HasRoute, RouteIsItsOwn, RouteIsNamed, RouteIsShown, RouteHasHeader}
 use Rattle.srt_lobby.proofs.Finds.{found_name, name_found, found_shown, shown_within}
 
@@ -41,25 +45,59 @@ pub never_answered : (r : ℕ) (hs : Handshake) (what : AnswerKind) → answered
 unfolding answered
 never_answered r hs what h = cc
 
-pub route_is : (hs : Handshake) (r : ℕ) (found : Option ℕ) → by_route hs found ≡ Route r → found ≡ Some r
-route_is hs r (Some s) h = cc
-route_is hs r None h = absurd (never_answered r hs _ h)
+-- a conclusion that is for route r: it requests a role of this route, which admits the caller and for which the keys are
+-- right, and nothing else refuses it
+pub record IsOfRole (peer : Peer) (keys : Asked) (hs : Handshake) (brought : Option (List ℕ)) (q : RequestedRole) (name : Option RouteName) (r : ℕ)
+    : Type 0 where
+  pub is : q.route ≡ r
+  pub reason : reason_of (secures q.role name) hs ≡ None
+  pub admits : admits_caller peer q.role brought name ≡ true
+  pub keyed : has_keys q.role keys name ≡ true
 
--- an admitted route was found, and admits the caller
-pub record IsAdmitted (names : List RouteName) (peer : Peer) (role : Role) (brought : Option (List ℕ)) (r : ℕ) (found : Option ℕ) : Type 0 where
-  pub is : found ≡ Some r
-  pub admits : admits_caller_at names r peer role brought ≡ true
-
-pub admitted_is : (names : List RouteName) (peer : Peer) (role : Role) (brought : Option (List ℕ)) (r : ℕ) (found : Option ℕ)
-    → admitted names peer role brought found ≡ Some r → IsAdmitted names peer role brought r found
-admitted_is names peer role brought r (Some s) h = by (admits_caller_at names s peer role brought) refl h
+role_is : (peer : Peer) (keys : Asked) (hs : Handshake) (brought : Option (List ℕ)) (q : RequestedRole) (name : Option RouteName) (r : ℕ)
+    → by_reason hs (reason_of (secures q.role name) hs) (of_role peer keys hs brought q name) ≡ Route r → IsOfRole peer keys hs brought q name r
+role_is peer keys hs brought q name r h =
+    by (reason_of (secures q.role name) hs) refl (admits_caller peer q.role brought name) refl (has_keys q.role keys name) refl h
   where
-    by : (b : Bool) → admits_caller_at names s peer role brought ≡ b → cond b (Some s) None ≡ Some r → IsAdmitted names peer role brought r (Some s)
-    by true e h =
-        let same : s ≡ r = cc in
-        record { is = h; admits = ap (λ (k : ℕ). admits_caller_at names k peer role brought) (sym same) ∙ e }
-    by false e h = cc
-admitted_is names peer role brought r None h = cc
+    by : (reason : Option RefusalCode) → reason_of (secures q.role name) hs ≡ reason → (a : Bool) → admits_caller peer q.role brought name ≡ a
+        → (k : Bool) → has_keys q.role keys name ≡ k
+        → by_reason hs reason (cond a (if_keyed k hs q.route) (refused hs codes.Peer)) ≡ Route r
+        → IsOfRole peer keys hs brought q name r
+    by (Some code) e a admits k keyed h = absurd (never_answered r hs _ h)
+    by None e true admits true keyed h = record { is = cc; reason = e; admits = admits; keyed = keyed }
+    by None e true admits false keyed h = absurd (never_answered r hs _ h)
+    by None e false admits k keyed h = absurd (never_answered r hs _ h)
+
+pub request_is : (names : List RouteName) (peer : Peer) (keys : Asked) (hs : Handshake) (brought : Option (List ℕ)) (o : Option RequestedRole) (r : ℕ)
+    → of_request names peer keys hs brought o ≡ Route r
+    → (q : RequestedRole) × (o ≡ Some q) × IsOfRole peer keys hs brought q (slice_get names q.route) r
+request_is names peer keys hs brought (Some q) r h = (q, refl, role_is peer keys hs brought q (slice_get names q.route) r h)
+request_is names peer keys hs brought None r h = absurd (never (reason_of false hs) h)
+  where
+    never : (reason : Option RefusalCode) → by_reason hs reason (refused hs codes.Peer) ≡ Route r → ⊥
+    never (Some code) h = never_answered r hs _ h
+    never None h = never_answered r hs _ h
+
+-- the role of a route that has an index, and that route
+pub role_of_is : (role : Role) (s : ℕ) (q : RequestedRole) → role_of role (Some s) ≡ Some q → (s ≡ q.route) × (role ≡ q.role)
+role_of_is role s q h =
+    let given : RequestedRole = record { role = role; route = s } in
+    let same : given ≡ q = cc in
+    (ap (λ (z : RequestedRole). z.route) same, ap (λ (z : RequestedRole). z.role) same)
+
+named_shown : (names : List RouteName) (bytes : List ℕ) (ask : Result Ask AskFault) (q : RequestedRole)
+    → role_named names bytes ask ≡ Some q → is_shown_at names q.route ≡ true
+named_shown names bytes (Ok ask) q h = by (index_of names (name_of bytes ask)) refl h
+  where
+    by : (o : Option ℕ) → index_of names (name_of bytes ask) ≡ o → role_of ask.role o ≡ Some q → is_shown_at names q.route ≡ true
+    by (Some s) e h = ap (is_shown_at names) (sym (role_of_is ask.role s q h).0) ∙ found_shown names s (name_of bytes ask) e
+    by None e h = cc
+named_shown names bytes (Err fault) q h = cc
+
+pub role_shown : (names : List RouteName) (id : Option (List ℕ)) (q : RequestedRole)
+    → role_requested names id ≡ Some q → is_shown_at names q.route ≡ true
+role_shown names (Some bytes) q h = named_shown names bytes (ask_in bytes) q h
+role_shown names None q h = cc
 
 -- a packet with destination 0 is for a route only if it is a handshake
 pub only_a_handshake : (secret : List ℕ) (names : List RouteName) (peer : Peer) (moment r : ℕ) (body : Body)
@@ -117,42 +155,52 @@ pub record IsFoundAgain (names others : List RouteName) (r : ℕ) : Type 0 where
   pub same : slice_get others r ≡ slice_get names r
 
 module _ (secret : List ℕ) (names others : List RouteName) (r : ℕ) (again : IsFoundAgain names others r) (peer : Peer) (moment : ℕ) where
-  named_follows : (bytes : List ℕ) (ask : Result Ask AskFault) → route_named names peer bytes ask ≡ Some r → route_named others peer bytes ask ≡ Some r
-  named_follows bytes (Ok ask) h =
-      let was = admitted_is names peer ask.role (key_of bytes) r (index_of names (name_of bytes ask)) h in
-      ap (admitted others peer ask.role (key_of bytes)) (again.finds (name_of bytes ask) was.is)
-      ∙ ap (λ (b : Bool). cond b (Some r) None) (ap (admits_caller peer ask.role (key_of bytes)) again.same ∙ was.admits)
-  named_follows bytes (Err fault) h = h
+  named_follows : (bytes : List ℕ) (ask : Result Ask AskFault) (q : RequestedRole) → q.route ≡ r
+      → role_named names bytes ask ≡ Some q → role_named others bytes ask ≡ Some q
+  named_follows bytes (Ok ask) q is h = by (index_of names (name_of bytes ask)) refl h
+    where
+      by : (o : Option ℕ) → index_of names (name_of bytes ask) ≡ o → role_of ask.role o ≡ Some q
+          → role_of ask.role (index_of others (name_of bytes ask)) ≡ Some q
+      by (Some s) e h =
+          let same : s ≡ r = (role_of_is ask.role s q h).0 ∙ is in
+          ap (role_of ask.role) (again.finds (name_of bytes ask) (e ∙ ap Some same) ∙ ap Some (sym same)) ∙ h
+      by None e h = cc
+  named_follows bytes (Err fault) q is h = cc
 
-  requested_follows : (id : Option (List ℕ)) → route_requested names peer id ≡ Some r → route_requested others peer id ≡ Some r
-  requested_follows (Some bytes) h = named_follows bytes (ask_in bytes) h
-  requested_follows None h = h
+  requested_follows : (id : Option (List ℕ)) (q : RequestedRole) → q.route ≡ r → role_requested names id ≡ Some q → role_requested others id ≡ Some q
+  requested_follows (Some bytes) q is h = named_follows bytes (ask_in bytes) q is h
+  requested_follows None q is h = cc
 
-  reason_follows : (hs : Handshake) (reason : Option RefusalCode) → Follows r (by_reason names peer hs reason) (by_reason others peer hs reason)
-  reason_follows hs (Some code) h = h
-  reason_follows hs None h = ap (by_route hs) (requested_follows hs.blocks.stream_id (route_is hs r (route_requested names peer hs.blocks.stream_id) h))
-
-  conclusion_follows : (hs : Handshake) → Follows r (of_conclusion names peer hs) (of_conclusion others peer hs)
+  conclusion_follows : (keys : Asked) (hs : Handshake) → Follows r (of_conclusion names peer keys hs) (of_conclusion others peer keys hs)
   unfolding of_conclusion
-  conclusion_follows hs = reason_follows hs (reason_of hs)
+  conclusion_follows keys hs h =
+      let brought = key_brought hs.blocks.stream_id in
+      let was = request_is names peer keys hs brought (role_requested names hs.blocks.stream_id) r h in
+      let same : slice_get others was.0.route ≡ slice_get names was.0.route =
+      subst (λ (k : ℕ). slice_get others k ≡ slice_get names k) (sym was.2.is) again.same in
+      ap (of_request others peer keys hs brought) (requested_follows hs.blocks.stream_id was.0 was.2.is was.1)
+      ∙ ap (λ (n : Option RouteName). by_reason hs (reason_of (secures was.0.role n) hs) (of_role peer keys hs brought was.0 n)) same
+      ∙ sym (ap (of_request names peer keys hs brought) was.1) ∙ h
 
-  kind_follows : (hs : Handshake) (kind : HsKind) → Follows r (by_kind secret names peer moment hs kind) (by_kind secret others peer moment hs kind)
-  kind_follows hs kinds.Induction h = h
-  kind_follows hs kinds.WaveHand h = h
-  kind_follows hs kinds.Conclusion h = by_test r (is_right secret peer moment hs.cookie) _ _ _ _ (conclusion_follows hs) (λ e. e) h
-  kind_follows hs kinds.Agreement h = h
-  kind_follows hs kinds.Done h = h
-  kind_follows hs (kinds.Refusal number) h = h
+  kind_follows : (keys : Asked) (hs : Handshake) (kind : HsKind)
+      → Follows r (by_kind secret names peer moment keys hs kind) (by_kind secret others peer moment keys hs kind)
+  kind_follows keys hs kinds.Induction h = h
+  kind_follows keys hs kinds.WaveHand h = h
+  kind_follows keys hs kinds.Conclusion h = by_test r (is_right secret peer moment hs.cookie) _ _ _ _ (conclusion_follows keys hs) (λ e. e) h
+  kind_follows keys hs kinds.Agreement h = h
+  kind_follows keys hs kinds.Done h = h
+  kind_follows keys hs (kinds.Refusal number) h = h
 
-  handshake_follows : (hs : Result Handshake HsFault) → Follows r (of_handshake secret names peer moment hs) (of_handshake secret others peer moment hs)
-  handshake_follows (Ok hs) h = kind_follows hs hs.kind h
-  handshake_follows (Err fault) h = h
+  handshake_follows : (keys : Asked) (hs : Result Handshake HsFault)
+      → Follows r (of_handshake secret names peer moment keys hs) (of_handshake secret others peer moment keys hs)
+  handshake_follows keys (Ok hs) h = kind_follows keys hs hs.kind h
+  handshake_follows keys (Err fault) h = h
 
   body_follows : (body : Body) → Follows r (of_body secret names peer moment body) (of_body secret others peer moment body)
   body_follows body h =
       let at = only_a_handshake secret names peer moment r body h in
       ap (of_body secret others peer moment) at.1
-      ∙ handshake_follows (handshake_in at.0) (sym (ap (of_body secret names peer moment) at.1) ∙ h)
+      ∙ handshake_follows (key_request_in at.0) (handshake_in at.0) (sym (ap (of_body secret names peer moment) at.1) ∙ h)
 
   session_follows : (dest : ℕ) → Follows r (to_session names peer dest) (to_session others peer dest)
   session_follows dest h =
@@ -190,39 +238,28 @@ either names r true x y p q = p
 either names r false x y p q = q
 
 module _ (secret : List ℕ) (names : List RouteName) (r : ℕ) (peer : Peer) (moment : ℕ) where
-  named_shown : (bytes : List ℕ) (ask : Result Ask AskFault) → route_named names peer bytes ask ≡ Some r → is_shown_at names r ≡ true
-  named_shown bytes (Ok ask) h =
-      found_shown names r (name_of bytes ask) (admitted_is names peer ask.role (key_of bytes) r (index_of names (name_of bytes ask)) h).is
-  named_shown bytes (Err fault) h = cc
-
-  requested_shown : (id : Option (List ℕ)) → route_requested names peer id ≡ Some r → is_shown_at names r ≡ true
-  requested_shown (Some bytes) h = named_shown bytes (ask_in bytes) h
-  requested_shown None h = cc
-
-  reason_shown : (hs : Handshake) (reason : Option RefusalCode) → Shown names r (by_reason names peer hs reason)
-  reason_shown hs (Some code) h = absurd (never_answered r hs _ h)
-  reason_shown hs None h = requested_shown hs.blocks.stream_id (route_is hs r (route_requested names peer hs.blocks.stream_id) h)
-
-  conclusion_shown : (hs : Handshake) → Shown names r (of_conclusion names peer hs)
+  conclusion_shown : (keys : Asked) (hs : Handshake) → Shown names r (of_conclusion names peer keys hs)
   unfolding of_conclusion
-  conclusion_shown hs = reason_shown hs (reason_of hs)
+  conclusion_shown keys hs h =
+      let was = request_is names peer keys hs (key_brought hs.blocks.stream_id) (role_requested names hs.blocks.stream_id) r h in
+      ap (is_shown_at names) (sym was.2.is) ∙ role_shown names hs.blocks.stream_id was.0 was.1
 
-  kind_shown : (hs : Handshake) (kind : HsKind) → Shown names r (by_kind secret names peer moment hs kind)
-  kind_shown hs kinds.Induction h = absurd (never_answered r hs _ h)
-  kind_shown hs kinds.WaveHand h = cc
-  kind_shown hs kinds.Conclusion h = either names r (is_right secret peer moment hs.cookie) _ _ (conclusion_shown hs) (λ e. cc) h
-  kind_shown hs kinds.Agreement h = cc
-  kind_shown hs kinds.Done h = cc
-  kind_shown hs (kinds.Refusal number) h = cc
+  kind_shown : (keys : Asked) (hs : Handshake) (kind : HsKind) → Shown names r (by_kind secret names peer moment keys hs kind)
+  kind_shown keys hs kinds.Induction h = absurd (never_answered r hs _ h)
+  kind_shown keys hs kinds.WaveHand h = cc
+  kind_shown keys hs kinds.Conclusion h = either names r (is_right secret peer moment hs.cookie) _ _ (conclusion_shown keys hs) (λ e. cc) h
+  kind_shown keys hs kinds.Agreement h = cc
+  kind_shown keys hs kinds.Done h = cc
+  kind_shown keys hs (kinds.Refusal number) h = cc
 
-  handshake_shown : (hs : Result Handshake HsFault) → Shown names r (of_handshake secret names peer moment hs)
-  handshake_shown (Ok hs) h = kind_shown hs hs.kind h
-  handshake_shown (Err fault) h = cc
+  handshake_shown : (keys : Asked) (hs : Result Handshake HsFault) → Shown names r (of_handshake secret names peer moment keys hs)
+  handshake_shown keys (Ok hs) h = kind_shown keys hs hs.kind h
+  handshake_shown keys (Err fault) h = cc
 
   body_shown : (body : Body) → Shown names r (of_body secret names peer moment body)
   body_shown body h =
       let at = only_a_handshake secret names peer moment r body h in
-      handshake_shown (handshake_in at.0) (sym (ap (of_body secret names peer moment) at.1) ∙ h)
+      handshake_shown (key_request_in at.0) (handshake_in at.0) (sym (ap (of_body secret names peer moment) at.1) ∙ h)
 
   packet_shown : (packet : Result Packet PacketFault) → Shown names r (of_packet secret names peer moment packet)
   packet_shown (Ok packet) h = either names r (packet.dest == 0) _ _ (body_shown packet.body) (λ e. (place_is names peer (packet.dest / 2 ^ 20) r e).is_there) h

@@ -1,6 +1,6 @@
 -- The cause for which the lobby refuses a conclusion with 1002 (SRT_REJ_PEER): the first one, in the order in which
 -- they are checked. The causes are our choice.
-use Rattle.std.specs.Prelude.{◌≡◌, ℕ, List, Option, None, Some, Result, Ok, Err, if◌then◌else◌}
+use Rattle.std.specs.Prelude.{◌≡◌, ℕ, Bool, List, Option, None, Some, Result, Ok, Err, if◌then◌else◌}
 use Rattle.std.specs.Prelude.{slice_get}
 use Rattle.srt_types.specs.declared.shared.Peer.{Peer}
 use Rattle.srt_types.specs.declared.shared.Role.{Role}
@@ -14,15 +14,17 @@ use Rattle.srt_hs.specs.declared.handshake.HsFault.{HsFault}
 use Rattle.srt_hs.specs.declared.refusal_codes.RefusalCode.{RefusalCode}
 use Rattle.srt_hs.specs.declared.refusal_codes.RefusalCode.TheVariants as codes
 use Rattle.srt_hs.specs.Grammar.{Handshake}
+use Rattle.srt_hs.specs.KeyRequest.{Asked}
 use Rattle.srt_hs.specs.Reading.{handshake_in}
 use Rattle.srt_streamid.specs.declared.reading.Ask.{Ask}
 use Rattle.srt_streamid.specs.declared.reading.AskFault.{AskFault}
 use Rattle.srt_streamid.specs.Reading.{ask_in, key_of, name_of}
 use Rattle.srt_types.specs.declared.shared.NotAdmitted.{NotAdmitted}
 use Rattle.srt_types.specs.declared.shared.NotAdmitted.TheVariants.{NoName, UnknownName, Address, Key}
-use Rattle.srt_lobby.specs.declared.classes.Class.TheVariants.{Route}
+use Rattle.srt_lobby.specs.declared.names.RequestedRole.{RequestedRole}
 use Rattle.srt_lobby.specs.Names.{RouteName, index_of}
-use Rattle.srt_lobby.specs.Lobby.{reason_of, of_conclusion, refused}
+use Rattle.srt_lobby.specs.Keys.{has_keys}
+use Rattle.srt_lobby.specs.Lobby.{reason_of, is_secured_role, role_requested, if_keyed, of_conclusion, refused}
 
 -- why a caller with this key isn't admitted in this role; the list is checked before the key
 abbrev pub cause_in_role : RoleTerms → Role → Peer → (brought : Option (List ℕ)) → Option NotAdmitted
@@ -54,9 +56,13 @@ abbrev pub cause_by_reason : (names : List RouteName) → Peer → Handshake →
 cause_by_reason names peer hs (Some code) = None
 cause_by_reason names peer hs None = cause_by_stream_id names peer hs.blocks.stream_id
 
+-- whether a Stream ID requests a secured role of a visible route
+abbrev pub requests_secured : (names : List RouteName) → Option (List ℕ) → Bool
+requests_secured names id = is_secured_role names (role_requested names id)
+
 -- the cause for a conclusion with a valid cookie
 unfoldable pub cause_of_conclusion : (names : List RouteName) → Peer → Handshake → Option NotAdmitted
-cause_of_conclusion names peer hs = cause_by_reason names peer hs (reason_of hs)
+cause_of_conclusion names peer hs = cause_by_reason names peer hs (reason_of (requests_secured names hs.blocks.stream_id) hs)
 
 -- the cause for a handshake, from the result of reading it; with a fault there is none
 abbrev pub cause_by_handshake : (names : List RouteName) → Peer → Result Handshake HsFault → Option NotAdmitted
@@ -80,11 +86,15 @@ cause_of names datagram = cause_by_packet names datagram.peer (packet_in datagra
 -- a conclusion with a cause is refused with 1002
 abbrev pub CauseRefuses : Type 0
 CauseRefuses =
-    (names : List RouteName) (peer : Peer) (hs : Handshake) (cause : NotAdmitted) →
-    cause_of_conclusion names peer hs ≡ Some cause → of_conclusion names peer hs ≡ refused hs codes.Peer
+    (names : List RouteName) (peer : Peer) (keys : Asked) (hs : Handshake) (cause : NotAdmitted) →
+    cause_of_conclusion names peer hs ≡ Some cause → of_conclusion names peer keys hs ≡ refused hs codes.Peer
 
--- a conclusion without a cause, and without another reason to refuse it, is for a route
+-- a conclusion without a cause, and without another reason to refuse it, is for a route, if it has the keys that the
+-- requested role requires; otherwise it is refused with 1011
 abbrev pub RefusalHasCause : Type 0
 RefusalHasCause =
-    (names : List RouteName) (peer : Peer) (hs : Handshake) → reason_of hs ≡ None → cause_of_conclusion names peer hs ≡ None →
-    (r : ℕ) × (of_conclusion names peer hs ≡ Route r)
+    (names : List RouteName) (peer : Peer) (keys : Asked) (hs : Handshake)
+    → reason_of (requests_secured names hs.blocks.stream_id) hs ≡ None
+    → cause_of_conclusion names peer hs ≡ None
+    → (requested : RequestedRole) × (role_requested names hs.blocks.stream_id ≡ Some requested)
+    × (of_conclusion names peer keys hs ≡ if_keyed (has_keys requested.role keys (slice_get names requested.route)) hs requested.route)

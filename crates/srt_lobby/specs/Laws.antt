@@ -1,6 +1,9 @@
 -- Which datagrams are for which route.
 use Rattle.std.specs.Prelude.{◌≡◌, ◌↔◌, ℕ, ◌<◌, ◌≤◌, true, List, length, None, Some, Ok, map, slice_get}
+use Rattle.std.specs.Prelude.{Bool, false}
+use Rattle.srt_types.specs.declared.shared.Role.{Role}
 use Rattle.srt_types.specs.Access.{AccessTerms, in_role, knows, admits}
+use Rattle.srt_types.specs.Access.{is_secured, is_right_length}
 use Rattle.srt_types.specs.Items.{Datagram}
 use Rattle.srt_types.specs.Terms.{Terms}
 use Rattle.srt_packet.specs.Grammar as packets
@@ -11,6 +14,8 @@ use Rattle.srt_packet.specs.declared.writing.Body.TheVariants as bodies
 use Rattle.srt_packet.specs.Text.{text}
 use Rattle.srt_hs.specs.declared.handshake.HsKind.TheVariants as kinds
 use Rattle.srt_hs.specs.Grammar.{Handshake}
+use Rattle.srt_hs.specs.KeyMessage.{KeyMessage, message_in}
+use Rattle.srt_hs.specs.KeyRequest.{Asked, one, key_request_in}
 use Rattle.srt_hs.specs.Reading.{handshake_in}
 use Rattle.srt_hs.specs.declared.writing.HsAnswer.{HsAnswer}
 use Rattle.srt_hs.specs.Text.{answer_text}
@@ -69,6 +74,34 @@ abbrev pub RouteIsForCallers : Type 0
 RouteIsForCallers =
     (secret : List ℕ) (names : List RouteName) (datagram : Datagram) (moment r : ℕ) (name : RouteName) → slice_get names r ≡ Some name →
     class_of secret names datagram moment ≡ Route r → MayCall name.access datagram
+
+-- what a conclusion brings for a role with these rules: for a secured one exactly one KMREQ block, which has keys, of the
+-- route's length if it has one; for another one no such block
+pub record BringsKeys (access : AccessTerms) (role : Role) (has_kmreq : Bool) (keys : Asked) : Type 0 where
+  pub plain : is_secured (in_role access role) ≡ false → has_kmreq ≡ false
+  pub secured : is_secured (in_role access role) ≡ true →
+      (contents : List ℕ) × (message : KeyMessage) × (keys ≡ one contents) × (message_in contents ≡ Ok message)
+      × (is_right_length access.key_length message.key_length ≡ true)
+
+-- a packet is a conclusion with what these access rules require of the requested role
+pub record IsKeyed (access : AccessTerms) (packet : ReadPacket) : Type 0 where
+  pub info : List ℕ
+  pub hs : Handshake
+  pub bytes : List ℕ
+  pub ask : Ask
+  pub body : packet.body ≡ packets.Handshake info
+  pub reads : handshake_in info ≡ Ok hs
+  pub stream_id : hs.blocks.stream_id ≡ Some bytes
+  pub asks : ask_in bytes ≡ Ok ask
+  pub brings : BringsKeys access ask.role hs.blocks.has_kmreq (key_request_in info)
+
+-- whatever arrives, a datagram with destination 0 that is for a route brings the keys that the route requires, and no
+-- others
+abbrev pub RouteIsKeyed : Type 0
+RouteIsKeyed =
+    (secret : List ℕ) (names : List RouteName) (datagram : Datagram) (moment r : ℕ) (name : RouteName) → slice_get names r ≡ Some name →
+    class_of secret names datagram moment ≡ Route r → (packet : ReadPacket) → packet_in datagram.bytes ≡ Ok packet → packet.dest ≡ 0 →
+    IsKeyed name.access packet
 
 -- a datagram for a route has a complete header
 abbrev pub RouteHasHeader : Type 0

@@ -3,6 +3,7 @@ pub mod Opening
 pub mod RouteNames
 pub mod Tables
 pub mod Names
+pub mod Keys
 pub mod Lobby
 pub mod Causes
 pub mod Laws

@@ -1,7 +1,7 @@
 -- The class of a datagram. It depends only on the secret, the routes' names, visibility and access rules, the datagram
 -- and its arrival time. The order of the tests is our choice.
-use Rattle.std.specs.Prelude.{ℕ, Bool, ◌-◌, ◌/◌, ◌^◌, List, Option, None, Some, is_some, not, Result, Ok, Err, nat_le, nat_lt, ◌==◌, ◌++◌}
-use Rattle.std.specs.Prelude.{◌&&◌, ◌||◌, if◌then◌else◌}
+use Rattle.std.specs.Prelude.{ℕ, Bool, false, ◌-◌, ◌/◌, ◌^◌, List, Option, None, Some, is_some, not, Result, Ok, Err, nat_le, nat_lt, ◌==◌, ◌++◌}
+use Rattle.std.specs.Prelude.{slice_get, ◌&&◌, ◌||◌, if◌then◌else◌}
 use Rattle.srt_types.specs.declared.shared.Peer.{Peer}
 use Rattle.srt_types.specs.declared.shared.Role.{Role}
 use Rattle.srt_types.specs.Items.{Datagram}
@@ -20,6 +20,7 @@ use Rattle.srt_hs.specs.declared.refusal_codes.RefusalCode.{RefusalCode}
 use Rattle.srt_hs.specs.declared.refusal_codes.RefusalCode.TheVariants as codes
 use Rattle.srt_hs.specs.Grammar.{Handshake}
 use Rattle.srt_hs.specs.Reading.{handshake_in}
+use Rattle.srt_hs.specs.KeyRequest.{Asked, key_request_in}
 use Rattle.srt_hs.specs.Text.{answer_text}
 use Rattle.srt_streamid.specs.declared.reading.Ask.{Ask}
 use Rattle.srt_streamid.specs.declared.reading.AskFault.{AskFault}
@@ -28,7 +29,9 @@ use Rattle.srt_cookie.specs.Cookie.{cookie_of, is_right, minute_of}
 use Rattle.srt_lobby.specs.declared.classes.Class.{Class}
 use Rattle.srt_lobby.specs.declared.classes.Class.TheVariants.{Answer, Route, Dropped}
 use Rattle.srt_lobby.specs.declared.classes.Cause.TheVariants as causes
-use Rattle.srt_lobby.specs.Names.{RouteName, index_of, is_shown_at, knows_caller_at, admits_caller_at}
+use Rattle.srt_lobby.specs.declared.names.RequestedRole.{RequestedRole}
+use Rattle.srt_lobby.specs.Names.{RouteName, index_of, is_shown_at, knows_caller_at, admits_caller, secures}
+use Rattle.srt_lobby.specs.Keys.{has_keys}
 
 -- the 64 bytes of an answer: a handshake packet (section 3.2) with timestamp 0, to the caller's socket
 abbrev pub answer_bytes : (id : ℕ) → HsAnswer → List ℕ
@@ -42,61 +45,88 @@ answered hs what = Answer (answer_bytes hs.id (record { initial = hs.initial; wh
 abbrev pub refused : Handshake → RefusalCode → Class
 refused hs code = answered hs (answers.Refusal code)
 
--- the first reason to refuse a conclusion that doesn't depend on the requested route: not version 5, an initial number
--- that isn't below 2^31 or no HSREQ, encryption, a packet filter, a connection group (section 4.3, table 7)
-unfoldable pub reason_of : Handshake → Option RefusalCode
-reason_of hs =
+-- the first reason to refuse a conclusion that depends on nothing of the requested role but whether it is secured: not
+-- version 5, an initial number that isn't below 2^31 or no HSREQ, keys for a role that isn't secured, a packet filter, a
+-- connection group (section 4.3, table 7)
+unfoldable pub reason_of : (secured : Bool) → Handshake → Option RefusalCode
+reason_of secured hs =
     if not (hs.version == 5) then Some codes.Version
     else if nat_le (2 ^ 31) hs.initial || not (is_some hs.blocks.hsreq) then Some codes.Rogue
-    else if hs.blocks.has_kmreq then Some codes.Unsecure
+    else if not secured && hs.blocks.has_kmreq then Some codes.Unsecure
     else if hs.blocks.has_filter then Some codes.Filter
     else if hs.blocks.has_group then Some codes.Group
     else None
 
--- this route, if it admits the caller in this role with this key
-abbrev pub admitted : (names : List RouteName) → Peer → Role → (brought : Option (List ℕ)) → Option ℕ → Option ℕ
-admitted names peer role brought (Some r) = if admits_caller_at names r peer role brought then Some r else None
-admitted names peer role brought None = None
+-- this role, of the route with this index
+abbrev pub role_of : Role → Option ℕ → Option RequestedRole
+role_of role (Some r) = Some (record { role = role; route = r })
+role_of role None = None
 
--- the index of the visible route that a Stream ID requests, if the route admits the caller in the requested role; from
--- the result of reading the Stream ID
-abbrev pub route_named : (names : List RouteName) → Peer → (bytes : List ℕ) → Result Ask AskFault → Option ℕ
-route_named names peer bytes (Ok ask) = admitted names peer ask.role (key_of bytes) (index_of names (name_of bytes ask))
-route_named names peer bytes (Err fault) = None
+-- the role of a visible route that a Stream ID requests, from the result of reading it
+abbrev pub role_named : (names : List RouteName) → (bytes : List ℕ) → Result Ask AskFault → Option RequestedRole
+role_named names bytes (Ok ask) = role_of ask.role (index_of names (name_of bytes ask))
+role_named names bytes (Err fault) = None
 
--- the index of the visible route that a Stream ID requests, if there is one that admits the caller (appendix B)
-abbrev pub route_requested : (names : List RouteName) → Peer → Option (List ℕ) → Option ℕ
-route_requested names peer (Some bytes) = route_named names peer bytes (ask_in bytes)
-route_requested names peer None = None
+-- the role of a visible route that a Stream ID requests, if there is one (appendix B)
+abbrev pub role_requested : (names : List RouteName) → Option (List ℕ) → Option RequestedRole
+role_requested names (Some bytes) = role_named names bytes (ask_in bytes)
+role_requested names None = None
 
--- the class of a conclusion: for the route with this index; without one it is refused with 1002
-abbrev pub by_route : Handshake → Option ℕ → Class
-by_route hs (Some r) = Route r
-by_route hs None = refused hs codes.Peer
+-- the key in a Stream ID, if it has one
+abbrev pub key_brought : Option (List ℕ) → Option (List ℕ)
+key_brought (Some bytes) = key_of bytes
+key_brought None = None
 
--- the class of a conclusion: refused for this reason; without one it depends on the requested route
-abbrev pub by_reason : (names : List RouteName) → Peer → Handshake → Option RefusalCode → Class
-by_reason names peer hs (Some code) = refused hs code
-by_reason names peer hs None = by_route hs (route_requested names peer hs.blocks.stream_id)
+-- whether there is a requested role, and it is secured
+abbrev pub is_secured_role : (names : List RouteName) → Option RequestedRole → Bool
+is_secured_role names (Some requested) = secures requested.role (slice_get names requested.route)
+is_secured_role names None = false
 
--- the class of a conclusion with a valid cookie
-unfoldable pub of_conclusion : (names : List RouteName) → Peer → Handshake → Class
-of_conclusion names peer hs = by_reason names peer hs (reason_of hs)
+-- the class of a conclusion that a route admits: for this route, or refused with 1011 for its keys
+abbrev pub if_keyed : (keyed : Bool) → Handshake → (r : ℕ) → Class
+if_keyed keyed hs r = if keyed then Route r else refused hs codes.Unsecure
+
+-- the class of a conclusion for this role of a route, with these KMREQ blocks and this key
+abbrev pub of_role : Peer → (keys : Asked) → Handshake → (brought : Option (List ℕ)) → RequestedRole → Option RouteName → Class
+of_role peer keys hs brought requested name =
+    if admits_caller peer requested.role brought name
+    then if_keyed (has_keys requested.role keys name) hs requested.route else refused hs codes.Peer
+
+-- the class of a conclusion for the requested role; without one it is refused with 1002
+abbrev pub by_role : (names : List RouteName) → Peer → (keys : Asked) → Handshake → (brought : Option (List ℕ)) → Option RequestedRole → Class
+by_role names peer keys hs brought (Some requested) = of_role peer keys hs brought requested (slice_get names requested.route)
+by_role names peer keys hs brought None = refused hs codes.Peer
+
+-- the class of a conclusion: refused for this reason; without one this other class
+abbrev pub by_reason : Handshake → Option RefusalCode → (other : Class) → Class
+by_reason hs (Some code) other = refused hs code
+by_reason hs None other = other
+
+-- the class of a conclusion that requests this role with this key
+abbrev pub of_request : (names : List RouteName) → Peer → (keys : Asked) → Handshake → (brought : Option (List ℕ)) → Option RequestedRole → Class
+of_request names peer keys hs brought requested =
+    by_reason hs (reason_of (is_secured_role names requested) hs) (by_role names peer keys hs brought requested)
+
+-- the class of a conclusion with a valid cookie and these KMREQ blocks
+unfoldable pub of_conclusion : (names : List RouteName) → Peer → (keys : Asked) → Handshake → Class
+of_conclusion names peer keys hs =
+    of_request names peer keys hs (key_brought hs.blocks.stream_id) (role_requested names hs.blocks.stream_id)
 
 -- the class of a handshake of this type (section 4.3.1)
-abbrev pub by_kind : (secret : List ℕ) → (names : List RouteName) → Peer → (moment : ℕ) → Handshake → HsKind → Class
-by_kind secret names peer moment hs kinds.Induction = answered hs (answers.Induction (cookie_of secret peer (minute_of moment)))
-by_kind secret names peer moment hs kinds.Conclusion = if is_right secret peer moment hs.cookie then of_conclusion names peer hs else Dropped causes.WrongCookie
-by_kind secret names peer moment hs _ = Dropped causes.WrongKind
+abbrev pub by_kind : (secret : List ℕ) → (names : List RouteName) → Peer → (moment : ℕ) → (keys : Asked) → Handshake → HsKind → Class
+by_kind secret names peer moment keys hs kinds.Induction = answered hs (answers.Induction (cookie_of secret peer (minute_of moment)))
+by_kind secret names peer moment keys hs kinds.Conclusion =
+    if is_right secret peer moment hs.cookie then of_conclusion names peer keys hs else Dropped causes.WrongCookie
+by_kind secret names peer moment keys hs _ = Dropped causes.WrongKind
 
--- the class of a handshake, from the result of reading it
-abbrev pub of_handshake : (secret : List ℕ) → (names : List RouteName) → Peer → (moment : ℕ) → Result Handshake HsFault → Class
-of_handshake secret names peer moment (Ok hs) = by_kind secret names peer moment hs hs.kind
-of_handshake secret names peer moment (Err fault) = Dropped causes.Handshake
+-- the class of a handshake with these KMREQ blocks, from the result of reading it
+abbrev pub of_handshake : (secret : List ℕ) → (names : List RouteName) → Peer → (moment : ℕ) → (keys : Asked) → Result Handshake HsFault → Class
+of_handshake secret names peer moment keys (Ok hs) = by_kind secret names peer moment keys hs hs.kind
+of_handshake secret names peer moment keys (Err fault) = Dropped causes.Handshake
 
 -- the class of a packet with destination 0, which has to be a handshake
 abbrev pub of_body : (secret : List ℕ) → (names : List RouteName) → Peer → (moment : ℕ) → Body → Class
-of_body secret names peer moment (packets.Handshake info) = of_handshake secret names peer moment (handshake_in info)
+of_body secret names peer moment (packets.Handshake info) = of_handshake secret names peer moment (key_request_in info) (handshake_in info)
 of_body secret names peer moment _ = Dropped causes.NotHandshake
 
 -- the class of a packet for a visible route: the route's, if one of its lists contains the caller's address

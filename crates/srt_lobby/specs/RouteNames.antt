@@ -3,7 +3,7 @@ use Rattle.std.specs.Prelude.{◌≡◌, ℕ, Bool, true, false, List, Option, p
 use Rattle.std.specs.Str.{bytes_eq}
 use Rattle.srt_types.specs.declared.shared.Peer.{Peer}
 use Rattle.srt_types.specs.declared.shared.Role.{Role}
-use Rattle.srt_types.specs.Access.{AccessTerms, in_role, admits, knows}
+use Rattle.srt_types.specs.Access.{AccessTerms, in_role, admits, knows, is_secured}
 use Rattle.srt_types.specs.Terms.{Terms}
 
 -- the name of a route, whether the route is visible, and its access rules; only visible routes receive datagrams
@@ -76,6 +76,7 @@ abbrev pub admits_caller : Peer → Role → (brought : Option (List ℕ)) → O
 admits_caller peer role brought (Some name) = admits (in_role name.access role) peer brought
 admits_caller peer role brought None = false
 
--- whether there is a route with this index, and it admits the caller in this role with this key
-abbrev pub admits_caller_at : (names : List RouteName) → (r : ℕ) → Peer → Role → (brought : Option (List ℕ)) → Bool
-admits_caller_at names r peer role brought = admits_caller peer role brought (slice_get names r)
+-- whether there is a route, and its role is secured
+abbrev pub secures : Role → Option RouteName → Bool
+secures role (Some name) = is_secured (in_role name.access role)
+secures role None = false

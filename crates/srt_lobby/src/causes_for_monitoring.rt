@@ -13,7 +13,7 @@ ghost use Rattle.srt_lobby.specs.Causes.{cause_in_role, cause_by_index, cause_by
 ghost use Rattle.srt_lobby.specs.Causes.{cause_by_handshake, cause_by_packet, cause_of};
 
 use crate::Names;
-use crate::lobby::reason;
+use crate::lobby::{reason, requests_secured};
 use srt_hs::{HsRef, stream_id};
 use srt_packet::{Kind, PacketRef, decode};
 use srt_types::{NotAdmitted, Peer, Role, RoleAccess};
@@ -77,7 +77,7 @@ fn cause_by_stream_id(names: &Names, peer: Peer, hs: &HsRef<'_>) -> Option<NotAd
 fn cause_of_conclusion(names: &Names, peer: Peer, hs: &HsRef<'_>) -> Option<NotAdmitted>
     ensures { result ≡ cause_of_conclusion (names_of names.now) peer (handshake_of hs.now) }
 {
-    match reason(hs) {
+    match reason(hs, requests_secured(names, hs)) {
         Some(_) => None,
         None => cause_by_stream_id(names, peer, hs),
     }

@@ -3,7 +3,7 @@
 ghost use Rattle.srt_lobby.specs.Changing.{AddingKeepsNames, HidingKeepsNames, ShowingKeepsNames, AddingKeepsOthers, HidingKeepsOthers};
 ghost use Rattle.srt_lobby.specs.Changing.{ShowingKeepsOthers, HiddenHasNone, DistinctAreUnused, HiddenChangeNothing};
 ghost use Rattle.srt_lobby.specs.Laws.{NamesAreDistinct, RouteIsItsOwn, RouteIsNamed, RouteIsShown, RouteHasHeader, AnswerIsPacket};
-ghost use Rattle.srt_lobby.specs.Laws.{RouteIsForCallers};
+ghost use Rattle.srt_lobby.specs.Laws.{RouteIsForCallers, RouteIsKeyed};
 ghost use Rattle.srt_lobby.specs.Causes.{CauseRefuses, RefusalHasCause};
 
 /// Entries that can be opened have distinct names.
@@ -26,8 +26,14 @@ pub fn callers()
     ensures { RouteIsForCallers }
 {}
 
+/// A conclusion for a route's secured role has exactly one KMREQ block, with keys of the length that the route requires. One
+/// for another role has none.
+pub fn keys()
+    ensures { RouteIsKeyed }
+{}
+
 /// A conclusion with a valid cookie is refused with 1002 if there is a cause. If there is none, and no other reason to
-/// refuse it, it is for a route.
+/// refuse it, it is for a route, or refused with 1011 for its keys.
 pub fn refusals()
     ensures refuses { CauseRefuses }
     ensures caused { RefusalHasCause }

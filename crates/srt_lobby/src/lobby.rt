@@ -1,24 +1,27 @@
 //! The classification of a datagram, test by test (section 4.3.1; the order is our choice).
 
-ghost use Rattle.std.specs.Prelude.{◌≡◌, ℕ, ◌^◌, ◌<◌, ◌≤◌, [], length};
+ghost use Rattle.std.specs.Prelude.{◌≡◌, ℕ, ◌^◌, ◌<◌, ◌≤◌, [], length, slice_get};
 ghost use Rattle.srt_types.specs.Items.{Datagram};
 ghost use Rattle.srt_packet.specs.View.{packet_of};
 ghost use Rattle.srt_packet.specs.Reading.{packet_in};
 ghost use Rattle.srt_hs.specs.Text.{blocks_text};
 ghost use Rattle.srt_hs.specs.View.{handshake_of};
+ghost use Rattle.srt_hs.specs.KeyRequest.{key_request_in};
 ghost use Rattle.srt_hs.specs.Reading.{handshake_in};
 ghost use Rattle.srt_streamid.specs.Reading.{ask_in, key_of};
 ghost use Rattle.srt_cookie.specs.Cookie.{secret_bytes};
 ghost use Rattle.srt_lobby.specs.Names.{names_of, knows_caller_at};
-ghost use Rattle.srt_lobby.specs.Lobby.{answer_bytes, answered as is_answered, refused as is_refused, reason_of, admitted, route_named, route_requested};
-ghost use Rattle.srt_lobby.specs.Lobby.{if_known};
+ghost use Rattle.srt_lobby.specs.Lobby.{answer_bytes, answered as is_answered, refused as is_refused, reason_of, role_named, is_secured_role};
+ghost use Rattle.srt_lobby.specs.Lobby.{of_role, of_request, if_known};
+ghost use Rattle.srt_lobby.specs.Causes.{requests_secured};
 ghost use Rattle.srt_lobby.specs.Lobby.{by_kind, of_conclusion, of_handshake, of_body, to_session, of_packet, class_of};
 
+use crate::names::RequestedRole;
 use crate::{Cause, Class, Names};
 use srt_cookie::{Secret, cookie, minute_of, right};
 use srt_hs::{AnswerKind, HsAnswer, HsKind, HsRef, RefusalCode, stream_id, write};
 use srt_packet::{Kind, PacketRef, decode};
-use srt_types::{Peer, Role, write_at};
+use srt_types::{Peer, write_at};
 
 /// Returns the 64 bytes of a handshake packet with this answer, to the caller's socket `id`, with timestamp 0.
 fn answer(id: u32, initial: u32, what: AnswerKind) -> [u8; 64]
@@ -48,19 +51,19 @@ fn refused(hs: &HsRef<'_>, code: RefusalCode) -> Class
     answered(hs, AnswerKind::Refusal(code))
 }
 
-/// Returns the first reason to refuse a conclusion that doesn't depend on the requested route (section 4.3, table 7).
-/// In order: 1008 (SRT_REJ_VERSION) if the version isn't 5; 1004 (SRT_REJ_ROGUE) if the initial sequence number isn't
-/// below 2^31 or there is no HSREQ; 1011 (SRT_REJ_UNSECURE) for a KMREQ, since there is no encryption; 1014
-/// (SRT_REJ_FILTER) for a packet filter; 1015 (SRT_REJ_GROUP) for a connection group.
+/// Returns the first reason to refuse a conclusion that depends on nothing of the requested role but whether it is secured
+/// (section 4.3, table 7). In order: 1008 (SRT_REJ_VERSION) if the version isn't 5; 1004 (SRT_REJ_ROGUE) if the initial
+/// sequence number isn't below 2^31 or there is no HSREQ; 1011 (SRT_REJ_UNSECURE) for a KMREQ, unless the role is secured;
+/// 1014 (SRT_REJ_FILTER) for a packet filter; 1015 (SRT_REJ_GROUP) for a connection group.
 #[tactic(auto, unfolding(crate::specs::Lobby::reason_of))]
-pub(crate) fn reason(hs: &HsRef<'_>) -> Option<RefusalCode>
-    ensures { result ≡ reason_of (handshake_of hs.now) }
+pub(crate) fn reason(hs: &HsRef<'_>, secured: bool) -> Option<RefusalCode>
+    ensures { result ≡ reason_of secured (handshake_of hs.now) }
 {
     if hs.version != 5 {
         Some(RefusalCode::Version)
     } else if hs.initial >= 1 << 31 || hs.blocks.hsreq.is_none() {
         Some(RefusalCode::Rogue)
-    } else if hs.blocks.has_kmreq {
+    } else if !secured && hs.blocks.has_kmreq {
         Some(RefusalCode::Unsecure)
     } else if hs.blocks.has_filter {
         Some(RefusalCode::Filter)
@@ -71,68 +74,110 @@ pub(crate) fn reason(hs: &HsRef<'_>) -> Option<RefusalCode>
     }
 }
 
-/// Returns this route if it admits the caller in this role with this Stream ID; None if it doesn't or if there is no
+/// Returns the role of a visible route that a Stream ID requests (appendix B); None if it has a fault, or names no visible
 /// route.
-fn admitted(
-    names: &Names,
-    peer: Peer,
-    role: Role,
-    bytes: &[u8],
-    found: Option<usize>,
-) -> Option<usize>
-    ensures { result ≡ admitted (names_of names.now) peer role (key_of bytes.now) found }
-{
-    let route = found?;
-    if names.admits(route, peer, role, bytes) {
-        Some(route)
-    } else {
-        None
-    }
-}
-
-/// Returns the index of the route that a Stream ID requests (appendix B); None if it has a fault, names no route, or
-/// names one that doesn't admit the caller.
-fn route_by_text(names: &Names, peer: Peer, bytes: &[u8]) -> Option<usize>
-    ensures { result ≡ route_named (names_of names.now) peer bytes.now (ask_in bytes.now) }
+fn role_named(names: &Names, bytes: &[u8]) -> Option<RequestedRole>
+    ensures { result ≡ role_named (names_of names.now) bytes.now (ask_in bytes.now) }
 {
     match srt_streamid::read(bytes) {
         Ok(ask) => {
-            let found = names.find(&bytes[ask.start..ask.start + ask.len]);
-            admitted(names, peer, ask.role, bytes, found)
+            let route = names.find(&bytes[ask.start..ask.start + ask.len])?;
+            Some(RequestedRole {
+                role: ask.role,
+                route,
+            })
         }
         Err(_) => None,
     }
 }
 
-/// Returns the index of the route that a conclusion requests; None also if it has no Stream ID.
-fn route_of(names: &Names, peer: Peer, hs: &HsRef<'_>) -> Option<usize>
-    ensures { result ≡ route_requested (names_of names.now) peer (handshake_of hs.now).blocks.stream_id }
+/// Whether there is a requested role, and it is secured.
+fn is_secured_role(names: &Names, requested: Option<RequestedRole>) -> bool
+    ensures { result ≡ is_secured_role (names_of names.now) requested }
 {
-    let mut text = [0; 512];
-    match stream_id(hs, &mut text) {
-        Some(len) => route_by_text(names, peer, &text[..len]),
-        None => None,
+    match requested {
+        Some(requested) => names.is_secured(requested),
+        None => false,
     }
 }
 
-/// Returns the class of a conclusion with a valid cookie: refused for `reason`; refused with 1002 (SRT_REJ_PEER) if it
-/// has no Stream ID, one with a fault, or a name that no visible route has, or if the route doesn't admit the caller;
-/// else for the named route.
-#[tactic(auto, unfolding(crate::specs::Lobby::of_conclusion))]
-fn of_conclusion(names: &Names, peer: Peer, hs: &HsRef<'_>) -> Class
-    ensures { result ≡ of_conclusion (names_of names.now) peer (handshake_of hs.now) }
+/// Whether the Stream ID of a conclusion requests a secured role of a visible route.
+pub(crate) fn requests_secured(names: &Names, hs: &HsRef<'_>) -> bool
+    ensures { result ≡ requests_secured (names_of names.now) (handshake_of hs.now).blocks.stream_id }
 {
-    if let Some(code) = reason(hs) {
+    let mut text = [0; 512];
+    match stream_id(hs, &mut text) {
+        Some(len) => is_secured_role(names, role_named(names, &text[..len])),
+        None => false,
+    }
+}
+
+/// Returns the class of a conclusion for this role, with the Stream ID `bytes`: for the route; refused with 1002
+/// (SRT_REJ_PEER) if it doesn't admit the caller, or with 1011 (SRT_REJ_UNSECURE) if the role is secured, and the
+/// conclusion hasn't exactly one KMREQ block with keys of the required length. `info` is the handshake.
+fn of_role(
+    names: &Names,
+    peer: Peer,
+    info: &[u8],
+    hs: &HsRef<'_>,
+    bytes: &[u8],
+    requested: RequestedRole,
+) -> Class
+    ensures { result ≡ of_role peer (key_request_in info.now) (handshake_of hs.now) (key_of bytes.now) requested
+        (slice_get (names_of names.now) requested.route) }
+{
+    if !names.admits(requested, peer, bytes) {
+        return refused(hs, RefusalCode::Peer);
+    }
+    if names.has_keys(requested, info) {
+        Class::Route(requested.route)
+    } else {
+        refused(hs, RefusalCode::Unsecure)
+    }
+}
+
+/// Returns the class of a conclusion with the Stream ID `bytes`: refused for a reason; refused with 1002 if they request no
+/// role of a visible route; else that for this role. `info` is the handshake.
+fn of_stream_id(names: &Names, peer: Peer, info: &[u8], hs: &HsRef<'_>, bytes: &[u8]) -> Class
+    ensures { result ≡ of_request (names_of names.now) peer (key_request_in info.now) (handshake_of hs.now) (key_of bytes.now)
+        (role_named (names_of names.now) bytes.now (ask_in bytes.now)) }
+{
+    let requested = role_named(names, bytes);
+    if let Some(code) = reason(hs, is_secured_role(names, requested)) {
         return refused(hs, code);
     }
-    match route_of(names, peer, hs) {
-        Some(route) => Class::Route(route),
+    match requested {
+        Some(requested) => of_role(names, peer, info, hs, bytes, requested),
         None => refused(hs, RefusalCode::Peer),
     }
 }
 
-fn of_handshake(secret: &Secret, names: &Names, peer: Peer, moment: u64, hs: &HsRef<'_>) -> Class
-    ensures { result ≡ by_kind (secret_bytes secret.now) (names_of names.now) peer moment (handshake_of hs.now) hs.now.kind }
+/// Returns the class of a conclusion with a valid cookie: that for its Stream ID. Without one it is refused for a reason,
+/// or with 1002. `info` is the handshake.
+#[tactic(auto, unfolding(crate::specs::Lobby::of_conclusion))]
+fn of_conclusion(names: &Names, peer: Peer, info: &[u8], hs: &HsRef<'_>) -> Class
+    ensures { result ≡ of_conclusion (names_of names.now) peer (key_request_in info.now) (handshake_of hs.now) }
+{
+    let mut text = [0; 512];
+    match stream_id(hs, &mut text) {
+        Some(len) => of_stream_id(names, peer, info, hs, &text[..len]),
+        None => match reason(hs, false) {
+            Some(code) => refused(hs, code),
+            None => refused(hs, RefusalCode::Peer),
+        },
+    }
+}
+
+/// Returns the class of a handshake with destination 0. `info` is the handshake too.
+fn of_handshake(
+    secret: &Secret,
+    names: &Names,
+    peer: Peer,
+    moment: u64,
+    info: &[u8],
+    hs: &HsRef<'_>,
+) -> Class
+    ensures { result ≡ by_kind (secret_bytes secret.now) (names_of names.now) peer moment (key_request_in info.now) (handshake_of hs.now) hs.now.kind }
 {
     match hs.kind {
         HsKind::Induction => {
@@ -141,7 +186,7 @@ fn of_handshake(secret: &Secret, names: &Names, peer: Peer, moment: u64, hs: &Hs
         }
         HsKind::Conclusion => {
             if right(secret, peer, moment, hs.cookie) {
-                of_conclusion(names, peer, hs)
+                of_conclusion(names, peer, info, hs)
             } else {
                 Class::Dropped(Cause::WrongCookie)
             }
@@ -153,10 +198,10 @@ fn of_handshake(secret: &Secret, names: &Names, peer: Peer, moment: u64, hs: &Hs
 /// Returns the class of a handshake packet with destination 0, from the bytes after its header.
 #[inline(never)]
 fn of_info(secret: &Secret, names: &Names, peer: Peer, moment: u64, info: &[u8]) -> Class
-    ensures { result ≡ of_handshake (secret_bytes secret.now) (names_of names.now) peer moment (handshake_in info.now) }
+    ensures { result ≡ of_handshake (secret_bytes secret.now) (names_of names.now) peer moment (key_request_in info.now) (handshake_in info.now) }
 {
     match srt_hs::read(info) {
-        Ok(hs) => of_handshake(secret, names, peer, moment, &hs),
+        Ok(hs) => of_handshake(secret, names, peer, moment, info, &hs),
         Err(_) => Class::Dropped(Cause::Handshake),
     }
 }

@@ -4,16 +4,27 @@ ghost use Rattle.std.specs.Prelude.{◌≡◌, ◌+◌, ◌<◌, ◌≤◌, leng
 ghost use Rattle.std.specs.Map.{set_value};
 ghost use Rattle.indexmap.specs.IndexMap.{spare};
 ghost use Rattle.std.specs.Str.{bytes_eq};
-ghost use Rattle.srt_types.specs.Access.{role_access_of, admits};
+ghost use Rattle.srt_types.specs.Access.{role_access_of, access_of, admits};
+ghost use Rattle.srt_hs.specs.KeyRequest.{key_request_in};
 ghost use Rattle.srt_streamid.specs.Reading.{key_of};
+ghost use Rattle.srt_lobby.specs.Keys.{has_keys_in};
 ghost use Rattle.srt_lobby.specs.Tables.{name_in, index_in, Enters, HasShown, HasNamed, HasTexts};
 
 use crate::entry_faults::fault;
 use crate::new_name::NewName;
 use indexmap::IndexMap;
+use srt_hs::{KeyRequest, key_request, read_key_message};
 use srt_types::product_limits::MAX_ROUTES;
 use srt_types::{Access, Entry, OpenFault, Peer, Role, RoleAccess, is_name};
 use std::alloc::{AllocError, Global};
+
+/// A role that a Stream ID requests, of a visible route.
+#[derive(Clone, Copy)]
+pub(crate) struct RequestedRole {
+    pub(crate) role: Role,
+    /// The route's index.
+    pub(crate) route: usize,
+}
 
 /// The name of a route, whether the route is visible, and its access rules. Only visible routes receive datagrams.
 #[derive(Drop)]
@@ -77,13 +88,32 @@ fn is_admitted(access: &RoleAccess, peer: Peer, bytes: &[u8]) -> bool
     access.is_right_key(srt_streamid::key(bytes))
 }
 
+/// Whether the KMREQ blocks of a conclusion are right for a role: for a secured one exactly one, which has keys of the
+/// required length. `info` is the handshake, the bytes after the packet's header.
+fn has_keys_in(access: &Access, role: Role, info: &[u8]) -> bool
+    ensures { result ≡ has_keys_in (access_of access.now) role (key_request_in info.now) }
+{
+    if !access.in_role(role).is_secured() {
+        return true;
+    }
+    match key_request(info) {
+        KeyRequest::Missing => false,
+        KeyRequest::One(contents) => match read_key_message(contents) {
+            Ok(message) => access.is_right_length(message.key_length),
+            Err(_) => false,
+        },
+        KeyRequest::Several => false,
+    }
+}
+
 impl Names {
-    ghost use Rattle.std.specs.Prelude.{◌↔◌, ◌++◌, ◌∷◌, [], true, None, Some, Err, IsTrue, IfOk, IfErr, OnOk, OnErr};
+    ghost use Rattle.std.specs.Prelude.{◌↔◌, ◌++◌, ◌∷◌, [], true, None, Some, Err, IsTrue, IfOk, IfErr, OnOk, OnErr, slice_get};
     ghost use Rattle.srt_types.specs.declared.shared.OpenFault.{OpenFault as TheFault};
     ghost use Rattle.srt_types.specs.Terms.{terms_of};
     ghost use Rattle.srt_lobby.specs.Opening.{are_names, fault_of};
     ghost use Rattle.srt_lobby.specs.Names.{as_shown, name_of, names_of, new_name, index_of, is_shown_at};
-    ghost use Rattle.srt_lobby.specs.Names.{knows_caller_at, admits_caller_at};
+    ghost use Rattle.srt_lobby.specs.Names.{knows_caller_at, admits_caller, secures};
+    ghost use Rattle.srt_lobby.specs.Keys.{has_keys};
     ghost use Rattle.srt_streamid.specs.Reading.{key_of};
     ghost use Rattle.srt_lobby.specs.Changing.{fault_of_name, fault_of_adding, added, hidden_at, shown_at, IsUnused};
 
@@ -187,11 +217,32 @@ impl Names {
 
     /// Whether there is a route with this index that admits the caller in this role with this Stream ID. Linear in the
     /// number of networks, and in the length of the Stream ID if the role has a key. Doesn't allocate.
-    pub(crate) fn admits(&self, r: usize, peer: Peer, role: Role, bytes: &[u8]) -> bool
-        ensures { result ≡ admits_caller_at (names_of self.now) r peer role (key_of bytes.now) }
+    pub(crate) fn admits(&self, requested: RequestedRole, peer: Peer, bytes: &[u8]) -> bool
+        ensures { result ≡ admits_caller peer requested.role (key_of bytes.now) (slice_get (names_of self.now) requested.route) }
     {
-        match self.routes.get(r) {
-            Some(route) => is_admitted(route.access.in_role(role), peer, bytes),
+        match self.routes.get(requested.route) {
+            Some(route) => is_admitted(route.access.in_role(requested.role), peer, bytes),
+            None => false,
+        }
+    }
+
+    /// Whether there is a route with this index, and the role is secured. Doesn't allocate.
+    pub(crate) fn is_secured(&self, requested: RequestedRole) -> bool
+        ensures { result ≡ secures requested.role (slice_get (names_of self.now) requested.route) }
+    {
+        match self.routes.get(requested.route) {
+            Some(route) => route.access.in_role(requested.role).is_secured(),
+            None => false,
+        }
+    }
+
+    /// Whether there is a route with this index, and the KMREQ blocks of a conclusion are right for the role. `info` is
+    /// the handshake, the bytes after the packet's header. Linear in the number of blocks. Doesn't allocate.
+    pub(crate) fn has_keys(&self, requested: RequestedRole, info: &[u8]) -> bool
+        ensures { result ≡ has_keys requested.role (key_request_in info.now) (slice_get (names_of self.now) requested.route) }
+    {
+        match self.routes.get(requested.route) {
+            Some(route) => has_keys_in(&route.access, requested.role, info),
             None => false,
         }
     }

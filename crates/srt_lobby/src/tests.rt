@@ -5,6 +5,7 @@ ghost use Rattle.std.specs.Prelude.{◌^◌, ◌<◌};
 
 mod appending;
 mod causes;
+mod keys;
 
 use crate::{Cause, Class, Names, classify};
 use srt_cookie::Secret;

@@ -88,7 +88,7 @@ pub struct RoleAccess {
     /// The key that a Stream ID must have: 1 to 64 bytes.
     pub key: Option<String>,
     /// The passphrase of encrypted sessions: 10 to 79 bytes. If present, a conclusion must bring keys that are wrapped
-    /// under it, and the role is *secured*; otherwise none is admitted that brings keys (section 6.1.4).
+    /// under it, and the role is *secured*; otherwise none is admitted that brings keys (section 3.2.2).
     pub passphrase: Option<String>,
 }
 
