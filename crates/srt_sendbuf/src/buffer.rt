@@ -167,6 +167,14 @@ impl SendBuf {
         flying as u32
     }
 
+    /// Returns the number of payloads that are queued and neither acknowledged nor expired. O(1).
+    pub fn stored(&self) -> u32
+        ensures { ForWhatever self.now (λ width initial r. result ≡ length r.queue - front r) }
+    {
+        let stored = self.ring.len();
+        stored as u32
+    }
+
     /// Whether all queued payloads are acknowledged. O(1).
     pub fn is_all_acknowledged(&self) -> bool
         ensures { ForWhatever self.now (λ width initial r. result ≡ is_all_acknowledged r) }
