@@ -10,3 +10,4 @@ pub mod Rows
 pub mod Credits
 pub mod Doubling
 pub mod Tries
+pub mod Waiting

@@ -11,4 +11,5 @@ pub mod Fresh
 pub mod EventPackets
 pub mod ResendLimit
 pub mod Tries
+pub mod Held
 pub mod inside

@@ -1,9 +1,9 @@
 //! The state that a session keeps of its events, including the values that an ACK reports (draft-sharabayko-srt-01,
 //! section 3.2.4). Times are microseconds since the opening.
 
-ghost use Rattle.std.specs.Prelude.{◌≡◌, ℕ, [], ◌++◌};
+ghost use Rattle.std.specs.Prelude.{◌≡◌, ℕ, [], ◌∷◌, ◌++◌};
 ghost use Rattle.srt_sub.specs.Heard.{more_of};
-ghost use Rattle.srt_sub.specs.Subscribing.{Terms, grown, sampled};
+ghost use Rattle.srt_sub.specs.Subscribing.{Terms, Opened, grown, sampled};
 
 use crate::counts::Sendings;
 use crate::credit::Credit;
@@ -85,6 +85,13 @@ impl History {
             return;
         }
         self.credit.renew();
+    }
+
+    /// Records that the flow window is this many packets from now on.
+    pub fn open(&mut self, window: u32)
+        ensures { NotesBecome self.old self.new (λ notes. Opened window ∷ notes) }
+    {
+        self.window = window;
     }
 
     /// Records whether an ACK acknowledged more than all earlier ones.

@@ -4,6 +4,7 @@ ghost use Rattle.srt_sub.specs.Emission.{EmissionBegins, StandsLater};
 ghost use Rattle.srt_sub.specs.ResendLimit.{KeepsResendLimit};
 ghost use Rattle.srt_sub.specs.EventPackets.{SendsAtMost66};
 ghost use Rattle.srt_sub.specs.Fresh.{ExpiresOnce};
+ghost use Rattle.srt_sub.specs.Held.{HoldsNewOnes};
 ghost use Rattle.srt_sub.specs.Tries.{ResendsAllOnce, CountsTries, WaitsLongEnough, IsStillInSilence, ResendsAtEachTimeout};
 
 use crate::Subscriber;
@@ -39,4 +40,9 @@ pub fn resends_of_all()
 /// more (our choice).
 pub fn resends_all_once(subscriber: &Subscriber)
     ensures { ResendsAllOnce subscriber.now }
+{}
+
+/// A session that is held sends what it sends otherwise, but for new packets beyond the bound (our choice).
+pub fn holding()
+    ensures { HoldsNewOnes }
 {}

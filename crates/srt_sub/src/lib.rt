@@ -14,7 +14,8 @@
 //!
 //! Files: `feeding.rt` has the rules for feeding and the too-late drop; `hearing.rt` for ACK, NAK and SHUTDOWN;
 //! `event_packets.rt` for the packets at an event's end and their order; `drop_request.rt` for drop requests;
-//! `resend_all.rt` for resending everything; `credit.rt` for the limit on resends; `keep_alive.rt` for KEEPALIVEs.
+//! `holding.rt` for payloads that wait for a key; `resend_all.rt` for resending everything; `credit.rt` for the limit on
+//! resends; `keep_alive.rt` for KEEPALIVEs.
 //! `history.rt` stores the flow window and other state; `counts.rt` has the counters, and `statistics.rt` the
 //! snapshot; `session.rt` begins a session; `packets.rt` writes packets. `specs/Subscribing.antt` defines what a
 //! session sends, `specs/Says.antt` its bytes, `specs/Counting.antt` its counters, `specs/Tries.antt` how often
@@ -28,6 +29,7 @@ mod event_packets;
 mod feeding;
 mod hearing;
 mod history;
+mod holding;
 mod keep_alive;
 pub mod laws;
 mod packets;

@@ -2,6 +2,8 @@
 
 ghost use Rattle.std.specs.Prelude.{◌^◌, ◌<◌};
 
+mod holding;
+
 use crate::{Counts, Opening, Resending, Sendings, Statistics, Subscriber, Took};
 use arrayvec::ArrayVec;
 use srt_packet::{EncodedPacket, decode};
