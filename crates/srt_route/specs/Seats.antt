@@ -1,5 +1,5 @@
 -- Which seats have a publisher's session.
-use Rattle.std.specs.Prelude.{Bool, true, false, Option, None, Some}
+use Rattle.std.specs.Prelude.{Bool, false, Option, None, Some}
 use Rattle.srt_route.specs.Sessions.{publishes}
 use Rattle.srt_route.specs.Parts.{role_of}
 use Rattle.srt_route.specs.declared.seat.Session.{Session}

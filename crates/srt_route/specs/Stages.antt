@@ -3,6 +3,8 @@ use Rattle.std.specs.Prelude.{◌≡◌, ℕ, ◌+◌, ◌*◌, ◌%◌, ◌<◌
 use Rattle.srt_types.specs.Terms.{Terms}
 use Rattle.srt_route.specs.declared.stage.Stage.{Stage}
 use Rattle.srt_route.specs.declared.stage.Stage.TheVariants.{Open, Closed}
+use Rattle.srt_route.specs.declared.reply_queue.ReplyQueue.{ReplyQueue}
+use Rattle.srt_route.specs.Waits.{IsTrimmed, places_of}
 use Rattle.srt_route.specs.Sessions.{Session, generation_of}
 use Rattle.srt_route.specs.Tables.{IsTable}
 
@@ -20,10 +22,10 @@ abbrev pub Represents : (e : Terms) (index clock : ℕ) → Stage → List Sessi
 Represents e index clock (Open table scratch) sessions = IsTable e index clock table sessions
 Represents e index clock (Closed generations) sessions = AreGenerations e.sessions generations sessions
 
--- an open route's queue has room for all replies to an item; a closed one's has no boxes but those of waiting replies
-abbrev pub HasRoom : Stage → (sessions waiting places : ℕ) → Type 0
-HasRoom (Open table scratch) sessions waiting places = 4 + 66 * sessions ≤ places
-HasRoom (Closed generations) sessions waiting places = places ≡ waiting
+-- an open route's queue has room for all replies to an item; a closed one's has memory for the waiting replies alone
+abbrev pub HasRoom : Stage → (sessions : ℕ) → ReplyQueue → Type 0
+HasRoom (Open table scratch) sessions w = 4 + 66 * sessions ≤ places_of w
+HasRoom (Closed generations) sessions w = IsTrimmed w
 
 -- the number of sessions' buffers that there are: two publishers' and one subscriber's for each slot, or none
 abbrev pub buffers_in : Stage → ℕ

@@ -1,10 +1,10 @@
 -- The abstract route that a route's fields represent.
-use Rattle.std.specs.Prelude.{◌≡◌, ℕ, List, length, map}
+use Rattle.std.specs.Prelude.{◌≡◌, ℕ, List, map}
 use Rattle.srt_types.specs.Terms.{Terms}
 use Rattle.srt_types.specs.Items.{Datagram, Item}
 use Rattle.srt_route.specs.declared.route.Route.{Route as TheRoute}
 use Rattle.srt_route.specs.Written.{written}
-use Rattle.srt_route.specs.Waits.{replies_of, places_of}
+use Rattle.srt_route.specs.Waits.{IsTrimmed, replies_of, places_of}
 use Rattle.srt_route.specs.Route.{Route, after}
 use Rattle.srt_route.specs.Stages.{HasRoom, Represents, buffers_in, is_closed}
 
@@ -20,13 +20,13 @@ places r = places_of r.waiting
 pub record IsRoute (e : Terms) (index : ℕ) (r : TheRoute) (m : Route) : Type 0 where
   pub clock_is : r.clock ≡ m.clock
   pub stage_is : Represents e index r.clock r.stage m.sessions
-  pub room : HasRoom r.stage e.sessions (length (waiting r)) (places r)
+  pub room : HasRoom r.stage e.sessions r.waiting
   pub closed_is : m.is_closed ≡ is_closed r.stage
 
--- route `r` has no sessions' buffers, and no boxes but those of the replies that wait
+-- route `r` has no sessions' buffers, no boxes but those of the replies that wait, and no queue if none waits
 pub record HasGivenBack (r : TheRoute) : Type 0 where
   pub buffers : buffers_in r.stage ≡ 0
-  pub boxes : places r ≡ length (waiting r)
+  pub queue : IsTrimmed r.waiting
 
 -- the state of route `r` is the one that its terms, its index and its items determine; the newest item comes first
 abbrev pub stands : TheRoute → Terms → (index : ℕ) → List Item → Type 0

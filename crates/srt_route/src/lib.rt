@@ -75,6 +75,8 @@ pub use view::{SessionView, Traffic};
 #[cfg(test)]
 mod clock_tests;
 #[cfg(test)]
+mod closing_tests;
+#[cfg(test)]
 mod ledger_tests;
 #[cfg(test)]
 mod resend_tests;

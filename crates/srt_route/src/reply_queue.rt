@@ -52,7 +52,7 @@ impl ReplyQueue {
     ghost use Rattle.srt_route.specs.Buffers.{datagrams_to};
     ghost use Rattle.srt_route.specs.inside.Reports.{Queues};
     ghost use Rattle.srt_route.specs.Tables.{written_of};
-    ghost use Rattle.srt_route.specs.Waits.{replies_of, places_of};
+    ghost use Rattle.srt_route.specs.Waits.{IsTrimmed, replies_of, places_of};
 
     /// Allocates an empty queue with a capacity of `places` replies. No other call allocates.
     pub fn open(alloc: Global, places: usize) -> Result<ReplyQueue, AllocError>
@@ -121,7 +121,7 @@ impl ReplyQueue {
 
     /// The same, but gives back the spare boxes, and the memory of the queue itself with the last reply.
     pub fn next_and_trim(&mut self, place: &mut Box<Reply>) -> bool
-        ensures trimmed { places_of self.old ≡ length (replies_of self.old) → places_of self.new ≡ length (replies_of self.new) }
+        ensures trimmed { IsTrimmed self.old → IsTrimmed self.new }
         ensures first { result ≡ true → replies_of self.old ≡ place.new.value ∷ replies_of self.new }
         ensures none { result ≡ false → (replies_of self.old ≡ []) × (self.new ≡ self.old) × (place.new ≡ place.old) }
     {
@@ -135,15 +135,12 @@ impl ReplyQueue {
     /// Gives back the spare boxes, and the memory of the queue itself if no reply waits.
     pub fn trim(&mut self)
         ensures replies { replies_of self.new ≡ replies_of self.old }
-        ensures places { places_of self.new ≡ length (replies_of self.old) }
+        ensures trimmed { IsTrimmed self.new }
     {
         self.spare.clear();
         if self.replies.is_empty() {
-            let alloc = *self.spare.allocator();
-            *self = ReplyQueue {
-                replies: VecDeque::new(alloc),
-                spare: Vec::new(alloc),
-            };
+            self.replies.shrink_to_fit();
+            self.spare.shrink_to_fit();
         }
     }
 

@@ -1,7 +1,6 @@
 -- A closed route: what is left of its table, and what it shows of its sessions, all of which have ended.
 use Rattle.std.proofs.Common.{◌≡◌, ℕ, zero, suc, ◌+◌, ◌*◌, ◌%◌, ◌<◌, ◌≤◌, Bool, true, false, ◌||◌, max, Option, None, Some, List, [], ◌∷◌}
-use Rattle.std.proofs.Common.{length, map, find, get_or, refl, sym, ap, subst, ◌∙◌, arith}
-use Rattle.std.proofs.lemmas.List.{length-map}
+use Rattle.std.proofs.Common.{length, find, get_or, refl, sym, ap, subst, ◌∙◌, arith}
 use Rattle.srt_types.specs.Terms.{Terms}
 use Rattle.srt_types.specs.Items.{Item, moment_of}
 use Rattle.srt_pub.specs.declared.session.Publisher.{Publisher}
@@ -15,12 +14,11 @@ use Rattle.srt_route.specs.declared.stage.Stage.TheVariants.{Open, Closed}
 use Rattle.srt_route.specs.declared.table.Table.{Table}
 use Rattle.srt_route.specs.declared.totals.Totals.{Totals}
 use Rattle.srt_route.specs.Buffers.{IsSeated}
-use Rattle.srt_route.specs.Written.{written}
-use Rattle.srt_route.specs.Waits.{replies_of, places_of}
+use Rattle.srt_route.specs.Waits.{IsTrimmed}
 use Rattle.srt_route.specs.Sessions.{Session, generation_of, is_open_in, open_publishers}
 use Rattle.srt_route.specs.Route.{Route, after, closes, sessions_at}
 use Rattle.srt_route.specs.Stages.{AreGenerations, HasRoom, Represents, buffers_in, is_closed}
-use Rattle.srt_route.specs.Stands.{HasGivenBack, IsRoute, places, waiting}
+use Rattle.srt_route.specs.Stands.{HasGivenBack, IsRoute, places}
 use Rattle.srt_route.specs.Tables.{IsTable}
 use Rattle.srt_route.specs.Totals.{AddUp}
 use Rattle.srt_route.specs.Viewing.{Shows, ShowsSession}
@@ -81,7 +79,7 @@ table_of e index r m table scratch h is = subst (λ (s : Stage). Represents e in
 
 pub room_of : (e : Terms) (index : ℕ) (r : TheRoute) (m : Route) (table : Table) (scratch : ScratchBoxes)
     → IsRoute e index r m → r.stage ≡ Open table scratch → 4 + 66 * e.sessions ≤ places r
-room_of e index r m table scratch h is = subst (λ (s : Stage). HasRoom s e.sessions (length (waiting r)) (places r)) is h.room
+room_of e index r m table scratch h is = subst (λ (s : Stage). HasRoom s e.sessions r.waiting) is h.room
 
 pub left_of : (e : Terms) (index : ℕ) (r : TheRoute) (m : Route) (generations : List ℕ)
     → IsRoute e index r m → r.stage ≡ Closed generations → AreGenerations e.sessions generations m.sessions
@@ -91,7 +89,7 @@ pub given_back : (e : Terms) (index : ℕ) (r : TheRoute) (m : Route) (generatio
     → IsRoute e index r m → r.stage ≡ Closed generations → HasGivenBack r
 given_back e index r m generations h is = record {
   buffers = ap buffers_in is;
-  boxes = subst (λ (s : Stage). HasRoom s e.sessions (length (waiting r)) (places r)) is h.room;
+  queue = subst (λ (s : Stage). HasRoom s e.sessions r.waiting) is h.room;
 }
 
 pub all_ended : (e : Terms) (index : ℕ) (items : List Item) (r : TheRoute) (generations : List ℕ)
@@ -121,25 +119,20 @@ stays_closed e index items item old new generations h is moment same queue =
           subst (λ (b : Bool). Represents e index new.clock new.stage (sessions_at b e index item m)) (sym closed)
           (subst (λ (s : Stage). Represents e index new.clock s m.sessions) (sym (same ∙ is)) (left_of e index old m generations h is));
       room =
-          subst (λ (s : Stage). HasRoom s e.sessions (length (waiting new)) (places new)) (sym same)
-          (subst (λ (w : ReplyQueue). HasRoom old.stage e.sessions (length (map written (replies_of w))) (places_of w)) (sym queue) h.room);
+          subst (λ (s : Stage). HasRoom s e.sessions new.waiting) (sym same)
+          (subst (λ (w : ReplyQueue). HasRoom old.stage e.sessions w) (sym queue) h.room);
       closed_is = ap (λ (b : Bool). b || closes item) closed ∙ sym (ap is_closed (same ∙ is));
     }
-
--- a queue without spare boxes
-pub only_waiting : (before later : ReplyQueue) → replies_of later ≡ replies_of before → places_of later ≡ length (replies_of before)
-    → places_of later ≡ length (map written (replies_of later))
-only_waiting before later same places = places ∙ ap length (sym same) ∙ sym (length-map (replies_of later) written)
 
 -- the route after the event that closes it
 pub closes_down : (e : Terms) (index : ℕ) (items : List Item) (item : Item) (r : TheRoute) (generations : List ℕ)
     → r.stage ≡ Closed generations → r.clock ≡ (after e index (item ∷ items)).clock → (after e index items).is_closed ≡ false
-    → AreGenerations e.sessions generations (after e index (item ∷ items)).sessions → places r ≡ length (waiting r) → closes item ≡ true
+    → AreGenerations e.sessions generations (after e index (item ∷ items)).sessions → IsTrimmed r.waiting → closes item ≡ true
     → IsRoute e index r (after e index (item ∷ items))
-closes_down e index items item r generations is clock is_open left boxes shut = record {
+closes_down e index items item r generations is clock is_open left trimmed shut = record {
   clock_is = clock;
   stage_is = subst (λ (s : Stage). Represents e index r.clock s (after e index (item ∷ items)).sessions) (sym is) left;
-  room = subst (λ (s : Stage). HasRoom s e.sessions (length (waiting r)) (places r)) (sym is) boxes;
+  room = subst (λ (s : Stage). HasRoom s e.sessions r.waiting) (sym is) trimmed;
   closed_is = ap (λ (b : Bool). b || closes item) is_open ∙ (shut ∙ sym (ap is_closed is));
 }
 

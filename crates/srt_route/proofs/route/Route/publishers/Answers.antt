@@ -1,4 +1,4 @@
-use Rattle.std.proofs.Common.{◌∙◌, ap, sym}
+use Rattle.std.proofs.Common.{◌∙◌, sym}
 use Rattle.srt_route.specs.Route.{after}
 use Rattle.srt_route.proofs.steps.Closing.{all_ended, no_publishers, table_of}
 use Rattle.srt_route.proofs.stored.Stored.{publishers_among}

@@ -6,7 +6,7 @@ use Rattle.srt_route.specs.Ends.{kept_of}
 use Rattle.srt_route.specs.Route.{after, closes}
 use Rattle.srt_route.specs.Tallies.{tally_of}
 use Rattle.srt_route.specs.Written.{written}
-use Rattle.srt_route.proofs.steps.Closing.{closes_down, comes_before, generations_left, given_back, only_waiting, room_of, stays_closed, was_closed}
+use Rattle.srt_route.proofs.steps.Closing.{closes_down, comes_before, generations_left, given_back, room_of, stays_closed, was_closed}
 use Rattle.srt_route.proofs.steps.Noting.{same_grow}
 use Rattle.srt_route.proofs.steps.Notified.{closed_kept}
 use Rattle.srt_route.proofs.steps.Stepping.{replies_wait}
@@ -61,7 +61,7 @@ returns-else-not-closes-clause-stands c e index items h =
     (λ (seats : List Seat). (slot : ℕ) (d : Seat) → slot < length seats → get_or generations slot 0 ≡ (get_or seats slot d).generation)
     c.deref.ensures.value c.generations_of-generations.ensures.counts)
     (λ slot past. c.generations_of-generations.ensures.none slot (omega (arith, past, ap length c.deref.ensures.value))))
-    (only_waiting c.process.new.waiting c.trim.new.self c.trim.ensures.replies c.trim.ensures.places)
+    c.trim.ensures.trimmed
     (sym c.closes.ensures ∙ c.if-not-closes.false)
 
 pub returns-else-not-closes-clause-replies : goal.returns-else-not-closes-clause-replies
@@ -103,4 +103,4 @@ returns-in-Closed-clause-sums c = same_grow c.args.self.now.ledger.totals c.args
 pub returns-in-Closed-clause-released : goal.returns-in-Closed-clause-released
 returns-in-Closed-clause-released c e index items h shut =
     let back = given_back e index c.args.self.now (after e index items) _ h c.in-Closed.is in
-    record { buffers = back.buffers; boxes = back.boxes }
+    record { buffers = back.buffers; queue = back.queue }
