@@ -13,7 +13,7 @@ ghost use Rattle.srt_lobby.specs.Causes.{cause_in_role, cause_by_index, cause_by
 ghost use Rattle.srt_lobby.specs.Causes.{cause_by_handshake, cause_by_packet, cause_of};
 
 use crate::Names;
-use crate::lobby::{reason, requests_secured};
+use crate::refusals::{reason, requests_secured};
 use srt_hs::{HsRef, stream_id};
 use srt_packet::{Kind, PacketRef, decode};
 use srt_types::{NotAdmitted, Peer, Role, RoleAccess};

@@ -15,8 +15,8 @@
 //! conclusion was refused, for a log. `is_taken` is for readers of configurations.
 //!
 //! Files: `lobby.rt` has the checks in their order (docs/PROTOCOL.md, "Where a datagram goes"): destination, handshake,
-//! cookie, the refusals 1008, 1004, 1011, 1014, 1015 and 1002, and 1011 again for keys that a secured role lacks.
-//! `classes.rt` has the classes and causes, `causes_for_monitoring.rt` the causes of a 1002, `names.rt` the names and
+//! cookie; `refusals.rt` those of a conclusion: 1008, 1004, 1011, 1014, 1015 and 1002, and 1011 again for keys that a
+//! secured role lacks. `classes.rt` has the classes and causes, `causes_for_monitoring.rt` the causes of a 1002, `names.rt` the names and
 //! their table, `new_name.rt` the name of a route to be added, `entry_faults.rt` the entries that a gateway can't be
 //! opened with, and `laws.rt` what is proved of all of it. The definition is `specs/Lobby.antt`.
 #![tactic(auto)]
@@ -28,6 +28,7 @@ pub mod laws;
 mod lobby;
 mod names;
 mod new_name;
+mod refusals;
 
 pub use causes_for_monitoring::refusal_cause;
 pub use classes::{Cause, Class};

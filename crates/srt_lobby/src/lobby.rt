@@ -1,4 +1,5 @@
-//! The classification of a datagram, test by test (section 4.3.1; the order is our choice).
+//! The classification of a datagram, test by test (section 4.3.1; the order is our choice). A conclusion with a valid
+//! cookie is judged in `refusals.rt`.
 
 ghost use Rattle.std.specs.Prelude.{◌≡◌, ℕ, ◌^◌, ◌<◌, ◌≤◌, [], length, slice_get};
 ghost use Rattle.srt_types.specs.Items.{Datagram};
@@ -16,7 +17,7 @@ ghost use Rattle.srt_lobby.specs.Lobby.{of_role, of_request, if_known};
 ghost use Rattle.srt_lobby.specs.Causes.{requests_secured};
 ghost use Rattle.srt_lobby.specs.Lobby.{by_kind, of_conclusion, of_handshake, of_body, to_session, of_packet, class_of};
 
-use crate::names::RequestedRole;
+use crate::refusals::of_conclusion;
 use crate::{Cause, Class, Names};
 use srt_cookie::{Secret, cookie, minute_of, right};
 use srt_hs::{AnswerKind, HsAnswer, HsKind, HsRef, RefusalCode, stream_id, write};
@@ -38,134 +39,11 @@ fn answer(id: u32, initial: u32, what: AnswerKind) -> [u8; 64]
 }
 
 #[tactic(auto, unfolding(crate::specs::Lobby::answered))]
-fn answered(hs: &HsRef<'_>, what: AnswerKind) -> Class
+pub(crate) fn answered(hs: &HsRef<'_>, what: AnswerKind) -> Class
     requires { blocks_text what ≡ [] }
     ensures { result ≡ is_answered (handshake_of hs.now) what }
 {
     Class::Answer(answer(hs.id, hs.initial, what))
-}
-
-fn refused(hs: &HsRef<'_>, code: RefusalCode) -> Class
-    ensures { result ≡ is_refused (handshake_of hs.now) code }
-{
-    answered(hs, AnswerKind::Refusal(code))
-}
-
-/// Returns the first reason to refuse a conclusion that depends on nothing of the requested role but whether it is secured
-/// (section 4.3, table 7). In order: 1008 (SRT_REJ_VERSION) if the version isn't 5; 1004 (SRT_REJ_ROGUE) if the initial
-/// sequence number isn't below 2^31 or there is no HSREQ; 1011 (SRT_REJ_UNSECURE) for a KMREQ, unless the role is secured;
-/// 1014 (SRT_REJ_FILTER) for a packet filter; 1015 (SRT_REJ_GROUP) for a connection group.
-#[tactic(auto, unfolding(crate::specs::Lobby::reason_of))]
-pub(crate) fn reason(hs: &HsRef<'_>, secured: bool) -> Option<RefusalCode>
-    ensures { result ≡ reason_of secured (handshake_of hs.now) }
-{
-    if hs.version != 5 {
-        Some(RefusalCode::Version)
-    } else if hs.initial >= 1 << 31 || hs.blocks.hsreq.is_none() {
-        Some(RefusalCode::Rogue)
-    } else if !secured && hs.blocks.has_kmreq {
-        Some(RefusalCode::Unsecure)
-    } else if hs.blocks.has_filter {
-        Some(RefusalCode::Filter)
-    } else if hs.blocks.has_group {
-        Some(RefusalCode::Group)
-    } else {
-        None
-    }
-}
-
-/// Returns the role of a visible route that a Stream ID requests (appendix B); None if it has a fault, or names no visible
-/// route.
-fn role_named(names: &Names, bytes: &[u8]) -> Option<RequestedRole>
-    ensures { result ≡ role_named (names_of names.now) bytes.now (ask_in bytes.now) }
-{
-    match srt_streamid::read(bytes) {
-        Ok(ask) => {
-            let route = names.find(&bytes[ask.start..ask.start + ask.len])?;
-            Some(RequestedRole {
-                role: ask.role,
-                route,
-            })
-        }
-        Err(_) => None,
-    }
-}
-
-/// Whether there is a requested role, and it is secured.
-fn is_secured_role(names: &Names, requested: Option<RequestedRole>) -> bool
-    ensures { result ≡ is_secured_role (names_of names.now) requested }
-{
-    match requested {
-        Some(requested) => names.is_secured(requested),
-        None => false,
-    }
-}
-
-/// Whether the Stream ID of a conclusion requests a secured role of a visible route.
-pub(crate) fn requests_secured(names: &Names, hs: &HsRef<'_>) -> bool
-    ensures { result ≡ requests_secured (names_of names.now) (handshake_of hs.now).blocks.stream_id }
-{
-    let mut text = [0; 512];
-    match stream_id(hs, &mut text) {
-        Some(len) => is_secured_role(names, role_named(names, &text[..len])),
-        None => false,
-    }
-}
-
-/// Returns the class of a conclusion for this role, with the Stream ID `bytes`: for the route; refused with 1002
-/// (SRT_REJ_PEER) if it doesn't admit the caller, or with 1011 (SRT_REJ_UNSECURE) if the role is secured, and the
-/// conclusion hasn't exactly one KMREQ block with keys of the required length. `info` is the handshake.
-fn of_role(
-    names: &Names,
-    peer: Peer,
-    info: &[u8],
-    hs: &HsRef<'_>,
-    bytes: &[u8],
-    requested: RequestedRole,
-) -> Class
-    ensures { result ≡ of_role peer (key_request_in info.now) (handshake_of hs.now) (key_of bytes.now) requested
-        (slice_get (names_of names.now) requested.route) }
-{
-    if !names.admits(requested, peer, bytes) {
-        return refused(hs, RefusalCode::Peer);
-    }
-    if names.has_keys(requested, info) {
-        Class::Route(requested.route)
-    } else {
-        refused(hs, RefusalCode::Unsecure)
-    }
-}
-
-/// Returns the class of a conclusion with the Stream ID `bytes`: refused for a reason; refused with 1002 if they request no
-/// role of a visible route; else that for this role. `info` is the handshake.
-fn of_stream_id(names: &Names, peer: Peer, info: &[u8], hs: &HsRef<'_>, bytes: &[u8]) -> Class
-    ensures { result ≡ of_request (names_of names.now) peer (key_request_in info.now) (handshake_of hs.now) (key_of bytes.now)
-        (role_named (names_of names.now) bytes.now (ask_in bytes.now)) }
-{
-    let requested = role_named(names, bytes);
-    if let Some(code) = reason(hs, is_secured_role(names, requested)) {
-        return refused(hs, code);
-    }
-    match requested {
-        Some(requested) => of_role(names, peer, info, hs, bytes, requested),
-        None => refused(hs, RefusalCode::Peer),
-    }
-}
-
-/// Returns the class of a conclusion with a valid cookie: that for its Stream ID. Without one it is refused for a reason,
-/// or with 1002. `info` is the handshake.
-#[tactic(auto, unfolding(crate::specs::Lobby::of_conclusion))]
-fn of_conclusion(names: &Names, peer: Peer, info: &[u8], hs: &HsRef<'_>) -> Class
-    ensures { result ≡ of_conclusion (names_of names.now) peer (key_request_in info.now) (handshake_of hs.now) }
-{
-    let mut text = [0; 512];
-    match stream_id(hs, &mut text) {
-        Some(len) => of_stream_id(names, peer, info, hs, &text[..len]),
-        None => match reason(hs, false) {
-            Some(code) => refused(hs, code),
-            None => refused(hs, RefusalCode::Peer),
-        },
-    }
 }
 
 /// Returns the class of a handshake with destination 0. `info` is the handshake too.

@@ -11,7 +11,7 @@ use Rattle.srt_sub.specs.Counting.{again_in, fresh_in, renewals_in}
 use Rattle.srt_sub.specs.Stands.{AreCredited, IsCredit}
 use Rattle.srt_sub.specs.inside.Turns.{phase_now, sends_lost}
 use Rattle.srt_sub.specs.Emission.{resends_in}
-use Rattle.srt_sub.specs.declared.credit.Credit.{Credit}
+use Rattle.srt_sub.specs.declared.resend_credit.Credit.{Credit}
 use Rattle.srt_sub.specs.declared.session.Phase.{Phase}
 use Rattle.srt_sub.specs.declared.session.Phase.TheVariants.{Lost, New}
 use Rattle.srt_sendbuf.specs.Sending.{Sending}

@@ -15,7 +15,7 @@ use Rattle.srt_sub.specs.Subscribing.{Terms, Note, Report, Sent, Missed, Subscri
 use Rattle.srt_sub.specs.Subscribing.{last_growth, round_trip, tries, flow_window, unreported, credit, renewed_notes, Presumed}
 use Rattle.srt_sub.specs.Says.{says}
 use Rattle.srt_sub.specs.Counting.{AreSendings, Counted, fresh_in, again_in, is_again, renewals_in}
-use Rattle.srt_sub.specs.declared.credit.Credit.{Credit}
+use Rattle.srt_sub.specs.declared.resend_credit.Credit.{Credit}
 use Rattle.srt_sub.specs.declared.history.History.{History}
 use Rattle.srt_sub.specs.declared.resend_all.Resending.TheVariants.{AtEachTimeout, Once}
 use Rattle.srt_sub.specs.declared.session.Opening.{Opening}

@@ -6,7 +6,7 @@ ghost use Rattle.srt_sub.specs.Heard.{more_of};
 ghost use Rattle.srt_sub.specs.Subscribing.{Terms, Opened, grown, sampled};
 
 use crate::counts::Sendings;
-use crate::credit::Credit;
+use crate::resend_credit::Credit;
 use srt_sendbuf::DropRun;
 use srt_timing::Rtt;
 use srt_types::read_word;

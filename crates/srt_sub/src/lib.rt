@@ -14,7 +14,7 @@
 //!
 //! Files: `feeding.rt` has the rules for feeding and the too-late drop; `hearing.rt` for ACK, NAK and SHUTDOWN;
 //! `event_packets.rt` for the packets at an event's end and their order; `drop_request.rt` for drop requests;
-//! `holding.rt` for payloads that wait for a key; `resend_all.rt` for resending everything; `credit.rt` for the limit on
+//! `holding.rt` for payloads that wait for a key; `resend_all.rt` for resending everything; `resend_credit.rt` for the limit on
 //! resends; `keep_alive.rt` for KEEPALIVEs.
 //! `history.rt` stores the flow window and other state; `counts.rt` has the counters, and `statistics.rt` the
 //! snapshot; `session.rt` begins a session; `packets.rt` writes packets. `specs/Subscribing.antt` defines what a
@@ -23,7 +23,6 @@
 #![tactic(auto)]
 
 mod counts;
-mod credit;
 mod drop_request;
 mod event_packets;
 mod feeding;
@@ -34,6 +33,7 @@ mod keep_alive;
 pub mod laws;
 mod packets;
 mod resend_all;
+mod resend_credit;
 mod session;
 mod statistics;
 
