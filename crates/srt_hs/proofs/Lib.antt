@@ -5,3 +5,4 @@ pub mod Spelled
 pub mod Back
 pub mod Keys
 pub mod Requests
+pub mod Answered

@@ -1,10 +1,10 @@
 pub mod Grammar
 pub mod Reading
 pub mod View
+pub mod KeyMessage
 pub mod Text
 pub mod Tie
 pub mod RoundTrip
-pub mod KeyMessage
 pub mod KeyView
 pub mod KeyRequest
 pub mod KeyAsked

@@ -9,7 +9,8 @@
 //! [`BlocksRef`] (types in `handshake.rt`), or the first [`HsFault`]. Then [`stream_id`] and [`congestion`], in
 //! `contents.rt`, copy the contents of two blocks.
 //!
-//! Encoding: fill an [`HsAnswer`] with an [`AnswerKind`] and [`write`] it, all in `writing.rt`. [`RefusalCode`], in
+//! Encoding: fill an [`HsAnswer`] with an [`AnswerKind`] and [`write`] it, or [`write_with_keys`] if the session has keys,
+//! all in `writing.rt`. [`RefusalCode`], in
 //! `refusal_codes.rt`, lists each reason for a refusal with its causes.
 //!
 //! Keys: [`key_request`] (`key_requests.rt`) finds the KMREQ block in the same bytes. [`read_key_message`] and
@@ -39,7 +40,7 @@ pub use key_reading::{read_key_message, write_key_message};
 pub use key_requests::{KeyRequest, key_request};
 pub use reading::read;
 pub use refusal_codes::RefusalCode;
-pub use writing::{AnswerKind, HsAnswer, write};
+pub use writing::{AnswerKind, HsAnswer, write, write_with_keys};
 
 #[cfg(test)]
 mod tests;

@@ -2,7 +2,7 @@
 
 use crate::{
     AnswerKind, CongestionText, HsAnswer, HsFault, HsKind, HsReq, RefusalCode, congestion, read,
-    stream_id, write,
+    stream_id, write, write_with_keys,
 };
 use arrayvec::ArrayVec;
 use srt_types::Mode;
@@ -383,5 +383,82 @@ fn periodic_naks(rt: HostRuntime) -> Result<(), Fail> {
         };
         assert_eq!(rt; req.has_periodic_nak(), expected, "{at}");
     }
+    Ok(())
+}
+
+/// The contents of a KMREQ block with a key of 16 bytes.
+const KEYS: &str =
+    "12202901 00000000 02000200 00000404 00112233 44556677 8899aabb ccddeeff 097ad2a2 96802dd0 3b3cad77 8b2ef5ec 61782692 f95549e2";
+
+/// The contents of one with a key of 24 bytes.
+const LONG_KEYS: &str =
+    "12202901 00000000 02000200 00000406 ffeeddcc bbaa9988 77665544 33221100 55d5c0a0 4098090a a97287b4 eba8443d 46d8ba88 121ed818 7cffdf8e 770d9860";
+
+fn written_with(
+    alloc: Global,
+    initial: u32,
+    what: AnswerKind,
+    message: &str,
+) -> Result<Vec<u8>, Fail> {
+    let message = bytes_of(alloc, &[message])?;
+    if message.len() < 16 || message.len() > 104 {
+        return Err(Fail::from("a message of another length"));
+    }
+    let mut out = [0xff; 192];
+    let len = write_with_keys(&HsAnswer { initial, what }, &message, &mut out);
+    let mut bytes = Vec::new(alloc);
+    bytes.extend_from_slice(&out[..len])?;
+    Ok(bytes)
+}
+
+/// Returns the answer to a conclusion for the session with this socket ID, in live mode.
+fn live_answer(id: u32, congestion: Option<CongestionText>) -> AnswerKind {
+    AnswerKind::Conclusion {
+        mtu: 1500,
+        window: 1024,
+        id,
+        mode: Mode::Live,
+        recv_ms: 120,
+        send_ms: 120,
+        congestion,
+    }
+}
+
+/// The HSRSP block of that answer.
+const HSRSP: &str = "00020003 00010500 0000003f 00780078";
+
+const ZEROS: &str = "00000000 00000000 00000000 00000000 00000000";
+
+#[test]
+fn answers_repeat_the_keys(rt: HostRuntime) -> Result<(), Fail> {
+    let alloc = rt.alloc();
+    let front = "00000005 00020003 00000005 000005dc 00000400 ffffffff 00100000";
+    assert_eq!(rt;
+        written_with(alloc, 5, live_answer(0x0010_0000, None), KEYS)?,
+        bytes_of(alloc, &[front, ZEROS, HSRSP, "0004000e", KEYS])?
+    );
+    let front = "00000005 00030003 00000009 000005dc 00000400 ffffffff 00100001";
+    assert_eq!(rt;
+        written_with(alloc, 9, live_answer(0x0010_0001, None), LONG_KEYS)?,
+        bytes_of(alloc, &[front, ZEROS, HSRSP, "00040010", LONG_KEYS])?
+    );
+    // the congestion text comes last
+    let live = CongestionText {
+        first: 0x6576_696c,
+        others: ArrayVec::new(),
+    };
+    let front = "00000005 00020007 00000005 000005dc 00000400 ffffffff 00100000";
+    assert_eq!(rt;
+        written_with(alloc, 5, live_answer(0x0010_0000, Some(live)), KEYS)?,
+        bytes_of(
+            alloc,
+            &[front, ZEROS, HSRSP, "0004000e", KEYS, "00060001 6576696c"]
+        )?
+    );
+    let refusal = "00000005 00000000 00000009 000005dc 00002000 000003f3 00000001";
+    assert_eq!(rt;
+        written_with(alloc, 9, AnswerKind::Refusal(RefusalCode::Unsecure), KEYS)?,
+        bytes_of(alloc, &[refusal, ZEROS])?
+    );
     Ok(())
 }

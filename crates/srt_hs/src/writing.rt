@@ -2,7 +2,7 @@
 
 ghost use Rattle.std.specs.Prelude.{◌≡◌, ℕ, ◌+◌, ◌*◌, ◌≤◌, ◌++◌, length, take, drop, Some};
 ghost use Rattle.srt_hs.specs.View.{text_words};
-ghost use Rattle.srt_hs.specs.Text.{answer_text, fields_text, flags_of, hsrsp_text, congestion_text};
+ghost use Rattle.srt_hs.specs.Text.{answer_text, answer_with, encryption_text, flags_of, hsrsp_text, kmrsp_text, congestion_text};
 
 use crate::CongestionText;
 use crate::refusal_codes::{RefusalCode, code};
@@ -50,6 +50,7 @@ pub struct HsAnswer {
 /// The fields that differ between answers.
 #[derive(Clone, Copy)]
 struct Fields {
+    encryption: u16,
     extension: u16,
     initial: u32,
     mtu: u32,
@@ -63,10 +64,12 @@ struct Fields {
 fn write_fields(fields: Fields, out: &mut [u8]) -> usize
     requires { 48 ≤ length out.old }
     ensures end { result ≡ 48 }
-    ensures written { take result out.new ≡ fields_text fields.extension fields.initial fields.mtu fields.window fields.kind fields.id fields.cookie }
+    ensures written { take result out.new ≡ encryption_text fields.encryption fields.extension fields.initial fields.mtu fields.window fields.kind fields.id
+        fields.cookie }
     ensures kept { (k : ℕ) → result ≤ k → drop k out.new ≡ drop k out.old }
 {
-    let mut end = write_at(out, 0, &[0, 0, 0, 5, 0, 0]);
+    let mut end = write_at(out, 0, &[0, 0, 0, 5]);
+    end = write_at(out, end, &fields.encryption.to_be_bytes());
     end = write_at(out, end, &fields.extension.to_be_bytes());
     end = write_at(out, end, &fields.initial.to_be_bytes());
     end = write_at(out, end, &fields.mtu.to_be_bytes());
@@ -124,6 +127,7 @@ pub fn write(answer: &HsAnswer, out: &mut [u8; 84]) -> usize
     ensures kept { (k : ℕ) → result ≤ k → drop k out.new ≡ drop k out.old }
 {
     let mut fields = Fields {
+        encryption: 0,
         extension: 0,
         initial: answer.initial,
         mtu: 1500,
@@ -163,5 +167,75 @@ pub fn write(answer: &HsAnswer, out: &mut [u8; 84]) -> usize
                 Some(text) => write_congestion(text, out, end),
             }
         }
+    }
+}
+
+/// Writes a KMRSP block with these contents from the offset `at` on, and returns the offset of its end.
+fn write_keys(message: &[u8], out: &mut [u8], at: usize) -> usize
+    requires most { length message.now ≤ 104 }
+    requires room { at + 108 ≤ length out.old }
+    ensures end { result ≡ at + 4 + length message.now }
+    ensures written { take result out.new ≡ take at out.old ++ kmrsp_text message.now }
+    ensures kept { (k : ℕ) → result ≤ k → drop k out.new ≡ drop k out.old }
+{
+    let end = write_at(out, at, &[0, 4]);
+    let len = message.len() / 4;
+    let end = write_at(out, end, &(len as u16).to_be_bytes());
+    write_at(out, end, message)
+}
+
+/// Writes an answer as [`write`] does, to the front of a longer buffer.
+fn write_without_keys(answer: &HsAnswer, out: &mut [u8; 192]) -> usize
+    ensures within { result ≤ 84 }
+    ensures written { take result out.new ≡ answer_text answer.now }
+    ensures kept { (k : ℕ) → result ≤ k → drop k out.new ≡ drop k out.old }
+{
+    let mut text = [0; 84];
+    let len = write(answer, &mut text);
+    write_at(out, 0, &text[..len])
+}
+
+/// Writes an answer to a conclusion with keys, without the packet's header, to the front of the buffer, and returns its
+/// length in bytes: at most 192. `message` is the contents of the conclusion's KMREQ block, a key material message, which
+/// the answer repeats unchanged as a KMRSP block (section 3.2.2); the encryption field has its key length. Other answers have no keys, and
+/// are written as [`write`] does. The rest of the buffer is unchanged. O(1).
+#[tactic(auto, unfolding(crate::specs::Text::answer_with))]
+pub fn write_with_keys(answer: &HsAnswer, message: &[u8], out: &mut [u8; 192]) -> usize
+    requires some { 16 ≤ length message.now }
+    requires most { length message.now ≤ 104 }
+    ensures within { result ≤ 192 }
+    ensures written { take result out.new ≡ answer_with (Some message.now) answer.now }
+    ensures kept { (k : ℕ) → result ≤ k → drop k out.new ≡ drop k out.old }
+{
+    match &answer.what {
+        AnswerKind::Conclusion {
+            mtu,
+            window,
+            id,
+            mode,
+            recv_ms,
+            send_ms,
+            congestion,
+        } => {
+            let fields = Fields {
+                encryption: u16::from(message[15] / 2),
+                extension: if congestion.is_some() { 7 } else { 3 },
+                initial: answer.initial,
+                mtu: *mtu,
+                window: *window,
+                kind: 0xffff_ffff,
+                id: *id,
+                cookie: 0,
+            };
+            let end = write_fields(fields, out);
+            let end = write_at(out, end, &hsrsp(*mode, *recv_ms, *send_ms));
+            let end = write_keys(message, out, end);
+            match congestion {
+                None => end,
+                Some(text) => write_congestion(text, out, end),
+            }
+        }
+        AnswerKind::Induction(_) => write_without_keys(answer, out),
+        AnswerKind::Refusal(_) => write_without_keys(answer, out),
     }
 }
