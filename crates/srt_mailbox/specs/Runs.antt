@@ -1,17 +1,19 @@
 -- A route between its queues, before and after a step.
-use Rattle.std.specs.Prelude.{◌≡◌, ℕ, Option, List, [], ◌∷◌, ◌++◌, map, option_to_list}
+use Rattle.std.specs.Prelude.{◌≡◌, ℕ, true, Option, List, [], ◌∷◌, ◌++◌, map, option_to_list}
 use Rattle.std.specs.Global.{Box}
 use Rattle.crossbeam_queue.specs.Fifo.{Held}
 use Rattle.srt_types.specs.declared.shared.Turned.{Turned}
 use Rattle.srt_types.specs.declared.shared.Turned.TheVariants.{Moved, Applied, Blocked, Idle}
-use Rattle.srt_types.specs.Items.{Datagram, input_of}
+use Rattle.srt_types.specs.Items.{Datagram, Item, input_of}
 use Rattle.srt_types.specs.Terms.{Terms}
 use Rattle.srt_route.specs.declared.replies.Reply.{Reply}
-use Rattle.srt_route.specs.Route.{reply, solo}
+use Rattle.srt_route.specs.Route.{after, reply, solo}
 use Rattle.srt_route.specs.Written.{written}
 use Rattle.srt_route.specs.Stands.{waiting}
 use Rattle.srt_route.specs.declared.route.Route.{Route as TheRoute}
 use Rattle.srt_mailbox.specs.declared.inbox_rule.InboxEntry.{InboxEntry}
+use Rattle.srt_mailbox.specs.declared.spares.Boxes.{Boxes}
+use Rattle.srt_mailbox.specs.Boxes.{HasNoBoxes}
 use Rattle.srt_mailbox.specs.Inbox.{applied, StoodAsTaken}
 use Rattle.srt_mailbox.specs.Outbox.{replies_in, StoodAsPut}
 use Rattle.srt_mailbox.specs.Ends.{Consumer, consumer, Pipe, pipe}
@@ -41,6 +43,10 @@ waiting_at held route = map written (replies_in (option_to_list held)) ++ waitin
 -- the replies put, followed by those that wait, are all that the route, alone, replies to the messages received
 abbrev pub Replays : Run → Type 0
 Replays r = map written r.outbox.put ++ r.waiting ≡ solo r.terms r.index (applied r.inbox.taken)
+
+-- a route that was closed by these messages, and of which no reply waits, has no free boxes
+abbrev pub HasGivenBoxes : Terms → (index : ℕ) → List Item → (waiting : ℕ) → Boxes → Type 0
+HasGivenBoxes e index items waiting boxes = (after e index items).is_closed ≡ true → waiting ≡ 0 → HasNoBoxes boxes
 
 -- no reply waited, a message was received, and now the route's replies to it wait
 abbrev pub AppliedOne : Run → Run → Type 0

@@ -1,13 +1,14 @@
 //! A route with its ends of both queues, which a worker has while it has claimed the route, and one step of it.
 
-ghost use Rattle.std.specs.Prelude.{◌≡◌, ◌≢◌, ◌<◌, ◌≤◌, ◌+◌, ℕ, List, [], ◌∷◌, Some, None, length, option_map};
+ghost use Rattle.std.specs.Prelude.{◌≡◌, ◌≢◌, ◌<◌, ◌≤◌, ◌+◌, ℕ, List, [], ◌∷◌, Some, None, length, option_map, true, false};
 ghost use Rattle.srt_types.specs.Terms.{Terms, terms_of};
 ghost use Rattle.srt_types.specs.Items.{Item as TheItem};
+ghost use Rattle.srt_route.specs.Route.{after};
 ghost use Rattle.srt_route.specs.Stands.{stands, waiting};
 ghost use Rattle.srt_route.specs.Written.{written};
 ghost use Rattle.srt_mailbox.specs.Counts.{counted, Grew};
 ghost use Rattle.srt_mailbox.specs.Evidence.{refused};
-ghost use Rattle.srt_mailbox.specs.Runs.{run, waiting_at, Replays, TurnedAs};
+ghost use Rattle.srt_mailbox.specs.Runs.{run, waiting_at, HasGivenBoxes, Replays, TurnedAs};
 ghost use Rattle.srt_mailbox.specs.Cells.{CellIdentity, Bears};
 ghost use Rattle.srt_mailbox.specs.Looks.{WasShown};
 ghost use Rattle.srt_mailbox.specs.Visits.{queried_in, queried_last, turns_of, EndedAs, ServedAs};
@@ -70,17 +71,18 @@ impl Model for Running {
     ghost use Rattle.srt_route.specs.Stands.{stands};
     ghost use Rattle.srt_mailbox.specs.Counts.{counted};
     ghost use Rattle.srt_mailbox.specs.Inbox.{applied};
-    ghost use Rattle.srt_mailbox.specs.Runs.{Run, run, waiting_at, Replays};
+    ghost use Rattle.srt_mailbox.specs.Runs.{Run, run, waiting_at, HasGivenBoxes, Replays};
 
     ghost Value = { Run };
 
     ghost view = { λ s. run (terms_of s.entry.value) s.index.value s.receiver s.sender (waiting_at s.held s.route) s.refusals };
 
     // The route is in the state that the received messages lead to, and its replies are those that it would make
-    // alone.
+    // alone. If it was closed and nothing of it waits, it has given back its free boxes.
     ghost invariant = { λ s. stands s.route (terms_of s.entry.value) s.index.value (applied s.receiver.taken) ×
         Replays (run (terms_of s.entry.value) s.index.value s.receiver s.sender (waiting_at s.held s.route) s.refusals) ×
-        (s.waiting ≡ length (waiting_at s.held s.route)) × (s.taken ≡ counted (length s.receiver.taken)) };
+        (s.waiting ≡ length (waiting_at s.held s.route)) × (s.taken ≡ counted (length s.receiver.taken)) ×
+        HasGivenBoxes (terms_of s.entry.value) s.index.value (applied s.receiver.taken) s.waiting s.boxes };
 }
 
 /// Maximum length of a packet's body, in bytes: that of a data packet's payload.
@@ -120,6 +122,18 @@ fn next_waiting<R: Wait>(
     let mut place = boxes.empty_box(rt);
     let _ = route.next_reply(&mut place);
     place
+}
+
+// Gives back the free boxes of a route that was closed, if no reply waits: it replies to nothing more.
+fn discard_if_over(route: &Route, waiting: usize, boxes: &mut Boxes)
+    ensures over { (e : Terms) (index : ℕ) (items : List TheItem) → stands route.now e index items
+        → HasGivenBoxes e index items waiting boxes.new }
+    ensures open { (e : Terms) (index : ℕ) (items : List TheItem) → stands route.now e index items
+        → (after e index items).is_closed ≡ false → boxes.new ≡ boxes.old }
+{
+    if waiting == 0 && route.is_closed() {
+        boxes.discard();
+    }
 }
 
 impl Running {
@@ -162,6 +176,7 @@ impl Running {
         match self.sender.put(rt, parcel) {
             Ok(()) => {
                 self.waiting -= 1;
+                discard_if_over(&self.route, self.waiting, &mut self.boxes);
                 Turned::Moved
             }
             Err((back, full)) => {
@@ -191,6 +206,7 @@ impl Running {
                 self.waiting = self.route.step(&item);
                 self.taken = self.taken.saturating_add(1);
                 keep_buffer(&mut self.buffer, item);
+                discard_if_over(&self.route, self.waiting, &mut self.boxes);
                 Turned::Applied
             }
             Err(empty) => {

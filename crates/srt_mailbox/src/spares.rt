@@ -110,6 +110,8 @@ impl Spent {
 }
 
 impl Boxes {
+    ghost use Rattle.srt_mailbox.specs.Boxes.{HasNoBoxes};
+
     // Moves the boxes that were returned to the stock, if there are any and the drain hasn't got the lock.
     fn collect(&mut self)
         ensures { length self.old.stock.items ≤ length self.new.stock.items }
@@ -147,5 +149,21 @@ impl Boxes {
             thread::yield_now();
         }
         unreachable!()
+    }
+
+    /// Gives back the free boxes and the memory of the stock, and the boxes that were returned unless the drain has the
+    /// lock. For a route that writes no reply any more.
+    pub fn discard(&mut self)
+        ensures { HasNoBoxes self.new }
+    {
+        self.stock.clear();
+        self.stock.shrink_to_fit();
+        if !self.returned.any.load(Ordering::SeqCst) {
+            return;
+        }
+        if let Some(mut left) = self.returned.boxes.try_lock() {
+            left.clear();
+            self.returned.any.store(false, Ordering::SeqCst);
+        }
     }
 }

@@ -36,6 +36,10 @@ invariant_of-self g c =
       c.step-self-inside.ensures.count ∙ ap (λ l. length (l ++ waiting c.step-self-inside.new.self)) (sym (none_held inside.held inside.route none)),
       c.saturating_add-self-inside.ensures ∙ counted_more (length inside.receiver.taken) inside.taken c.self.invariant.3
           ∙ sym (ap counted (ap (λ (k : Consumer). length k.taken) c.in-Ok.ensures.took ∙ length-append inside.receiver.taken (x ∷ []))),
+      c.discard_if_over.ensures.over e r (applied c.take.new.self.taken)
+          (rw taken
+          (subst (λ (i : Item). stands c.step-self-inside.new.self e r (input_of i ∷ items)) c.into_item-item.ensures.item
+          (c.step-self-inside.ensures.stands e r items stood))),
     )
 
 pub returns-in-Ok : goal.returns-in-Ok

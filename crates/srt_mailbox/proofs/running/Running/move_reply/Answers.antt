@@ -21,6 +21,7 @@ invariant_of-self g c =
           (moved_replays inside.sender.put y rest _ (ap (λ l. map written inside.sender.put ++ l) (sym first) ∙ c.self.invariant.1)),
       rw c.next_waiting-reply.ensures.held (omega (arith, c.self.invariant.2, ap length first)),
       c.self.invariant.3,
+      c.discard_if_over.ensures.over _ _ _ (c.next_waiting-reply.ensures.stands _ _ _ c.self.invariant.0),
     )
 
 pub invariant_of-self-in-Err : goal.invariant_of-self-in-Err
@@ -34,6 +35,7 @@ invariant_of-self-in-Err g c =
       (λ i. put i ++ same i) ∙ c.self.invariant.1,
       c.self.invariant.2 ∙ ap length (sym same),
       c.self.invariant.3,
+      λ closed none. absurd (omega (arith, none, c.requires, ap (λ (w : Run). length w.waiting) c.self.view_is, c.self.invariant.2)),
     )
 
 pub returns-in-Ok : goal.returns-in-Ok
