@@ -2,6 +2,7 @@
 //! workers in parallel. The expected values were derived from the rules by hand.
 
 mod boxes;
+mod closed;
 mod datagrams;
 mod observing;
 mod queues;
