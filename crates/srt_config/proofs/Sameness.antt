@@ -12,9 +12,12 @@ use Rattle.srt_types.specs.declared.shared.Network.{Network}
 use Rattle.srt_types.specs.declared.shared.Network.TheVariants.{V4, V6}
 use Rattle.srt_types.specs.declared.shared.Rules.{Rules}
 use Rattle.srt_types.specs.declared.shared.Schedule.{Schedule}
+use Rattle.srt_types.specs.declared.shared.KeyLength.{KeyLength}
+use Rattle.srt_types.specs.declared.shared.KeyLength.TheVariants.{Aes128, Aes192, Aes256}
 use Rattle.srt_types.specs.Access.{RoleTerms, AccessTerms}
 use Rattle.srt_types.specs.Terms.{Terms}
 use Rattle.srt_config.specs.SameKeys.{same_if, same_mode, same_callers, same_network, same_networks, same_role, same_access, same_rules}
+use Rattle.srt_config.specs.SameKeys.{same_length}
 use Rattle.srt_config.specs.SameKeys.{same_numbers, same_terms, same_schedule}
 
 if_decides : {A : Type 0} (same : A → A → Bool) → ((a b : A) → Decides (same a b) (a ≡ b)) → (a b : Option A) → Decides (same_if same a b) (a ≡ b)
@@ -56,15 +59,29 @@ networks_decide a b = slice_eq-Decides network_decides a b (same_networks a b) r
 
 role_decides : (a b : RoleTerms) → Decides (same_role a b) (a ≡ b)
 role_decides a b =
-    Decides-like (same_role a b) (λ h i. record { from = h.0 i; key = h.1 i })
-    (λ p. (ap (λ (r : RoleTerms). r.from) p, ap (λ (r : RoleTerms). r.key) p))
+    Decides-like (same_role a b) (λ h i. record { from = h.0.0 i; key = h.0.1 i; passphrase = h.1 i })
+    (λ p. ((ap (λ (r : RoleTerms). r.from) p, ap (λ (r : RoleTerms). r.key) p), ap (λ (r : RoleTerms). r.passphrase) p))
+    (Decides-and _ _
     (Decides-and _ _ (if_decides same_networks networks_decide a.from b.from) (if_decides bytes_eq bytes_eq-Decides a.key b.key))
+    (if_decides bytes_eq bytes_eq-Decides a.passphrase b.passphrase))
+
+length_decides : (a b : KeyLength) → Decides (same_length a b) (a ≡ b)
+length_decides Aes128 Aes128 = (λ e. refl, λ p. refl)
+length_decides Aes128 Aes192 = (λ e. cc, λ p. cc)
+length_decides Aes128 Aes256 = (λ e. cc, λ p. cc)
+length_decides Aes192 Aes128 = (λ e. cc, λ p. cc)
+length_decides Aes192 Aes192 = (λ e. refl, λ p. refl)
+length_decides Aes192 Aes256 = (λ e. cc, λ p. cc)
+length_decides Aes256 Aes128 = (λ e. cc, λ p. cc)
+length_decides Aes256 Aes192 = (λ e. cc, λ p. cc)
+length_decides Aes256 Aes256 = (λ e. refl, λ p. refl)
 
 access_decides : (a b : AccessTerms) → Decides (same_access a b) (a ≡ b)
 access_decides a b =
-    Decides-like (same_access a b) (λ h i. record { publish = h.0 i; request = h.1 i })
-    (λ p. (ap (λ (r : AccessTerms). r.publish) p, ap (λ (r : AccessTerms). r.request) p))
-    (Decides-and _ _ (role_decides a.publish b.publish) (role_decides a.request b.request))
+    Decides-like (same_access a b) (λ h i. record { publish = h.0.0 i; request = h.0.1 i; key_length = h.1 i })
+    (λ p. ((ap (λ (r : AccessTerms). r.publish) p, ap (λ (r : AccessTerms). r.request) p), ap (λ (r : AccessTerms). r.key_length) p))
+    (Decides-and _ _ (Decides-and _ _ (role_decides a.publish b.publish) (role_decides a.request b.request))
+    (if_decides same_length length_decides a.key_length b.key_length))
 
 rules_decide : (a b : Rules) → Decides (same_rules a b) (a ≡ b)
 rules_decide a b =

@@ -99,7 +99,11 @@ key_at key table = optional (key_value key) (get_member (key_name key) table)
 
 abbrev pub callers_of : (publish_from request_from : Option (List Network)) → (publish_key request_key : Option (List ℕ)) → AccessTerms
 callers_of publish_from request_from publish_key request_key =
-    record { publish = record { from = publish_from; key = publish_key }; request = record { from = request_from; key = request_key } }
+    record {
+      publish = record { from = publish_from; key = publish_key; passphrase = None };
+      request = record { from = request_from; key = request_key; passphrase = None };
+      key_length = None;
+    }
 
 -- the clients allowed on the route of a table
 unfoldable pub access_at : Members → Result AccessTerms Fault

@@ -10,7 +10,8 @@ use Rattle.srt_types.specs.declared.shared.Network.{Network}
 use Rattle.srt_types.specs.declared.shared.Network.TheVariants.{V4, V6}
 use Rattle.srt_types.specs.declared.shared.Rules.{Rules}
 use Rattle.srt_types.specs.declared.shared.Schedule.{Schedule}
-use Rattle.srt_types.specs.Access.{RoleTerms, AccessTerms}
+use Rattle.srt_types.specs.declared.shared.KeyLength.{KeyLength}
+use Rattle.srt_types.specs.Access.{RoleTerms, AccessTerms, bytes_in}
 use Rattle.srt_types.specs.Terms.{Terms}
 
 -- both are missing, or both are given and the same
@@ -43,10 +44,13 @@ abbrev pub same_networks : List Network → List Network → Bool
 same_networks = pointwise same_network
 
 abbrev pub same_role : RoleTerms → RoleTerms → Bool
-same_role a b = same_if same_networks a.from b.from && same_if bytes_eq a.key b.key
+same_role a b = same_if same_networks a.from b.from && same_if bytes_eq a.key b.key && same_if bytes_eq a.passphrase b.passphrase
+
+abbrev pub same_length : KeyLength → KeyLength → Bool
+same_length a b = bytes_in a == bytes_in b
 
 abbrev pub same_access : AccessTerms → AccessTerms → Bool
-same_access a b = same_role a.publish b.publish && same_role a.request b.request
+same_access a b = same_role a.publish b.publish && same_role a.request b.request && same_if same_length a.key_length b.key_length
 
 abbrev pub same_rules : Rules → Rules → Bool
 same_rules a b =

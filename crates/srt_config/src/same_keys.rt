@@ -5,9 +5,9 @@ ghost use Rattle.std.specs.Str.{bytes_eq};
 ghost use Rattle.srt_types.specs.Access.{role_access_of, access_of};
 ghost use Rattle.srt_types.specs.Terms.{terms_of};
 ghost use Rattle.srt_config.specs.SameKeys.{same_if, same_mode, same_callers, same_network, same_networks, same_role, same_access};
-ghost use Rattle.srt_config.specs.SameKeys.{same_rules, same_numbers, same_terms, same_schedule};
+ghost use Rattle.srt_config.specs.SameKeys.{same_length, same_rules, same_numbers, same_terms, same_schedule};
 
-use srt_types::{Access, Callers, Entry, Mode, Network, RoleAccess, Rules, Schedule};
+use srt_types::{Access, Callers, Entry, KeyLength, Mode, Network, RoleAccess, Rules, Schedule};
 
 fn same_mode(a: Mode, b: Mode) -> bool
     ensures { result ≡ same_mode a b }
@@ -105,13 +105,29 @@ fn same_key(a: &Option<String>, b: &Option<String>) -> bool
 fn same_role(a: &RoleAccess, b: &RoleAccess) -> bool
     ensures { result ≡ same_role (role_access_of a.now) (role_access_of b.now) }
 {
-    same_list(&a.from, &b.from) && same_key(&a.key, &b.key)
+    same_list(&a.from, &b.from)
+        && same_key(&a.key, &b.key)
+        && same_key(&a.passphrase, &b.passphrase)
+}
+
+fn same_length(a: Option<KeyLength>, b: Option<KeyLength>) -> bool
+    ensures { result ≡ same_if same_length a b }
+{
+    match a {
+        Some(a) => match b {
+            Some(b) => a.bytes() == b.bytes(),
+            None => false,
+        },
+        None => b.is_none(),
+    }
 }
 
 fn same_access(a: &Access, b: &Access) -> bool
     ensures { result ≡ same_access (access_of a.now) (access_of b.now) }
 {
-    same_role(&a.publish, &b.publish) && same_role(&a.request, &b.request)
+    same_role(&a.publish, &b.publish)
+        && same_role(&a.request, &b.request)
+        && same_length(a.key_length, b.key_length)
 }
 
 fn same_rules(a: Rules, b: Rules) -> bool

@@ -15,7 +15,7 @@ still_given key None = refl
 still_given key (Some old) = refl
 
 same_keys : (publish request : List ℕ) (route : ℕ) (access : AccessTerms) →
-    key_warnings route (record { publish = with_role_key publish access.publish; request = with_role_key request access.request })
+    key_warnings route (record access { publish = with_role_key publish access.publish; request = with_role_key request access.request })
     ≡ key_warnings route access
 same_keys publish request route access =
     ap (λ (b : Bool). given (b && not (is_some access.publish.from)) (OpenKey route Publish)

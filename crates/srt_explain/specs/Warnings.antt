@@ -234,12 +234,12 @@ with_key key None = None
 with_key key (Some old) = Some key
 
 abbrev pub with_role_key : (key : List ℕ) → RoleTerms → RoleTerms
-with_role_key key role = record { from = role.from; key = with_key key role.key }
+with_role_key key role = record role { key = with_key key role.key }
 
 -- other keys of a route's roles, where these have some
 abbrev pub with_keys : (publish request : List ℕ) → Terms → Terms
 with_keys publish request t =
-    record t { access = record { publish = with_role_key publish t.access.publish; request = with_role_key request t.access.request } }
+    record t { access = record t.access { publish = with_role_key publish t.access.publish; request = with_role_key request t.access.request } }
 
 -- the warnings are the same whatever the keys of the routes' roles are
 abbrev pub WarnsOfNoKey : Type 0

@@ -260,10 +260,13 @@ pub(crate) fn access_at(alloc: Global, table: &Table) -> Result<Access, ConfigFa
         publish: RoleAccess {
             from: publish_from,
             key: publish_key,
+            passphrase: None,
         },
         request: RoleAccess {
             from: request_from,
             key: request_key,
+            passphrase: None,
         },
+        key_length: None,
     })
 }

@@ -27,6 +27,7 @@ fn from_ten(alloc: Global) -> Result<RoleAccess, Fail> {
     Ok(RoleAccess {
         from: Some(from),
         key: None,
+        passphrase: None,
     })
 }
 
@@ -36,6 +37,7 @@ fn guarded(alloc: Global) -> Result<[Entry; 2], Fail> {
     first.access = Access {
         publish: from_ten(alloc)?,
         request: from_ten(alloc)?,
+        key_length: None,
     };
     Ok([first, entry(alloc, &ROUTES[1])?])
 }
