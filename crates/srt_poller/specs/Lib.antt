@@ -16,6 +16,10 @@ pub mod Beginnings
 pub mod Pumped
 pub mod Notes
 pub mod Scripts
+pub mod Addresses
+pub mod Pauses
+pub mod SystemCalls
 pub mod Sockets
+pub mod Failures
 pub mod Beforehand
 pub mod Changes

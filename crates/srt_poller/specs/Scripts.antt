@@ -13,6 +13,7 @@ use Rattle.srt_poller.specs.declared.scripts.SentDatagram.{SentDatagram}
 use Rattle.srt_poller.specs.declared.scripts.ClockScript.{ClockScript}
 use Rattle.srt_poller.specs.declared.scripts.SourceScript.{SourceScript}
 use Rattle.srt_poller.specs.declared.scripts.WireScript.{WireScript}
+use Rattle.srt_poller.specs.declared.memory.Refusals.{Refusals}
 use Rattle.srt_poller.specs.declared.scripts.SourceStep.{SourceStep}
 use Rattle.srt_poller.specs.declared.scripts.SourceStep.TheVariants.{Wait, WaitFails, Datagram, Empty, ReadFails}
 use Rattle.srt_poller.specs.Devices.{Arrival}
@@ -101,6 +102,23 @@ answers_given w = w.at
 -- the outcome of the next send
 abbrev pub next_answer : WireScript → Sent
 next_answer w = answer_at (slice_get (answers_of w) (answers_given w))
+
+-- the number of outcomes given after a send with this next outcome
+abbrev pub after_answer : Option Sent → (at : ℕ) → ℕ
+after_answer (Some sent) at = at + 1
+after_answer None at = at
+
+-- the same, of a wire
+abbrev pub given_after : WireScript → ℕ
+given_after w = after_answer (slice_get (answers_of w) (answers_given w)) (answers_given w)
+
+-- how many allocations were refused
+abbrev pub refusals : Refusals → ℕ
+refusals r = length r.journal.notes
+
+-- to a wire in memory
+abbrev pub refusals_of : WireScript → ℕ
+refusals_of w = refusals w.refusals
 
 abbrev pub moments_of : ClockScript → List ℕ
 moments_of c = c.moments.items

@@ -1,4 +1,2 @@
 -- What proofs and internal functions need: no public contract, law or document rests on it.
-pub mod Pauses
-pub mod Sockets
 pub mod Visits

@@ -1,7 +1,7 @@
 //! How densely datagrams arrive.
 
 ghost use Rattle.std.specs.Prelude.{◌≡◌};
-ghost use Rattle.srt_poller.specs.inside.Pauses.{none_counted, counted};
+ghost use Rattle.srt_poller.specs.Pauses.{none_counted, counted};
 
 use crate::tuning::TOO_DENSE;
 

@@ -1,8 +1,9 @@
 //! Evidence that an allocation was refused. Only the functions of this file make it, each where the allocator has just refused.
 
-ghost use Rattle.std.specs.Prelude.{◌≡◌, ◌<◌, ◌+◌, ◌++◌, [], IfOk, OnOk, OnErr, length};
+ghost use Rattle.std.specs.Prelude.{◌≡◌, ◌<◌, ◌+◌, ◌++◌, ◌∷◌, [], IfOk, OnOk, OnErr, length};
 ghost use Rattle.std.specs.Vec.{vec_capacity};
 
+use crate::journal::Journal;
 use std::alloc::Global;
 
 /// Evidence that an allocation was refused.
@@ -32,5 +33,52 @@ pub(crate) fn append(buffer: &mut Vec<u8>, bytes: &[u8]) -> Result<(), MemoryRef
     match buffer.extend_from_slice(bytes) {
         Ok(()) => Ok(()),
         Err(_) => Err(MemoryRefused { marker: () }),
+    }
+}
+
+/// Returns a copy of these bytes.
+pub(crate) fn copied(alloc: Global, bytes: &[u8]) -> Result<Vec<u8>, MemoryRefused>
+    ensures { IfOk result (λ copy. copy.items ≡ bytes.now) }
+{
+    match Vec::from_slice(alloc, bytes) {
+        Ok(copy) => Ok(copy),
+        Err(_) => Err(MemoryRefused { marker: () }),
+    }
+}
+
+/// Appends a value. If memory is refused, it is lost, and the list stays.
+pub(crate) fn push<T: Drop>(list: &mut Vec<T>, value: T) -> Result<(), MemoryRefused>
+    ensures pushed { OnOk result (list.new.items ≡ list.old.items ++ value ∷ []) }
+    ensures refused { OnErr result (list.new.items ≡ list.old.items) }
+{
+    match list.push(value) {
+        Ok(()) => Ok(()),
+        Err(_) => Err(MemoryRefused { marker: () }),
+    }
+}
+
+/// The refused allocations of a device in memory, for contracts alone. Each is noted by its evidence.
+#[derive(Drop)]
+pub(crate) struct Refusals {
+    journal: Journal,
+}
+
+impl Refusals {
+    ghost use Rattle.srt_poller.specs.Scripts.{refusals};
+
+    /// None yet.
+    pub(crate) fn new() -> Refusals
+        ensures { refusals result ≡ 0 }
+    {
+        Refusals {
+            journal: Journal::new(),
+        }
+    }
+
+    /// Notes one more.
+    pub(crate) fn note(&mut self, _refused: MemoryRefused)
+        ensures { refusals self.new ≡ refusals self.old + 1 }
+    {
+        self.journal.note(&[], &[], &[]);
     }
 }

@@ -1,7 +1,7 @@
 //! How a socket's source waits.
 
 ghost use Rattle.std.specs.Prelude.{◌≡◌};
-ghost use Rattle.srt_poller.specs.inside.Pauses.{at_first, pause, after_wait, after_datagram, after_end, after_put_off};
+ghost use Rattle.srt_poller.specs.Pauses.{at_first, pause, after_wait, after_datagram, after_end, after_put_off};
 
 use crate::density::Density;
 use crate::tuning::{DENSE, MANY_DATAGRAMS, SHORT_WAITS, TOO_DENSE};

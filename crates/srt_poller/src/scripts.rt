@@ -1,11 +1,12 @@
 //! Devices in memory, for tests: they follow a script, and record their datagrams.
 
-ghost use Rattle.std.specs.Prelude.{◌≡◌, ◌⊎◌, ℕ, ◌<◌, ◌≤◌, ◌+◌, ◌-◌, ◌^◌, Some, true, false, [], ◌∷◌, ◌++◌};
-ghost use Rattle.std.specs.Prelude.{option_copied, length, map, min, slice_get, take};
+ghost use Rattle.std.specs.Prelude.{◌≡◌, ◌≢◌, ◌⊎◌, ℕ, ◌<◌, ◌≤◌, ◌+◌, ◌-◌, ◌^◌, Some, true, false, [], ◌∷◌, ◌++◌};
+ghost use Rattle.std.specs.Prelude.{OnOk, OnErr, option_copied, length, map, min, slice_get, take};
 ghost use Rattle.srt_poller.specs.Notes.{outcome};
 
 use crate::devices::{Clock, Polled, Read, Sent, Source, Wire};
 use crate::journal::Journal;
+use crate::memory::{MemoryRefused, Refusals, copied, push};
 use srt_types::Peer;
 use std::alloc::Global;
 
@@ -201,6 +202,8 @@ pub struct WireScript {
     at: usize,
     handed: Vec<SentDatagram>,
     failures: u64,
+    // for contracts alone
+    refusals: Refusals,
     // its sends
     journal: Journal,
 }
@@ -209,7 +212,8 @@ impl WireScript {
     ghost use Rattle.srt_mailbox.specs.Counts.{Grew};
     ghost use Rattle.srt_poller.specs.Devices.{datagram, handed_by_send, joined};
     ghost use Rattle.srt_poller.specs.declared.devices.Sent.TheVariants.{Later, Failed as SendFailed};
-    ghost use Rattle.srt_poller.specs.Scripts.{sent_as, answer_at, next_answer, answers_of, answers_given};
+    ghost use Rattle.srt_poller.specs.Scripts.{sent_as, answer_at, next_answer, answers_of, answers_given, given_after, refusals_of};
+    ghost use Rattle.srt_poller.specs.Failures.{failures_after_send};
 
     /// A wire whose sends return these outcomes, in order.
     pub fn new(alloc: Global, answers: Vec<Sent>) -> WireScript
@@ -218,6 +222,7 @@ impl WireScript {
         ensures records { ⟦<WireScript as Wire>⟧.handed result ≡ Some [] }
         ensures attempted { ⟦<WireScript as Wire>⟧.attempts result ≡ Some [] }
         ensures failures { ⟦<WireScript as Wire>⟧.failures result ≡ 0 }
+        ensures refusals { refusals_of result ≡ 0 }
     {
         WireScript {
             alloc,
@@ -225,6 +230,7 @@ impl WireScript {
             at: 0,
             handed: Vec::new(alloc),
             failures: 0,
+            refusals: Refusals::new(),
             journal: Journal::new(),
         }
     }
@@ -239,7 +245,10 @@ impl WireScript {
     /// The next outcome of the script.
     fn answer(&mut self) -> Sent
         ensures answer { result ≡ answer_at (slice_get self.old.answers.items self.old.at) }
+        ensures given { answers_given self.new ≡ given_after self.old }
+        ensures answers { answers_of self.new ≡ answers_of self.old }
         ensures handed { self.new.handed ≡ self.old.handed }
+        ensures refusals { self.new.refusals ≡ self.old.refusals }
         ensures failures { self.new.failures ≡ self.old.failures }
         ensures journal { self.new.journal ≡ self.old.journal }
     {
@@ -253,33 +262,37 @@ impl WireScript {
         }
     }
 
-    /// Records a datagram. False if the memory for its copy was refused; then nothing was recorded.
-    fn note(&mut self, to: Peer, bytes: &[u8]) -> bool
-        ensures noted { result ≡ true → map sent_as self.new.handed.items ≡
-            map sent_as self.old.handed.items ++ datagram to bytes.now ∷ [] }
-        ensures refused { result ≡ false → self.new.handed.items ≡ self.old.handed.items }
+    /// Records a datagram. If the memory for its copy is refused, nothing is recorded.
+    fn note(&mut self, to: Peer, bytes: &[u8]) -> Result<(), MemoryRefused>
+        ensures noted { OnOk result (map sent_as self.new.handed.items ≡ map sent_as self.old.handed.items ++ datagram to bytes.now ∷ []) }
+        ensures refused { OnErr result (self.new.handed.items ≡ self.old.handed.items) }
+        ensures answers { (self.new.answers ≡ self.old.answers) × (self.new.at ≡ self.old.at) }
         ensures failures { self.new.failures ≡ self.old.failures }
+        ensures refusals { self.new.refusals ≡ self.old.refusals }
         ensures journal { self.new.journal ≡ self.old.journal }
     {
-        let Ok(bytes) = Vec::from_slice(self.alloc, bytes) else {
-            return false;
-        };
-        self.handed.push(SentDatagram { to, bytes }).is_ok()
+        let bytes = copied(self.alloc, bytes)?;
+        push(&mut self.handed, SentDatagram { to, bytes })
     }
 
-    /// Does what the script says for a send.
+    /// Does what the script says for a send. It differs only if memory was refused, which is noted.
     fn act(&mut self, to: Peer, bytes: &[u8]) -> Sent
         ensures failed { result ≡ SendFailed → Grew self.old.failures self.new.failures }
         ensures records { ⟦<WireScript as Wire>⟧.handed self.new ≡
             joined (⟦<WireScript as Wire>⟧.handed self.old) (handed_by_send result (datagram to bytes.now)) }
         ensures does { (result ≡ Later) ⊎ (result ≡ next_answer self.old) }
+        ensures refused { result ≢ next_answer self.old → refusals_of self.new ≡ refusals_of self.old + 1 }
+        ensures given { answers_given self.new ≡ given_after self.old }
+        ensures answers { answers_of self.new ≡ answers_of self.old }
+        ensures counts { self.new.failures ≡ failures_after_send result self.old.failures }
         ensures journal { self.new.journal ≡ self.old.journal }
     {
         let sent = self.answer();
         if sent == Sent::Later {
             return Sent::Later;
         }
-        if !self.note(to, bytes) {
+        if let Err(refused) = self.note(to, bytes) {
+            self.refusals.note(refused);
             return Sent::Later;
         }
         if sent == Sent::Failed {
@@ -306,7 +319,8 @@ impl Wire for WireScript {
     ghost use Rattle.srt_poller.specs.Devices.{datagram, handed_by_send, attempt, joined};
     ghost use Rattle.srt_poller.specs.Notes.{attempt_of};
     ghost use Rattle.srt_poller.specs.declared.devices.Sent.TheVariants.{Later, Failed as SendFailed};
-    ghost use Rattle.srt_poller.specs.Scripts.{sent_as, next_answer};
+    ghost use Rattle.srt_poller.specs.Scripts.{sent_as, next_answer, answers_of, answers_given, given_after, refusals_of};
+    ghost use Rattle.srt_poller.specs.Failures.{failures_after_send};
 
     ghost failures = { λ w. w.failures };
 
@@ -321,6 +335,10 @@ impl Wire for WireScript {
         ensures attempted { ⟦<WireScript as Wire>⟧.attempts self.new ≡
             joined (⟦<WireScript as Wire>⟧.attempts self.old) (attempt (datagram to bytes.now) result ∷ []) }
         ensures does { (result ≡ Later) ⊎ (result ≡ next_answer self.old) }
+        ensures refused { result ≢ next_answer self.old → refusals_of self.new ≡ refusals_of self.old + 1 }
+        ensures given { answers_given self.new ≡ given_after self.old }
+        ensures answers { answers_of self.new ≡ answers_of self.old }
+        ensures counts { self.new.failures ≡ failures_after_send result self.old.failures }
     {
         let sent = self.act(to, bytes);
         self.journal

@@ -1,35 +1,34 @@
 //! A source and a wire over one UDP socket: of IPv4, or of IPv6 and then with the callers over IPv4 too.
 
-ghost use Rattle.std.specs.Prelude.{◌≡◌, ◌++◌, ◌∷◌, ◌==◌, [], ℕ, IfOk, IfSome, IfNone, length};
+ghost use Rattle.std.specs.Prelude.{◌≡◌, ◌++◌, ◌∷◌, ◌==◌, [], ℕ, IfOk, OnOk, IfSome, IfNone, length};
 ghost use Rattle.std.specs.Prelude.{option_map};
 ghost use Rattle.std.specs.Duration.{as_nanos};
 ghost use Rattle.std.specs.Net.Addr.{ipv4_octets};
 ghost use Rattle.srt_types.specs.declared.shared.Peer.{Peer as ThePeer};
 ghost use Rattle.srt_poller.specs.declared.devices.Read.TheVariants.{Datagram};
 ghost use Rattle.srt_poller.specs.declared.sockets.Family.TheVariants.{V4 as OfIpv4};
-ghost use Rattle.srt_poller.specs.inside.Sockets.{mapped, family_of, HasAddress, HasIpv4, HasIpv6, IsTarget};
-ghost use Rattle.srt_poller.specs.inside.Pauses.{limit};
+ghost use Rattle.srt_poller.specs.Addresses.{mapped, family_of, HasAddress, HasIpv4, HasIpv6, IsTarget};
+ghost use Rattle.srt_poller.specs.Pauses.{limit};
+ghost use Rattle.srt_poller.specs.SystemCalls.{notes_of, binding_notes, opening_notes};
 
 use crate::devices::{Clock, Polled, Read, Sent, Source, Wire};
 use crate::pace::{Pace, Pause};
-use crate::tuning::{NAP_NS, RECEIVE_BUFFER};
-use libc::net;
-use libc::types::timespec;
+use crate::tuning::RECEIVE_BUFFER;
 use mio::net::UdpSocket;
-use mio::{Events, Interest, Poll, Token};
+use mio::{Events, Poll};
 use srt_types::Peer;
 use std::alloc::{AllocError, Global};
-use std::io::ErrorKind;
 use std::net::{IpAddr, Ipv4Addr, Ipv6Addr, Net, SocketAddr, SocketAddrV4, SocketAddrV6};
-use std::os::fd::AsRawFd;
 use std::sync::Arc;
 use std::sync::atomic::{AtomicBool, AtomicU32, Ordering};
 use std::time::Duration;
+use system::{Handed, Received, SystemCalls};
 use thiserror::Error;
 
 mod ipv6;
 #[cfg(test)]
 mod refused;
+mod system;
 
 /// Why a socket could not be bound. Nothing is kept then. Its text is the line that the program prints.
 #[derive(Clone, Copy, Debug, Error, PartialEq, Eq)]
@@ -52,14 +51,20 @@ pub(crate) enum Family {
     V6,
 }
 
+/// What a wire tells its source. Hints.
+#[derive(Drop)]
+struct Marks {
+    // A send returned Later since the source last waited.
+    put_off: AtomicBool,
+    // The number of datagrams sent since the source last waited, modulo 2^32. Sends by another thread than the source's may
+    // be counted short.
+    sent: AtomicU32,
+}
+
 #[derive(Drop)]
 struct Shared {
     socket: UdpSocket,
-    // A send returned Later since the source last waited.
-    put_off: AtomicBool,
-    // The number of datagrams sent since the source last waited, modulo 2^32. A hint: sends by another thread than the
-    // source's may be counted short.
-    sent: AtomicU32,
+    marks: Marks,
 }
 
 /// A source over a UDP socket. It doesn't record its datagrams and calls, so `gave` and `calls` are `None`.
@@ -71,50 +76,19 @@ pub struct MioSource<C: Clock> {
     clock: C,
     pace: Pace,
     failures: u64,
+    // for contracts alone
+    calls: SystemCalls,
 }
 
 /// A wire over a UDP socket. It doesn't record its datagrams and sends, so `handed` and `attempts` are `None`.
 #[derive(Drop)]
 pub struct MioWire {
     shared: Arc<Shared>,
-    // at which the socket was to be bound
+    // at which the socket was bound
     bound: SocketAddr,
     failures: u64,
-}
-
-/// A socket, and the address at which it was to be bound.
-#[derive(Drop)]
-struct BoundSocket {
-    socket: UdpSocket,
-    bound: SocketAddr,
-}
-
-/// Asks for a larger receive buffer. The system may give less; that isn't checked.
-fn ask_for_room(socket: &UdpSocket) {
-    let mut value = [0; 16];
-    value[..4].copy_from_slice(&RECEIVE_BUFFER.to_ne_bytes());
-    let _ = unsafe {
-        net::setsockopt(
-            socket.as_raw_fd(),
-            net::SOL_SOCKET,
-            net::SO_RCVBUF,
-            &value,
-            4,
-        )
-    };
-}
-
-/// Sleeps for a tenth of a millisecond, or until a signal.
-fn nap() {
-    let requested = timespec {
-        tv_sec: 0,
-        tv_nsec: NAP_NS,
-    };
-    let mut left = timespec {
-        tv_sec: 0,
-        tv_nsec: 0,
-    };
-    let _ = libc::nanosleep(&requested, &mut left);
+    // for contracts alone
+    calls: SystemCalls,
 }
 
 /// The peer with this IPv4 address, which becomes `::ffff:a.b.c.d`.
@@ -198,18 +172,13 @@ fn is_whole(taken: usize, bytes: &[u8]) -> bool
     taken == bytes.len()
 }
 
-impl Shared {
-    fn share(alloc: Global, socket: UdpSocket) -> Result<(Arc<Shared>, Arc<Shared>), AllocError> {
-        let ours = Arc::new(
-            alloc,
-            Shared {
-                socket,
-                put_off: AtomicBool::new(false),
-                sent: AtomicU32::new(0),
-            },
-        )?;
-        let theirs = Arc::try_clone(&ours)?;
-        Ok((ours, theirs))
+impl Marks {
+    fn mark_put_off(&self) {
+        self.put_off.store(true, Ordering::SeqCst);
+    }
+
+    fn take_put_off(&self) -> bool {
+        self.put_off.swap(false, Ordering::SeqCst)
     }
 
     fn count_sent(&self) {
@@ -225,6 +194,27 @@ impl Shared {
     }
 }
 
+impl Shared {
+    ghost use Rattle.std.specs.Arc.{arc_value};
+
+    fn share(alloc: Global, socket: UdpSocket) -> Result<(Arc<Shared>, Arc<Shared>), AllocError>
+        ensures { IfOk result (λ r. ((arc_value r.0).socket ≡ socket) × ((arc_value r.1).socket ≡ socket)) }
+    {
+        let ours = Arc::new(
+            alloc,
+            Shared {
+                socket,
+                marks: Marks {
+                    put_off: AtomicBool::new(false),
+                    sent: AtomicU32::new(0),
+                },
+            },
+        )?;
+        let theirs = Arc::try_clone(&ours)?;
+        Ok((ours, theirs))
+    }
+}
+
 /// The family of an address.
 fn family_of(addr: SocketAddr) -> Family
     ensures { result ≡ family_of addr }
@@ -236,23 +226,20 @@ fn family_of(addr: SocketAddr) -> Family
 }
 
 /// Binds a UDP socket at this address.
-fn socket_at<N: Net>(net: &N, addr: SocketAddr) -> Result<BoundSocket, BindFault>
-    ensures { IfOk result (λ socket. socket.bound ≡ addr) }
+fn socket_at<N: Net>(
+    calls: &mut SystemCalls,
+    net: &N,
+    addr: SocketAddr,
+) -> Result<UdpSocket, BindFault>
+    ensures { OnOk result (notes_of calls.new ≡ notes_of calls.old ++ binding_notes addr) }
 {
-    let socket = match addr {
-        SocketAddr::V4(_) => match UdpSocket::bind(net, addr) {
-            Ok(socket) => socket,
-            Err(error) => return Err(BindFault::Socket(error.raw_os_error())),
+    match addr {
+        SocketAddr::V4(_) => calls.bind(net, addr).map_err(BindFault::Socket),
+        SocketAddr::V6(addr) => match ipv6::bind(calls, addr) {
+            Ok(socket) => Ok(socket),
+            Err(number) => Err(BindFault::Socket(Some(number))),
         },
-        SocketAddr::V6(addr) => match ipv6::bind(addr) {
-            Ok(socket) => socket,
-            Err(number) => return Err(BindFault::Socket(Some(number))),
-        },
-    };
-    Ok(BoundSocket {
-        socket,
-        bound: addr,
-    })
+    }
 }
 
 /// How long a wait lasts at most. `None` for a nap.
@@ -269,6 +256,8 @@ impl<C: Clock> MioSource<C> {
     ghost use Rattle.srt_mailbox.specs.Counts.{Grew};
     ghost use Rattle.srt_poller.specs.declared.devices.Polled.TheVariants.{Failed as PollFailed};
     ghost use Rattle.srt_poller.specs.Sockets.{bound_at};
+    ghost use Rattle.std.specs.Arc.{arc_value};
+    ghost use Rattle.srt_poller.specs.Pauses.{at_first};
 
     /// Binds a UDP socket at this address and returns a source and a wire over it. With port 0 the system chooses the
     /// port. A socket at `::` also has callers over IPv4, whose addresses are `::ffff:a.b.c.d`, whatever the system's
@@ -285,15 +274,18 @@ impl<C: Clock> MioSource<C> {
         ensures source { IfOk result (λ r. ⟦<MioSource<C> as Source>⟧.failures r.0 ≡ 0) }
         ensures wire { IfOk result (λ r. ⟦<MioWire as Wire>⟧.failures r.1 ≡ 0) }
         ensures bound { IfOk result (λ r. bound_at r.1 ≡ addr) }
+        ensures opened { IfOk result (λ r. (notes_of r.0.calls ≡ opening_notes addr) × (notes_of r.1.calls ≡ [])) }
+        ensures same { IfOk result (λ r. (arc_value r.0.shared).socket ≡ (arc_value r.1.shared).socket) }
+        ensures pace { IfOk result (λ r. r.0.pace ≡ at_first) }
     {
-        let BoundSocket { mut socket, bound } = socket_at(net, addr)?;
-        ask_for_room(&socket);
+        let mut calls = SystemCalls::new();
+        let mut socket = socket_at(&mut calls, net, addr)?;
+        calls.ask_for_room(&socket, RECEIVE_BUFFER);
         let poll = match Poll::new(net) {
             Ok(poll) => poll,
             Err(error) => return Err(BindFault::Socket(error.raw_os_error())),
         };
-        let registry = poll.registry();
-        if let Err(error) = registry.register(&mut socket, Token(0), Interest::READABLE) {
+        if let Err(error) = calls.register(&poll, &mut socket) {
             return Err(BindFault::Socket(error.raw_os_error()));
         }
         let Ok(events) = Events::with_capacity(alloc, 4) else {
@@ -309,26 +301,15 @@ impl<C: Clock> MioSource<C> {
             clock,
             pace: Pace::new(),
             failures: 0,
+            calls,
         };
         let wire = MioWire {
             shared: theirs,
-            bound,
+            bound: addr,
             failures: 0,
+            calls: SystemCalls::new(),
         };
         Ok((source, wire))
-    }
-
-    // Waits for a datagram, for at most this time.
-    fn poll(&mut self, most: Duration) -> Polled
-        ensures failed { result ≡ PollFailed → Grew self.old.failures self.new.failures }
-    {
-        match self.poll.poll(&mut self.events, Some(most)) {
-            Ok(()) => Polled::Ready,
-            Err(_) => {
-                self.failures = self.failures.saturating_add(1);
-                Polled::Failed
-            }
-        }
     }
 
     /// The socket's own address, with the port that the system chose. `None` if the system doesn't give it.
@@ -339,7 +320,11 @@ impl<C: Clock> MioSource<C> {
 
 impl<C: Clock> Source for MioSource<C> {
     ghost use Rattle.std.specs.Prelude.{None};
-    ghost use Rattle.srt_poller.specs.Devices.{ReadsWell, IsTimed, given_by_read, call_of_read, joined};
+    ghost use Rattle.srt_mailbox.specs.Counts.{Grew};
+    ghost use Rattle.srt_poller.specs.declared.devices.Polled.TheVariants.{Failed as PollFailed};
+    ghost use Rattle.srt_poller.specs.Devices.{ReadsWell, IsTimed, given_by_read, call_of_wait, call_of_read, joined};
+    ghost use Rattle.srt_poller.specs.SystemCalls.{IsWait, IsRead, after_read};
+    ghost use Rattle.srt_poller.specs.Failures.{failures_after_wait, failures_after_read};
 
     ghost failures = { λ s. s.failures };
 
@@ -348,17 +333,30 @@ impl<C: Clock> Source for MioSource<C> {
     ghost calls = { λ s. None };
 
     /// Waits for a datagram, at most 0, 1 or 10 ms, or sleeps for a tenth of a millisecond, as `Pace` decides.
-    fn wait(&mut self) -> Polled {
-        if self.shared.put_off.swap(false, Ordering::SeqCst) {
+    fn wait(&mut self) -> Polled
+        ensures failed { result ≡ PollFailed → Grew (⟦<MioSource<C> as Source>⟧.failures self.old) (⟦<MioSource<C> as Source>⟧.failures self.new) }
+        ensures records { ⟦<MioSource<C> as Source>⟧.gave self.new ≡ ⟦<MioSource<C> as Source>⟧.gave self.old }
+        ensures called { ⟦<MioSource<C> as Source>⟧.calls self.new ≡
+            joined (⟦<MioSource<C> as Source>⟧.calls self.old) (call_of_wait result ∷ []) }
+        ensures waits { IsWait self.old.pace self.new.pace (notes_of self.old.calls) (notes_of self.new.calls) result }
+        ensures counts { self.new.failures ≡ failures_after_wait result self.old.failures }
+        ensures stays { (self.new.shared ≡ self.old.shared) × (self.new.clock ≡ self.old.clock) }
+    {
+        if self.calls.take_put_off(&self.shared.marks) {
             self.pace.put_off();
         }
-        match limit_of(self.pace.wait(self.shared.take_sent())) {
+        let sent = self.calls.take_sent(&self.shared.marks);
+        let polled = match limit_of(self.pace.wait(sent)) {
             None => {
-                nap();
+                self.calls.nap();
                 Polled::Ready
             }
-            Some(most) => self.poll(most),
+            Some(most) => self.calls.poll(&mut self.poll, &mut self.events, most),
+        };
+        if polled == Polled::Failed {
+            self.failures = self.failures.saturating_add(1);
         }
+        polled
     }
 
     fn next(&mut self, buffer: &mut [u8; 2048]) -> Read
@@ -368,18 +366,23 @@ impl<C: Clock> Source for MioSource<C> {
         ensures called { ⟦<MioSource<C> as Source>⟧.calls self.new ≡
             joined (⟦<MioSource<C> as Source>⟧.calls self.old) (call_of_read result buffer.new ∷ []) }
         ensures timed { IsTimed (C.returned self.old.clock self.new.clock) result }
+        ensures reads { IsRead (notes_of self.old.calls) (notes_of self.new.calls) buffer.new result }
+        ensures counts { self.new.failures ≡ failures_after_read result self.old.failures }
+        ensures paced { self.new.pace ≡ after_read result self.old.pace }
+        ensures stays { self.new.shared ≡ self.old.shared }
     {
-        match self.shared.socket.recv_from(buffer.as_mut_slice()) {
-            Ok(received) => {
+        match self.calls.receive(&self.shared.socket, buffer) {
+            Received::Datagram(len, from) => {
                 let moment = self.clock.next();
                 self.pace.arrived(moment);
-                datagram_read(received, moment)
+                datagram_read((len, from), moment)
             }
-            Err(error) => {
+            Received::Nothing => {
                 self.pace.ended();
-                if error.kind() == ErrorKind::WouldBlock {
-                    return Read::Empty;
-                }
+                Read::Empty
+            }
+            Received::Failed => {
+                self.pace.ended();
                 self.failures = self.failures.saturating_add(1);
                 Read::Failed
             }
@@ -392,12 +395,15 @@ impl<C: Clock> Source for MioSource<C> {
 }
 
 impl MioWire {
+    ghost use Rattle.srt_poller.specs.Reports.{one_more};
     ghost use Rattle.srt_mailbox.specs.Counts.{Grew};
     ghost use Rattle.srt_poller.specs.declared.devices.Sent.TheVariants.{Failed as SendFailed};
 
     fn fail(&mut self) -> Sent
         ensures sent { result ≡ SendFailed }
         ensures grew { Grew self.old.failures self.new.failures }
+        ensures counts { self.new.failures ≡ one_more self.old.failures }
+        ensures stays { (self.new.shared ≡ self.old.shared) × (self.new.bound ≡ self.old.bound) × (self.new.calls ≡ self.old.calls) }
     {
         self.failures = self.failures.saturating_add(1);
         Sent::Failed
@@ -406,6 +412,11 @@ impl MioWire {
 
 impl Wire for MioWire {
     ghost use Rattle.std.specs.Prelude.{None};
+    ghost use Rattle.srt_mailbox.specs.Counts.{Grew};
+    ghost use Rattle.srt_poller.specs.Devices.{datagram, handed_by_send, attempt, joined};
+    ghost use Rattle.srt_poller.specs.declared.devices.Sent.TheVariants.{Failed as SendFailed};
+    ghost use Rattle.srt_poller.specs.SystemCalls.{IsSend};
+    ghost use Rattle.srt_poller.specs.Failures.{failures_after_send};
 
     ghost failures = { λ w. w.failures };
 
@@ -414,25 +425,32 @@ impl Wire for MioWire {
     ghost attempts = { λ w. None };
 
     /// Also fails if the peer has no address of the socket's family, or if the socket took fewer bytes.
-    fn send(&mut self, to: Peer, bytes: &[u8]) -> Sent {
+    fn send(&mut self, to: Peer, bytes: &[u8]) -> Sent
+        ensures failed { result ≡ SendFailed → Grew self.old.failures self.new.failures }
+        ensures records { ⟦<MioWire as Wire>⟧.handed self.new ≡
+            joined (⟦<MioWire as Wire>⟧.handed self.old) (handed_by_send result (datagram to bytes.now)) }
+        ensures attempted { ⟦<MioWire as Wire>⟧.attempts self.new ≡
+            joined (⟦<MioWire as Wire>⟧.attempts self.old) (attempt (datagram to bytes.now) result ∷ []) }
+        ensures sends { IsSend (family_of self.old.bound) to bytes.now (notes_of self.old.calls) (notes_of self.new.calls) result }
+        ensures counts { self.new.failures ≡ failures_after_send result self.old.failures }
+        ensures stays { (self.new.shared ≡ self.old.shared) × (self.new.bound ≡ self.old.bound) }
+    {
         let Some((target, whole)) = outgoing(family_of(self.bound), to, bytes) else {
             return self.fail();
         };
-        match self.shared.socket.send_to(whole, target) {
-            Ok(taken) => {
+        match self.calls.send(&self.shared.socket, target, whole) {
+            Handed::Took(taken) => {
                 if !is_whole(taken, bytes) {
                     return self.fail();
                 }
-                self.shared.count_sent();
+                self.calls.count_sent(&self.shared.marks);
                 Sent::Taken
             }
-            Err(error) => {
-                if error.kind() == ErrorKind::WouldBlock {
-                    self.shared.put_off.store(true, Ordering::SeqCst);
-                    return Sent::Later;
-                }
-                self.fail()
+            Handed::NoRoom => {
+                self.calls.mark_put_off(&self.shared.marks);
+                Sent::Later
             }
+            Handed::Failed => self.fail(),
         }
     }
 

@@ -1,17 +1,16 @@
 //! A UDP socket over IPv6, which has callers over IPv4 too at the address `::`.
 
-ghost use Rattle.std.specs.Prelude.{◌≡◌};
+ghost use Rattle.std.specs.Prelude.{◌≡◌, ◌++◌, OnOk};
+ghost use Rattle.std.specs.declared.net.socket_addr.SocketAddr.TheVariants.{V6};
 ghost use Rattle.std.specs.Net.Addr.{ipv6_octets};
 ghost use Rattle.std.specs.Net.Socket.{v6_ip, v6_port};
-ghost use Rattle.srt_poller.specs.inside.Sockets.{ipv6_name};
+ghost use Rattle.srt_poller.specs.Addresses.{ipv6_name};
+ghost use Rattle.srt_poller.specs.SystemCalls.{notes_of, binding_notes};
 
+use crate::sockets::system::SystemCalls;
 use libc::net;
 use mio::net::UdpSocket;
-use os::{FromRawFd, errno};
 use std::net::SocketAddrV6;
-
-/// The size of C's `sockaddr_in6`, in bytes.
-const NAME_SIZE: u32 = 28;
 
 /// Returns the bytes of C's `sockaddr_in6` with this address and port, and without a flow label or a zone (ipv6(7)).
 fn name_of(addr: SocketAddrV6) -> [u8; 128]
@@ -26,19 +25,12 @@ fn name_of(addr: SocketAddrV6) -> [u8; 128]
 
 /// Binds a UDP socket over IPv6 at this address, without a zone. At `::` it also has callers over IPv4, whatever the
 /// system's default is. An error is the system's number of it.
-pub(super) fn bind(addr: SocketAddrV6) -> Result<UdpSocket, i32> {
-    let kind = net::SOCK_DGRAM | net::SOCK_NONBLOCK | net::SOCK_CLOEXEC;
-    let fd = unsafe { net::socket(net::AF_INET6, kind, 0) };
-    if fd < 0 {
-        return Err(errno());
-    }
-    let socket = unsafe { UdpSocket::from_raw_fd(fd) };
-    // IPV6_V6ONLY is off: it can't be set once the socket is bound.
-    if unsafe { net::setsockopt(fd, net::IPPROTO_IPV6, net::IPV6_V6ONLY, &[0; 16], 4) } < 0 {
-        return Err(errno());
-    }
-    if unsafe { net::bind(fd, &name_of(addr), NAME_SIZE) } < 0 {
-        return Err(errno());
-    }
+pub(super) fn bind(calls: &mut SystemCalls, addr: SocketAddrV6) -> Result<UdpSocket, i32>
+    ensures { OnOk result (notes_of calls.new ≡ notes_of calls.old ++ binding_notes (V6 addr)) }
+{
+    let socket = calls.open_ipv6()?;
+    // It can't be done once the socket is bound.
+    calls.let_ipv4_in(&socket)?;
+    calls.bind_at(&socket, &name_of(addr))?;
     Ok(socket)
 }

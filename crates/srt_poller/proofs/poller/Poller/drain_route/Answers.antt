@@ -1,4 +1,4 @@
-use Rattle.std.proofs.Common.{arith, refl, sym, ap, ◌∙◌}
+use Rattle.std.proofs.Common.{arith, sym, ap, ◌∙◌}
 use Rattle.srt_mailbox.specs.Ends.{Drained}
 use Rattle.srt_poller.proofs.Steps.{went_none, replies_then, replies_more}
 use Rattle.srt_poller.proofs.poller.Poller.drain_route.Goals as goal

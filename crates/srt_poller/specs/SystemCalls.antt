@@ -1,0 +1,162 @@
+-- What a socket's source and wire note of the calls of the system, for contracts alone.
+use Rattle.std.specs.Prelude.{◌≡◌, ◌⊎◌, ℕ, ◌*◌, ◌/◌, ◌%◌, length, Bool, if◌then◌else◌, List, [], ◌∷◌, ◌++◌}
+use Rattle.std.specs.Net.Addr.{ipv4_octets, ipv6_octets}
+use Rattle.std.specs.Net.Socket.{socket_ip, socket_port, socket_flowinfo, socket_scope_id, v6_ip, v6_port}
+use Rattle.std.specs.declared.net.ip_addr.IpAddr.{IpAddr}
+use Rattle.std.specs.declared.net.ip_addr.IpAddr.TheVariants as ip
+use Rattle.std.specs.declared.net.socket_addr.SocketAddr.{SocketAddr}
+use Rattle.std.specs.declared.net.socket_addr.SocketAddr.TheVariants as socket
+use Rattle.srt_types.specs.declared.shared.Peer.{Peer}
+use Rattle.srt_poller.specs.Notes.{Note}
+use Rattle.srt_poller.specs.Addresses.{HasAddress, IsTarget, mapped, ipv6_name}
+use Rattle.srt_poller.specs.Pauses.{pause, after_wait, after_put_off, after_datagram, after_end}
+use Rattle.srt_poller.specs.declared.devices.Polled.{Polled}
+use Rattle.srt_poller.specs.declared.devices.Polled.TheVariants as polled
+use Rattle.srt_poller.specs.declared.devices.Read.{Read}
+use Rattle.srt_poller.specs.declared.devices.Read.TheVariants as read
+use Rattle.srt_poller.specs.declared.devices.Sent.{Sent}
+use Rattle.srt_poller.specs.declared.devices.Sent.TheVariants as sent
+use Rattle.srt_poller.specs.declared.pace.Pace.{Pace}
+use Rattle.srt_poller.specs.declared.pace.Pause.{Pause}
+use Rattle.srt_poller.specs.declared.pace.Pause.TheVariants.{Poll, Nap}
+use Rattle.srt_poller.specs.declared.sockets.Family.{Family}
+use Rattle.srt_poller.specs.declared.sockets.Family.TheVariants as families
+use Rattle.srt_poller.specs.declared.sockets.system.SystemCalls.{SystemCalls}
+use Rattle.srt_poller.specs.declared.sockets.system.Handed.{Handed}
+use Rattle.srt_poller.specs.declared.sockets.system.Handed.TheVariants as handed
+use Rattle.srt_poller.specs.declared.sockets.system.Received.{Received}
+use Rattle.srt_poller.specs.declared.sockets.system.Received.TheVariants as received
+
+-- all calls, the oldest first
+abbrev pub notes_of : SystemCalls → List Note
+notes_of calls = calls.journal.notes
+
+-- the bytes of an IP address, four or sixteen
+abbrev pub octets_of : IpAddr → List ℕ
+octets_of (ip.V4 a) = ipv4_octets a
+octets_of (ip.V6 a) = ipv6_octets a
+
+-- a call of this kind that returned this number, with an address and bytes
+abbrev pub note_at : (kind number : ℕ) → SocketAddr → (bytes : List ℕ) → Note
+note_at kind number a bytes = (kind ∷ number ∷ socket_port a ∷ socket_flowinfo a ∷ socket_scope_id a ∷ [], octets_of (socket_ip a), bytes)
+
+-- a send of these bytes to this address
+abbrev pub send_note : SocketAddr → (bytes : List ℕ) → Handed → Note
+send_note a bytes (handed.Took n) = note_at 0 n a bytes
+send_note a bytes handed.NoRoom = note_at 1 0 a bytes
+send_note a bytes handed.Failed = note_at 2 0 a bytes
+
+-- a read, which left these bytes in the buffer
+abbrev pub receive_note : (buffer : List ℕ) → Received → Note
+receive_note buffer (received.Datagram n from) = note_at 3 n from buffer
+receive_note buffer received.Nothing = (4 ∷ [], [], buffer)
+receive_note buffer received.Failed = (5 ∷ [], [], buffer)
+
+-- a wait for at most this many nanoseconds, and a nap
+abbrev pub poll_note : (nanos : ℕ) → Polled → Note
+poll_note nanos polled.Ready = (6 ∷ nanos / 1_000_000_000 ∷ nanos % 1_000_000_000 ∷ [], [], [])
+poll_note nanos polled.Failed = (7 ∷ nanos / 1_000_000_000 ∷ nanos % 1_000_000_000 ∷ [], [], [])
+
+abbrev pub nap_note : Note
+nap_note = (8 ∷ [], [], [])
+
+-- what no call notes
+abbrev pub no_note : Note
+no_note = ([], [], [])
+
+-- the marks that a wire leaves for its source were taken: whether a send was put off, and how many were made
+abbrev pub put_off_note : Bool → Note
+put_off_note put_off = (9 ∷ (if put_off then 1 else 0) ∷ [], [], [])
+
+abbrev pub sent_note : (sent : ℕ) → Note
+sent_note sent = (10 ∷ sent ∷ [], [], [])
+
+-- a wire left its mark that a send was put off, and that one more was made
+abbrev pub mark_note : Note
+mark_note = (11 ∷ [], [], [])
+
+abbrev pub count_note : Note
+count_note = (12 ∷ [], [], [])
+
+-- the calls that open a socket at an address of IPv4: one
+abbrev pub bind_note : SocketAddr → Note
+bind_note a = note_at 13 0 a []
+
+-- those of IPv6: a socket, which also has callers over IPv4, and which is bound at C's name of the address
+abbrev pub open_note : Note
+open_note = (14 ∷ [], [], [])
+
+abbrev pub callers_note : Note
+callers_note = (15 ∷ [], [], [])
+
+abbrev pub name_note : (name : List ℕ) → Note
+name_note name = (16 ∷ [], name, [])
+
+-- a larger receive buffer was requested
+abbrev pub room_note : (size : ℕ) → Note
+room_note size = (17 ∷ size ∷ [], [], [])
+
+-- the socket is polled for datagrams that may be read
+abbrev pub register_note : Note
+register_note = (18 ∷ [], [], [])
+
+-- the calls that bind a socket at this address
+abbrev pub binding_notes : SocketAddr → List Note
+binding_notes (socket.V4 a) = bind_note (socket.V4 a) ∷ []
+binding_notes (socket.V6 a) = open_note ∷ callers_note ∷ name_note (ipv6_name (v6_port a) (ipv6_octets (v6_ip a))) ∷ []
+
+-- the calls that open a source at this address
+abbrev pub opening_notes : SocketAddr → List Note
+opening_notes a = binding_notes a ++ room_note 4_194_304 ∷ register_note ∷ []
+
+-- the one call of a pause
+abbrev pub pause_note : Pause → Polled → Note
+pause_note (Poll millis) result = poll_note (millis * 1_000_000) result
+pause_note Nap polled.Ready = nap_note
+pause_note Nap polled.Failed = no_note
+
+-- the pace once the mark of a put off send was taken
+abbrev pub with_mark : (put_off : Bool) → Pace → Pace
+with_mark put_off p = if put_off then after_put_off p else p
+
+-- A wait: the wire's marks were taken, and the pause that the pace then has was made, once
+pub record IsWait (old new : Pace) (before after : List Note) (result : Polled) : Type 0 where
+  pub put_off : Bool
+  pub sent : ℕ
+  pub paced : new ≡ after_wait (with_mark put_off old)
+  pub calls : after ≡ before ++ put_off_note put_off ∷ sent_note sent ∷ pause_note (pause sent (with_mark put_off old)) result ∷ []
+
+-- A read: one call, whose answer it is
+abbrev pub IsRead : (before after : List Note) → (buffer : List ℕ) → Read → Type 0
+IsRead before after buffer (read.Datagram peer len moment) =
+    (from : SocketAddr) × HasAddress peer from × (after ≡ before ++ receive_note buffer (received.Datagram len from) ∷ [])
+IsRead before after buffer read.Empty = after ≡ before ++ receive_note buffer received.Nothing ∷ []
+IsRead before after buffer read.Failed = after ≡ before ++ receive_note buffer received.Failed ∷ []
+
+-- the pace after a read
+abbrev pub after_read : Read → Pace → Pace
+after_read (read.Datagram peer len moment) p = after_datagram moment p
+after_read read.Empty p = after_end p
+after_read read.Failed p = after_end p
+
+-- an answer to a send of this many bytes that makes it a failed one
+abbrev pub IsFailure : (len : ℕ) → Handed → Type 0
+IsFailure len (handed.Took n) = n ≡ len → ⊥
+IsFailure len handed.NoRoom = ⊥
+IsFailure len handed.Failed = Unit {0}
+
+-- the peer has no address of the family
+abbrev pub HasNone : Family → Peer → Type 0
+HasNone family peer = (family ≡ families.V4) × ((a b c d : ℕ) → peer.ip ≡ mapped (a ∷ b ∷ c ∷ d ∷ []) → ⊥)
+
+-- A send: one call with the peer's address and these bytes, whose answer it is, and the mark for the source; it fails without
+-- a call if the peer has no address of the family
+abbrev pub IsSend : Family → Peer → (bytes : List ℕ) → (before after : List Note) → Sent → Type 0
+IsSend family to bytes before after sent.Taken =
+    (a : SocketAddr) × IsTarget family to a × (after ≡ before ++ send_note a bytes (handed.Took (length bytes)) ∷ count_note ∷ [])
+IsSend family to bytes before after sent.Later =
+    (a : SocketAddr) × IsTarget family to a × (after ≡ before ++ send_note a bytes handed.NoRoom ∷ mark_note ∷ [])
+IsSend family to bytes before after sent.Failed =
+    (HasNone family to × (after ≡ before))
+    ⊎ ((a : SocketAddr) × (answer : Handed) × IsTarget family to a × IsFailure (length bytes) answer
+    × (after ≡ before ++ send_note a bytes answer ∷ []))
