@@ -1,8 +1,8 @@
 //! The buffers of datagrams that routes have processed, which return with replies. They are filled again, so that the copies
 //! of a steady stream seldom allocate: what one thread allocates and another one frees costs both a lock.
 
-ghost use Rattle.std.specs.Prelude.{◌≡◌, IfOk, OnErr};
-ghost use Rattle.srt_poller.specs.Buffers.{Allocates};
+ghost use Rattle.std.specs.Prelude.{◌≡◌, [], IfOk, OnErr};
+ghost use Rattle.srt_poller.specs.Buffers.{Allocates, kept_with, kept_without};
 
 use crate::memory::{MemoryRefused, append, buffer_with_room};
 use crate::tuning::SPARE_BUFFERS;
@@ -19,7 +19,9 @@ pub(crate) struct Buffers {
 
 impl Buffers {
     /// None yet. Doesn't allocate.
-    pub(crate) fn new(alloc: Global) -> Buffers {
+    pub(crate) fn new(alloc: Global) -> Buffers
+        ensures { result.kept.items ≡ [] }
+    {
         Buffers {
             kept: ArrayVec::new_in(alloc),
         }
@@ -27,7 +29,9 @@ impl Buffers {
 
     /// Keeps a buffer, if there is one and there is room for it.
     #[inline(always)]
-    pub(crate) fn keep(&mut self, buffer: Option<Vec<u8>>) {
+    pub(crate) fn keep(&mut self, buffer: Option<Vec<u8>>)
+        ensures { self.new.kept.items ≡ kept_with buffer self.old.kept.items }
+    {
         if let Some(buffer) = buffer {
             let _ = self.kept.try_push(buffer);
         }
@@ -40,6 +44,7 @@ impl Buffers {
     pub(crate) fn copy_of(&mut self, alloc: Global, bytes: &[u8]) -> Result<Vec<u8>, MemoryRefused>
         ensures copied { IfOk result (λ buffer. buffer.items ≡ bytes.now) }
         ensures refused { OnErr result (Allocates self.old bytes.now) }
+        ensures kept { self.new.kept.items ≡ kept_without bytes.now self.old.kept.items }
     {
         if bytes.is_empty() {
             return Ok(Vec::new(alloc));

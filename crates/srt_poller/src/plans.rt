@@ -1,6 +1,6 @@
 //! When routes open and close: the plan of a route, and what the beginning of a round does with those of all routes.
 
-ghost use Rattle.std.specs.Prelude.{◌≡◌, ◌<◌, ◌≤◌, ◌+◌, ◌^◌, ℕ, length, map};
+ghost use Rattle.std.specs.Prelude.{◌≡◌, ◌<◌, ◌≤◌, ◌+◌, ◌^◌, ℕ, true, length, map};
 ghost use Rattle.srt_lobby.specs.Names.{names_of};
 ghost use Rattle.srt_poller.specs.Schedules.{offered, is_due};
 ghost use Rattle.srt_poller.specs.Plans.{schedule_of};
@@ -170,7 +170,8 @@ fn close_one<R: Wait, G: Hints>(
 ) -> bool
     requires known { route < length (names_of names.old) }
     requires route { route < length ends.old }
-    ensures { Closes latest.moment (offered route result) (names_of names.old) (names_of names.new) ends.old ends.new }
+    ensures closes { Closes latest.moment (offered route result) (names_of names.old) (names_of names.new) ends.old ends.new }
+    ensures noticed { result ≡ true → G.noticed task.now.signals.now route }
 {
     let Ok(()) = ends[route].offer_close(task.rt, latest) else {
         return false;

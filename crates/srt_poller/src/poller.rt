@@ -1,6 +1,6 @@
 //! The steps of a poller's round after its beginning: `resend`, then `listen`, then `drain`.
 
-ghost use Rattle.std.specs.Prelude.{◌≡◌, ℕ, ◌<◌, ◌≤◌, ◌+◌, ◌*◌, ◌^◌, ◌%◌, ◌==◌, ◌||◌, true, false, None, List, length, slice_index_or};
+ghost use Rattle.std.specs.Prelude.{◌≡◌, ℕ, ◌<◌, ◌≤◌, ◌+◌, ◌*◌, ◌^◌, ◌%◌, ◌==◌, ◌||◌, ◌⊎◌, true, false, None, IfSome, List, length, slice_index_or};
 ghost use Rattle.srt_lobby.specs.Names.{RouteName};
 ghost use Rattle.srt_poller.specs.Devices.{Carried, heard, carried};
 ghost use Rattle.srt_poller.specs.Devices.{datagram};
@@ -117,7 +117,9 @@ fn report_failure<G: PollerObserver>(signals: &G, sent: Sent)
 
 // Lets the polling thread serve routes, unless the wait of this round failed.
 #[inline(always)]
-fn serve_inline<G: InlineService>(signals: &G, datagrams: Option<u32>) {
+fn serve_inline<G: InlineService>(signals: &G, datagrams: Option<u32>)
+    ensures { IfSome datagrams (λ n. G.served signals.now n) }
+{
     if let Some(datagrams) = datagrams {
         signals.serve_inline(datagrams);
     }
@@ -221,7 +223,9 @@ impl Poller {
     )
         requires header { 16 ≤ incoming.len }
         requires route { route < length ends.old }
-        ensures { (class : Sorting) (names : List RouteName) (wire : Carried) → let arrival = arrival_in incoming self.old in
+        ensures noticed { (e : TheEnds) →
+            ((slice_index_or ends.new route e).ingress ≡ (slice_index_or ends.old route e).ingress) ⊎ G.noticed context.now.signals.now route }
+        ensures went { (class : Sorting) (names : List RouteName) (wire : Carried) → let arrival = arrival_in incoming self.old in
             class names arrival.datagram arrival.moment ≡ Route route →
             Arrived (setting_of class (G.knows context.now.signals.now)) names arrival (sending wire ends.old self.old) (sending wire ends.new self.new) }
     {

@@ -103,6 +103,7 @@ impl Source for SourceScript {
     ghost use Rattle.srt_mailbox.specs.Counts.{Grew};
     ghost use Rattle.srt_poller.specs.Devices.{ReadsWell, given_by_read, call_of_wait, call_of_read, joined};
     ghost use Rattle.srt_poller.specs.Notes.{call_of};
+    ghost use Rattle.srt_poller.specs.Failures.{failures_after_wait, failures_after_read};
     ghost use Rattle.srt_poller.specs.declared.devices.Polled.TheVariants.{Failed as PollFailed};
     ghost use Rattle.srt_poller.specs.Scripts.{given_in, next_step, wait_at, read_at, after_wait, after_read, steps_of, steps_done};
 
@@ -120,6 +121,7 @@ impl Source for SourceScript {
         ensures does { result ≡ wait_at (next_step self.old) }
         ensures done { steps_done self.new ≡ after_wait (next_step self.old) (steps_done self.old) }
         ensures steps { steps_of self.new ≡ steps_of self.old }
+        ensures counts { self.new.failures ≡ failures_after_wait result self.old.failures }
     {
         match self.step() {
             Some(SourceStep::WaitFails) => {
@@ -149,6 +151,7 @@ impl Source for SourceScript {
         ensures does { result ≡ read_at (next_step self.old) }
         ensures done { steps_done self.new ≡ after_read (next_step self.old) (steps_done self.old) }
         ensures steps { steps_of self.new ≡ steps_of self.old }
+        ensures counts { self.new.failures ≡ failures_after_read result self.old.failures }
     {
         match self.step() {
             Some(SourceStep::Datagram(datagram)) => {

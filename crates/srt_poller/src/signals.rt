@@ -35,8 +35,12 @@ pub trait Hints {
     /// What is known of a route whose outbox was said to have no reply. By default nothing.
     ghost rests: { Self → (route : ℕ) → Type 0 } = { λ _ _. Unit {0} };
 
+    /// What is known once it was told that a route's inbox accepted something. By default nothing.
+    ghost noticed: { Self → (route : ℕ) → Type 0 } = { λ _ _. Unit {0} };
+
     /// The inbox of the route with this index accepted something from the poller: a datagram or Close.
-    fn polled(&self, route: usize);
+    fn polled(&self, route: usize)
+        ensures { noticed self.now route };
 
     /// Whether the outbox of the route with this index may have a reply. It may clear that mark, since the poller then
     /// drains the outbox, and remembers if it left before that was empty.
@@ -54,7 +58,7 @@ pub trait Hints {
 pub trait PollerObserver {
     ghost use Rattle.srt_lobby.specs.Names.{names_of};
     ghost use Rattle.srt_poller.specs.Devices.{datagram as datagram_of};
-    ghost use Rattle.srt_poller.specs.Told.{Observer, knows_nothing};
+    ghost use Rattle.srt_poller.specs.Told.{Observer, knows_nothing, IsHandshake};
 
     /// What is known once it was told something: for the observer to choose, and by default nothing.
     ghost knows: { Self → Observer } = { λ _. knows_nothing };
@@ -72,6 +76,7 @@ pub trait PollerObserver {
     /// A handshake, whose first word is 0x80000000, was taken from the outbox of the route with this index, for this
     /// peer, and was handed to the wire, lost or kept.
     fn replied(&self, route: usize, peer: Peer, handshake: &[u8])
+        requires { IsHandshake handshake.now }
         ensures { (knows self.now).handshake route (datagram_of peer handshake.now) };
 
     /// A wait, a read or a send failed: what the report counts as a fault.
@@ -82,9 +87,15 @@ pub trait PollerObserver {
 /// Serves routes in the polling thread, between the reads and the sends of a round. No contract depends on it: a route's
 /// replies are those of its definition, whichever thread serves it.
 pub trait InlineService {
+    ghost use Rattle.std.specs.Prelude.{ℕ};
+
+    /// What is known once it served routes after this many datagrams. By default nothing.
+    ghost served: { Self → (datagrams : ℕ) → Type 0 } = { λ _ _. Unit {0} };
+
     /// Serves routes, or leaves them to other threads. The reads of the round returned this many datagrams, 0 to 256. Not
     /// called in a round whose wait failed.
-    fn serve_inline(&self, datagrams: u32);
+    fn serve_inline(&self, datagrams: u32)
+        ensures { served self.now datagrams };
 }
 
 /// All that a poller uses of the other threads of a run.

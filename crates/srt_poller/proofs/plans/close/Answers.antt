@@ -53,8 +53,8 @@ loop-plan-preserved g c =
         rw (w.names-is, w.ends-is) (closed_more c.args.closing.closes_all c.args.closing.latest.moment c.args.closing.round r w.close_one.result ss s ns
             now _ _ _ _ h known here
             (and_from _ _ (over ∙ w.if-is_over.true) (sym w.shows.ensures ∙ w.if-shows.true)) c.loop-plan.invariant.1
-            w.close_one.ensures),
-        λ k le. ap (λ (l : List RouteName). slice_get l k) (ap names_of w.names-is ∙ w.close_one.ensures.0)
+            w.close_one.ensures.closes),
+        λ k le. ap (λ (l : List RouteName). slice_get l k) (ap names_of w.names-is ∙ w.close_one.ensures.closes.0)
             ∙ hidden_stays (offered r w.close_one.result) now k (omega (arith, le)) ∙ c.loop-plan.invariant.2 k (omega (arith, le)),
       )
       | else-is_over w ↦

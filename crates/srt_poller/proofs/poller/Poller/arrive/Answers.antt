@@ -39,4 +39,4 @@ returns-in-Dropped g c schedules round latest reads source =
     (unsent _ _ _ _ refl refl refl refl) (are_later_none _ _ (λ r. refl) (λ r. refl)) refl c.count_dropped.ensures tt
 
 pub returns-in-Route : goal.returns-in-Route
-returns-in-Route g c schedules round latest gave = c.offer.ensures _ _ _ (sym c.classify.ensures.class ∙ c.in-Route.is) schedules round latest gave
+returns-in-Route g c schedules round latest gave = c.offer.ensures.went _ _ _ (sym c.classify.ensures.class ∙ c.in-Route.is) schedules round latest gave

@@ -5,8 +5,8 @@ use Rattle.srt_poller.proofs.Steps.{unsent, went_one, accepted_now, accepted_her
 use Rattle.srt_poller.proofs.poller.Poller.offer.Goals.{in-Accepted, in-Full, in-Refused}
 use Rattle.srt_poller.proofs.poller.Poller.offer.Goals as goal
 
-pub returns : goal.returns
-returns g c class names wire is schedules round latest reads source =
+pub returns-clause-went : goal.returns-clause-went
+returns-clause-went g c class names wire is schedules round latest reads source =
     let a = arrival_in c.args.incoming c.args.self.now in
     elim c.match-offer.branch [
       | in-Accepted w ↦
