@@ -1,5 +1,6 @@
 -- The families of figures: their names, help and values.
-use Rattle.std.specs.Prelude.{ℕ, suc, ◌-◌, ◌*◌, ◌/◌, ◌==◌, ℤ, pos, negsuc, neg_ℤ, Bool, true, false, List, [], ◌∷◌, codes, Option, None, Some, if◌then◌else◌}
+use Rattle.std.specs.Prelude.{ℕ, suc, ◌-◌, ◌*◌, ◌/◌, ◌==◌, ◌&&◌, ℤ, pos, negsuc, neg_ℤ, Bool, true, false, if◌then◌else◌}
+use Rattle.std.specs.Prelude.{List, [], ◌∷◌, codes, Option, None, Some}
 use Rattle.srt_pub.specs.declared.counts.Counts.{Counts as ReceivedCounts}
 use Rattle.srt_pub.specs.declared.statistics.Statistics.{Statistics as PublisherStatistics}
 use Rattle.srt_sub.specs.declared.counts.Counts.{Counts as QueuedCounts}
@@ -194,6 +195,10 @@ abbrev pub variance_of : Traffic → ℕ
 variance_of (Received x) = x.variance
 variance_of (Sent x) = x.variance
 
+-- a time of the round trip; none as long as nothing is measured, when both are those with which each session begins
+abbrev pub trip_amount : (round_trip variance : ℕ) → (micros : ℕ) → Option Amount
+trip_amount round_trip variance micros = if round_trip == 100_000 && variance == 50_000 then None else Some (Micros micros)
+
 abbrev pub traffic_amount : Gauge → (active : Bool) → Traffic → Option Amount
 traffic_amount gauge active (Received x) = publisher_amount gauge active x
 traffic_amount gauge active (Sent x) = subscriber_amount gauge x
@@ -222,8 +227,10 @@ gauge_amount gauges.Active moment session = traffic_amount gauges.Active session
 gauge_amount gauges.Open moment session = Some (Micros (moment - session.opened))
 gauge_amount gauges.Silent moment session = Some (Micros (moment - session.heard))
 gauge_amount gauges.Latency moment session = latency_amount session.latency_ms
-gauge_amount gauges.RoundTrip moment session = Some (Micros (round_trip_of session.traffic))
-gauge_amount gauges.RoundTripVariance moment session = Some (Micros (variance_of session.traffic))
+gauge_amount gauges.RoundTrip moment session =
+    trip_amount (round_trip_of session.traffic) (variance_of session.traffic) (round_trip_of session.traffic)
+gauge_amount gauges.RoundTripVariance moment session =
+    trip_amount (round_trip_of session.traffic) (variance_of session.traffic) (variance_of session.traffic)
 gauge_amount gauges.WindowUsed moment session = traffic_amount gauges.WindowUsed session.is_active session.traffic
 gauge_amount gauges.WindowAvailable moment session = traffic_amount gauges.WindowAvailable session.is_active session.traffic
 gauge_amount gauges.FreePlaces moment session = traffic_amount gauges.FreePlaces session.is_active session.traffic

@@ -50,7 +50,7 @@ health_text method polling =
 unfoldable pub overview_text : Method → (page : List ℕ) → List ℕ
 overview_text method page =
     response_text (codes "200 OK")
-    (codes "Content-Type: text/html; charset=utf-8\r\nContent-Security-Policy: default-src 'none'; connect-src 'self'; script-src 'sha256-Dmwp5IufdQc+pUCyq7sB5G/nOuQrt/oauBAw8dNZ/L0='; style-src 'sha256-aRotIZgzBcOl6rX8pAJAdvyGcLKde6RXJvdwjzsIG7Y='; base-uri 'none'; form-action 'none'; frame-ancestors 'none'\r\n")
+    (codes "Content-Type: text/html; charset=utf-8\r\nContent-Security-Policy: default-src 'none'; connect-src 'self'; script-src 'sha256-+srEv1hbQGSuQmlRmqdWyWBoyXdh6vT0ndZcTcClNJ8='; style-src 'sha256-aRotIZgzBcOl6rX8pAJAdvyGcLKde6RXJvdwjzsIG7Y='; base-uri 'none'; form-action 'none'; frame-ancestors 'none'\r\n")
     method page
 
 -- the figures

@@ -2,7 +2,7 @@
 
 ghost use Rattle.std.specs.Prelude.{◌≡◌};
 ghost use Rattle.srt_status.specs.Figures.{count_name, count_help, publisher_count, subscriber_count, gauge_name, gauge_help, gauge_amount};
-ghost use Rattle.srt_status.specs.Figures.{publisher_amount, subscriber_amount, latency_amount, round_trip_of, variance_of, traffic_amount};
+ghost use Rattle.srt_status.specs.Figures.{publisher_amount, subscriber_amount, latency_amount, round_trip_of, variance_of, trip_amount, traffic_amount};
 ghost use Rattle.srt_status.specs.Figures.{correction_of, ppm_of, drift_amount, correction_amount, repeats_of, session_count, total_name};
 ghost use Rattle.srt_status.specs.Figures.{total_help, total_kind, total_value, reason_labels, reason_name, refusal_count, figure_name};
 ghost use Rattle.srt_status.specs.Figures.{figure_help, figure_kind, limit_figure, route_figure};
@@ -11,6 +11,12 @@ use crate::gateway::{GatewayStatus, RefusalCounts};
 use crate::routes::{LimitCounts, RouteStatus};
 use srt_route::{SessionView, Traffic};
 use srt_sub::Sendings;
+
+/// The round-trip time with which a session begins, in microseconds (section 4.10).
+const FIRST_ROUND_TRIP: u32 = 100_000;
+
+/// Its variance.
+const FIRST_VARIANCE: u32 = 50_000;
 
 /// A value with its unit.
 #[derive(Clone, Copy)]
@@ -363,6 +369,17 @@ fn variance_of(traffic: &Traffic) -> u32
     }
 }
 
+/// Returns this time of a session's round trip; None as long as nothing is measured: then both are those with which each session
+/// begins (section 4.10).
+fn trip_amount(traffic: &Traffic, micros: u32) -> Option<Amount>
+    ensures { result ≡ trip_amount (round_trip_of traffic.now) (variance_of traffic.now) micros }
+{
+    if round_trip_of(traffic) == FIRST_ROUND_TRIP && variance_of(traffic) == FIRST_VARIANCE {
+        return None;
+    }
+    Some(Amount::Micros(u64::from(micros)))
+}
+
 /// Returns the microseconds by which delivery follows the clock of a publisher; None where the clock isn't followed.
 fn correction_of(traffic: &Traffic) -> Option<i64>
     ensures { result ≡ correction_of traffic.now }
@@ -420,8 +437,8 @@ pub(crate) fn gauge_amount(gauge: Gauge, moment: u64, session: &SessionView) -> 
         Gauge::Open => Some(Amount::Micros(moment.saturating_sub(session.opened))),
         Gauge::Silent => Some(Amount::Micros(moment.saturating_sub(session.heard))),
         Gauge::Latency => latency_amount(session.latency_ms),
-        Gauge::RoundTrip => Some(Amount::Micros(u64::from(round_trip_of(&session.traffic)))),
-        Gauge::RoundTripVariance => Some(Amount::Micros(u64::from(variance_of(&session.traffic)))),
+        Gauge::RoundTrip => trip_amount(&session.traffic, round_trip_of(&session.traffic)),
+        Gauge::RoundTripVariance => trip_amount(&session.traffic, variance_of(&session.traffic)),
         Gauge::ClockDrift => drift_amount(
             correction_of(&session.traffic),
             moment.saturating_sub(session.opened),

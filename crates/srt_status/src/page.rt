@@ -367,7 +367,8 @@ function showSession(parts, session, past) {
   fill(parts.rate, bits(rate(past)), "");
   parts.plot.className = "plot " + (publishes ? "in" : "out");
   draw(parts.svg, past.rates);
-  fill(parts.trip, millis(session.round_trip_seconds), "± " + millis(session.round_trip_variance_seconds));
+  const trip = session.round_trip_seconds, spread = session.round_trip_variance_seconds;
+  fill(parts.trip, millis(trip), trip === undefined ? "not measured yet" : "± " + millis(spread));
   fill(parts.lost, count(past.now.lost), count(past.now.reports) + (publishes ? " reported" : " NAKs"));
   fill(parts.resent, count(past.now.resent), publishes ? "came again" : "sent again");
   if (publishes) {

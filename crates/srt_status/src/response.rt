@@ -23,7 +23,7 @@ const JSON: &str = "Content-Type: application/json\r\n";
 
 /// The fields of the page for people. Its script and its style are named by their SHA-256.
 const HTML: &str =
-    "Content-Type: text/html; charset=utf-8\r\nContent-Security-Policy: default-src 'none'; connect-src 'self'; script-src 'sha256-Dmwp5IufdQc+pUCyq7sB5G/nOuQrt/oauBAw8dNZ/L0='; style-src 'sha256-aRotIZgzBcOl6rX8pAJAdvyGcLKde6RXJvdwjzsIG7Y='; base-uri 'none'; form-action 'none'; frame-ancestors 'none'\r\n";
+    "Content-Type: text/html; charset=utf-8\r\nContent-Security-Policy: default-src 'none'; connect-src 'self'; script-src 'sha256-+srEv1hbQGSuQmlRmqdWyWBoyXdh6vT0ndZcTcClNJ8='; style-src 'sha256-aRotIZgzBcOl6rX8pAJAdvyGcLKde6RXJvdwjzsIG7Y='; base-uri 'none'; form-action 'none'; frame-ancestors 'none'\r\n";
 
 /// Puts the fields that all responses have.
 #[tactic(auto, unfolding(crate::specs::Responses::common_fields))]
