@@ -263,7 +263,7 @@ def explanations_are_right():
             printed += subprocess.run([PROGRAM, "check", "gateway.toml", "--explain"], cwd=room, capture_output=True, text=True).stderr.splitlines()
     # Where a text that isn't TOML has its fault differs by the text.
     place = r"srtgw: gateway\.toml: line \d+, column \d+: \S.*"
-    fits = len(shown) == len(printed) == 4 and shown[:3] == printed[:3] and all(re.fullmatch(place, it[3]) for it in (shown, printed))
+    fits = len(shown) == len(printed) == 5 and shown[:4] == printed[:4] and all(re.fullmatch(place, it[4]) for it in (shown, printed))
     expect(fits, f"the page shows {shown}, and the program prints {printed}")
 
 

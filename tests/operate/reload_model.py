@@ -250,7 +250,7 @@ class Model:
         self.last = content
         reason = why_invalid(content)
         if reason:
-            return self.refuse(reason.form, reason.fault.name)
+            return self.refuse(rf"{reason.form}(?:; \d+ more faults?)?", reason.fault.name)
         table = tomllib.loads(content.decode())
         differing = [key for key in FIXED if fixed_of(table)[key] != self.fixed[key]]
         if differing:

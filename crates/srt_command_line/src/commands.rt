@@ -57,7 +57,7 @@ fn explain<'a>(alloc: Global) -> Arg<'a> {
     Arg::new(alloc, "explain")
         .long("explain")
         .action(ArgAction::SetTrue)
-        .help("Prints on standard error where the fault is and how to fix it, or warnings")
+        .help("Prints on standard error where each fault is and how to fix it, or warnings")
 }
 
 fn duration<'a>(alloc: Global) -> Arg<'a> {

@@ -1,3 +1,4 @@
 pub mod Added
 pub mod KeyValues
 pub mod Secrets
+pub mod Told

@@ -1,3 +1,5 @@
 pub mod Explaining
+pub mod Listing
 pub mod Warnings
 pub mod Texts
+pub mod inside

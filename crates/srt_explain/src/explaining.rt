@@ -1,6 +1,6 @@
 //! Reads a configuration and explains the result.
 
-ghost use Rattle.std.specs.Prelude.{◌≡◌, IfOk, IfErr, IsUtf8, Err, Some, true, [], map};
+ghost use Rattle.std.specs.Prelude.{◌≡◌, ◌⊎◌, ◌∷◌, IfOk, IfErr, IsUtf8, Err, Some, true, [], map};
 ghost use Rattle.std.specs.Fmt.InlineText.{inline_text};
 ghost use Rattle.toml.specs.Parse.{parse_document};
 ghost use Rattle.toml.specs.View.{table_view};
@@ -11,13 +11,16 @@ ghost use Rattle.srt_config.specs.FaultPlace.{fault_place, document_place};
 ghost use Rattle.srt_config.specs.KeyTable.{is_private};
 ghost use Rattle.srt_types.specs.Terms.{terms_of};
 ghost use Rattle.srt_explain.specs.Warnings.{route_of, name_at, name_for};
+ghost use Rattle.srt_explain.specs.Listing.{first_of, faults_of, HasAll, ArePrivate};
+ghost use Rattle.srt_explain.specs.inside.Others.{HasOthers};
 ghost use Rattle.srt_explain.specs.Explaining.{plain, place_of, HasPlace, is_fault_private, is_hint_private, IsPrivate, WarnsOf, HasWarnings};
 
-use crate::explanation::{Explanation, Hint, Part, RouteAt, bare};
+use crate::explanation::{Explanation, Faults, Hint, Part, RouteAt, bare, only_fault};
 use crate::hints::{
     of_bad_address, of_kind, of_name, of_range, of_same_name, of_secret, of_text, of_unknown,
 };
 use crate::lines::{Sought, line_of};
+use crate::others::others_in;
 use crate::values::{defaults_of, route_at, routes_before, text_or_empty, value_at};
 use crate::warnings::{Warning, WarningText, warnings_of};
 use srt_config::{Config, ConfigFault, Key, Place, PlacedFault, read_table, with_defaults};
@@ -199,7 +202,7 @@ fn explained_fault(table: &Table, placed: PlacedFault) -> Explanation
 }
 
 /// Explains the fault of the table of this text, with its line.
-fn explained_line(text: &str, table: &Table, placed: PlacedFault) -> Explanation
+pub(crate) fn explained_line(text: &str, table: &Table, placed: PlacedFault) -> Explanation
     ensures fault { result.fault ≡ placed.fault }
     ensures part { place_of result.part ≡ placed.place }
     ensures private { IsPrivate result }
@@ -281,11 +284,8 @@ fn explain_text(alloc: Global, text: &str) -> Result<Explained, Explanation>
     }
 }
 
-/// Reads a configuration from the bytes of its file, and explains the result: the risks of a valid one, or else its first
-/// fault. Without the explanation that is the result of `srt_config::read_config` for the text, and its fault `Toml` for
-/// bytes that aren't UTF-8. Allocates as that call does, and the list of warnings; if an allocation fails, the result can
-/// be the fault `OutOfMemory` instead of any other.
-pub fn explain(alloc: Global, bytes: &[u8]) -> Result<Explained, Explanation>
+/// Reads a configuration from the bytes of its file with its warnings, or explains its first fault.
+fn explain_first(alloc: Global, bytes: &[u8]) -> Result<Explained, Explanation>
     ensures gives { IsUtf8 bytes.now → Gives settings_of (plain result) (config_in (parse_document bytes.now)) }
     ensures no_text { ¬ (IsUtf8 bytes.now) → plain result ≡ Err ConfigFault.Toml }
     ensures place { IsUtf8 bytes.now → HasPlace (document_place (parse_document bytes.now)) result }
@@ -298,5 +298,56 @@ pub fn explain(alloc: Global, bytes: &[u8]) -> Result<Explained, Explanation>
             let at = error.valid_up_to();
             Err(explained_text(bytes, at, "these bytes are not UTF-8"))
         }
+    }
+}
+
+/// Joins a fault of the configuration in this text, its first, with its other ones. Out of memory, if these can't be listed.
+#[tactic(auto, using(crate::proofs::Told::alone_private))]
+fn with_others(alloc: Global, text: &str, first: Explanation) -> Faults
+    ensures first { (result.first ≡ first) ⊎ (result.first.fault ≡ ConfigFault.OutOfMemory) }
+    ensures others { (result.first.fault ≡ ConfigFault.OutOfMemory) ⊎ HasOthers (faults_of (parse_document text.now)) result }
+    ensures private { IsPrivate first → ArePrivate (result.first ∷ result.others.items) }
+{
+    match others_in(alloc, text) {
+        Ok(others) => Faults {
+            first,
+            others: others.explained,
+            more: others.more,
+        },
+        Err(_) => only_fault(alloc, bare(ConfigFault::OutOfMemory)),
+    }
+}
+
+/// Joins a fault of the configuration in these bytes, its first, with its other ones.
+#[tactic(auto, using(crate::proofs::Told::alone_private))]
+fn faults_in(alloc: Global, bytes: &[u8], first: Explanation) -> Faults
+    ensures first { (result.first ≡ first) ⊎ (result.first.fault ≡ ConfigFault.OutOfMemory) }
+    ensures no_text { ¬ (IsUtf8 bytes.now) → result.first ≡ first }
+    ensures others { IsUtf8 bytes.now → (result.first.fault ≡ ConfigFault.OutOfMemory) ⊎ HasOthers (faults_of (parse_document bytes.now)) result }
+    ensures private { IsPrivate first → ArePrivate (result.first ∷ result.others.items) }
+{
+    match str::from_utf8(bytes) {
+        Ok(text) => with_others(alloc, text, first),
+        Err(_) => only_fault(alloc, first),
+    }
+}
+
+/// Reads a configuration from the bytes of its file, and explains the result: the risks of a valid one, or else its faults. Without the
+/// explanation that is the result of `srt_config::read_config` for the text, and its fault `Toml` for bytes that aren't UTF-8. The first
+/// 20 faults are explained, in the order of `srt_config::all_faults`. Allocates as `read_config` does, and the list of warnings; for a
+/// configuration with faults once more as much, and their list. If an allocation fails, the result can be the fault `OutOfMemory` instead
+/// of any other.
+#[tactic(auto, using(crate::proofs::Told::gives_first, crate::proofs::Told::place_first))]
+pub fn explain(alloc: Global, bytes: &[u8]) -> Result<Explained, Faults>
+    ensures gives { IsUtf8 bytes.now → Gives settings_of (plain (first_of result)) (config_in (parse_document bytes.now)) }
+    ensures no_text { ¬ (IsUtf8 bytes.now) → plain (first_of result) ≡ Err ConfigFault.Toml }
+    ensures place { IsUtf8 bytes.now → HasPlace (document_place (parse_document bytes.now)) (first_of result) }
+    ensures all { IsUtf8 bytes.now → IfErr result (HasAll (faults_of (parse_document bytes.now))) }
+    ensures private { IfErr result (λ faults. ArePrivate (faults.first ∷ faults.others.items)) }
+    ensures warnings { IfOk result (HasWarnings (parse_document bytes.now)) }
+{
+    match explain_first(alloc, bytes) {
+        Ok(explained) => Ok(explained),
+        Err(first) => Err(faults_in(alloc, bytes, first)),
     }
 }

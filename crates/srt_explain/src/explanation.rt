@@ -5,6 +5,7 @@ ghost use Rattle.std.specs.Fmt.InlineText.{inline_text};
 
 use crate::places::TextPlace;
 use srt_config::{ConfigFault, Key};
+use std::alloc::Global;
 use std::fmt::InlineText;
 
 /// A route of a configuration.
@@ -98,7 +99,7 @@ pub enum Hint {
 /// A fault of a configuration, with what a person needs to fix it. Its text, without a line's end, is one line.
 #[derive(Drop)]
 pub struct Explanation {
-    /// The fault: the first one, as `srt_config::read_config` returns it.
+    /// The fault.
     pub fault: ConfigFault,
     /// The part that has it.
     pub part: Part,
@@ -112,9 +113,34 @@ pub struct Explanation {
     pub hint: Hint,
 }
 
+/// The faults of a configuration. Their text, without a line's end, is one line: the first, and how many others there are.
+#[derive(Drop)]
+pub struct Faults {
+    /// The first, as `srt_config::read_config` returns it.
+    pub first: Explanation,
+    /// The next ones, 19 at most, in the order of `srt_config::all_faults`.
+    pub others: Vec<Explanation>,
+    /// How many there are beyond these.
+    pub more: usize,
+}
+
+impl Faults {
+    /// Returns the first fault alone.
+    pub fn into_fault(self) -> ConfigFault
+        ensures { result ≡ self.first.fault }
+    {
+        let Faults {
+            first,
+            others: _,
+            more: _,
+        } = self;
+        first.into_fault()
+    }
+}
+
 impl Explanation {
     /// Returns the fault alone.
-    pub fn into_fault(self) -> ConfigFault
+    fn into_fault(self) -> ConfigFault
         ensures { result ≡ self.fault }
     {
         let Explanation {
@@ -140,5 +166,17 @@ pub(crate) fn bare(fault: ConfigFault) -> Explanation
         line: None,
         value: InlineText::new(),
         hint: Hint::Nothing,
+    }
+}
+
+/// Returns this fault, without others.
+pub(crate) fn only_fault(alloc: Global, first: Explanation) -> Faults
+    ensures first { result.first ≡ first }
+    ensures others { result.others.items ≡ [] }
+{
+    Faults {
+        first,
+        others: Vec::new(alloc),
+        more: 0,
     }
 }

@@ -1,17 +1,18 @@
-//! Explanations of a configuration, for people: its first fault and where that is, or its risks.
+//! Explanations of a configuration, for people: its faults and where they are, or its risks.
 //!
 //! It opens no file and prints nothing: the bytes of the configuration are an argument, and texts are those of values
-//! (`Display`). `srt_config` decides whether it is valid, and returns its first fault with the route that has it; here the
-//! fault gets its value, what is allowed instead, and a hint.
+//! (`Display`). `srt_config` decides whether it is valid, and lists its faults with their parts; here each gets its value, what is
+//! allowed instead, and a hint.
 //!
-//! Types: `Explained`, a valid configuration and its `Warning`s; `Explanation`, a fault with its place (`Part`,
-//! `RouteAt`, `TextPlace`), its value and a `Hint`; `WarningText`, a warning with what it is printed with.
+//! Types: `Explained`, a valid configuration and its `Warning`s; `Faults`, an `Explanation` for each fault, with its place
+//! (`Part`, `RouteAt`, `TextPlace`), its value and a `Hint`; `WarningText`, a warning with what it is printed with.
 //!
 //! Calls: `explain` on the bytes of a configuration's file. `srtgw` prints its result, a line each.
 //!
-//! Files: `explaining.rt` joins the others; `hints.rt` and `resemblance.rt` find what may have been meant; `values.rt`
-//! reads the table at the fault; `places.rt` counts lines and columns, and `lines.rt` finds the lines of keys; `texts.rt` has the
-//! words; `warnings.rt` the risks; `laws.rt` relates the definitions to `srt_route`, and states that warnings tell no secret.
+//! Files: `explaining.rt` joins the others; `others.rt` explains the faults after the first; `hints.rt` and `resemblance.rt` find what
+//! may have been meant; `values.rt` reads the table at the fault; `places.rt` counts lines and columns, and `lines.rt` finds the lines
+//! of keys; `texts.rt` has the words; `warnings.rt` the risks; `laws.rt` relates the definitions to `srt_route`, and states that
+//! warnings tell no secret.
 #![tactic(auto)]
 
 mod explaining;
@@ -19,6 +20,7 @@ mod explanation;
 mod hints;
 pub mod laws;
 mod lines;
+mod others;
 mod places;
 mod resemblance;
 #[cfg(test)]
@@ -28,6 +30,6 @@ mod values;
 mod warnings;
 
 pub use explaining::{Explained, explain};
-pub use explanation::{Explanation, Hint, Part, RouteAt};
+pub use explanation::{Explanation, Faults, Hint, Part, RouteAt};
 pub use places::TextPlace;
 pub use warnings::{Warning, WarningText};

@@ -8,7 +8,7 @@ ghost use Rattle.srt_explain.specs.Texts.{brought_text, enough_text, small_windo
 ghost use Rattle.srt_explain.specs.Texts.{unused_takeover_text, unused_limit_text, one_unreserved_text, no_callers_text, no_reserved_text};
 ghost use Rattle.srt_explain.specs.Texts.{no_takeover_text, no_resend_limit_text, example_secret_text, warning_text, route_text, warning_line};
 
-use crate::explanation::{Explanation, Hint, Part, RouteAt};
+use crate::explanation::{Explanation, Faults, Hint, Part, RouteAt};
 use crate::warnings::{Warning, WarningText};
 use srt_config::{
     BindAddress, ConfigFault, DEFAULT_KEYS, Key, Limits, ROUTE_KEYS, TOP_KEYS, ValueKind,
@@ -489,6 +489,17 @@ impl fmt::Display for Explanation {
             ConfigFault::BadSecret => write_bad_secret(f, hint),
             ConfigFault::BadAddress(key) => write_bad_address(f, *key, value, hint),
             ConfigFault::OutOfMemory => f.write_str("out of memory"),
+        }
+    }
+}
+
+impl fmt::Display for Faults {
+    fn fmt<W: fmt::Write>(&self, f: &mut fmt::Formatter<W>) -> fmt::Result {
+        let first = &self.first;
+        match self.others.len().saturating_add(self.more) {
+            0 => write!(f, "{first}"),
+            1 => write!(f, "{first}; 1 more fault"),
+            others => write!(f, "{first}; {others} more faults"),
         }
     }
 }

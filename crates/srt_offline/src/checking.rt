@@ -9,7 +9,7 @@ ghost use Rattle.srt_offline.specs.Ends.{IsConfigFault, IsCheckFault};
 use crate::configurations::read_configuration;
 use crate::faults::OfflineFault;
 use srt_config::{Config, ConfigFault, read_config};
-use srt_explain::{Explained, explain};
+use srt_explain::{Explained, Faults, explain};
 use std::alloc::Global;
 use std::rt::Files;
 use std::str;
@@ -40,6 +40,19 @@ pub fn config_at(rt: &(impl Files + AllocGlobal), path: &str) -> Result<Config, 
     }
 }
 
+/// Prints what is wrong with a configuration, a line for each fault, on standard error.
+fn print_faults(rt: &impl Eprint, path: &str, faults: &Faults) {
+    let first = &faults.first;
+    let _ = eprintln!(rt; "srtgw: {path}: {first}");
+    for other in faults.others.iter() {
+        let _ = eprintln!(rt; "srtgw: {path}: {other}");
+    }
+    let more = faults.more;
+    if more > 0 {
+        let _ = eprintln!(rt; "srtgw: {path}: and {more} more");
+    }
+}
+
 /// A configuration's explanation from the bytes of its file. What is wrong is explained on standard error.
 fn explained_in(
     rt: &(impl Eprint + AllocGlobal),
@@ -48,10 +61,9 @@ fn explained_in(
 ) -> Result<Explained, ConfigFault> {
     match explain(rt.alloc(), bytes) {
         Ok(explained) => Ok(explained),
-        Err(explanation) => {
-            let why = &explanation;
-            let _ = eprintln!(rt; "srtgw: {path}: {why}");
-            Err(explanation.into_fault())
+        Err(faults) => {
+            print_faults(rt, path, &faults);
+            Err(faults.into_fault())
         }
     }
 }
@@ -78,8 +90,8 @@ pub fn explained_at(
     }
 }
 
-/// Prints the number of routes in a configuration.
-fn print_routes(rt: &impl Print, config: &Config) -> Result<(), OfflineFault>
+/// Prints the number of routes in a configuration. The only error is an output that can't be written.
+pub fn print_routes(rt: &impl Print, config: &Config) -> Result<(), OfflineFault>
     ensures { IfErr result IsCheckFault }
 {
     let routes = config.entries.len();
@@ -97,23 +109,22 @@ fn print_warnings(rt: &impl Eprint, path: &str, explained: &Explained) {
     }
 }
 
-/// `srtgw check CONFIG`.
-fn check_plainly(rt: &(impl Print + Files + AllocGlobal), path: &str) -> Result<(), OfflineFault>
-    ensures { IfErr result IsCheckFault }
-{
-    let config = config_at(rt, path)?;
-    print_routes(rt, &config)
-}
-
-/// `srtgw check CONFIG --explain`.
-fn check_explained<R>(rt: &R, path: &str) -> Result<(), OfflineFault>
+/// Reads a configuration's file, as [`config_at`] does. If it `explains`, standard error gets what is wrong or unwise, a line each.
+pub fn checked_at<R>(rt: &R, path: &str, explains: bool) -> Result<Config, OfflineFault>
 where
-    R: Print + Eprint + Files + AllocGlobal,
-    ensures { IfErr result IsCheckFault }
+    R: Eprint + Files + AllocGlobal,
+    ensures { IfErr result IsConfigFault }
 {
+    if !explains {
+        return config_at(rt, path);
+    }
     let explained = explained_at(rt, path)?;
     print_warnings(rt, path, &explained);
-    print_routes(rt, &explained.config)
+    let Explained {
+        config,
+        warnings: _,
+    } = explained;
+    Ok(config)
 }
 
 /// `srtgw check CONFIG`: prints the number of routes in the configuration. If it `explains`, as with `--explain`, standard
@@ -123,8 +134,6 @@ where
     R: Print + Eprint + Files + AllocGlobal,
     ensures { IfErr result IsCheckFault }
 {
-    if explains {
-        return check_explained(rt, path);
-    }
-    check_plainly(rt, path)
+    let config = checked_at(rt, path, explains)?;
+    print_routes(rt, &config)
 }

@@ -8,8 +8,8 @@
 //! wasn't read, in words for people.
 //!
 //! Calls: `check_file`, `replay_file` and `explain_file` are the commands, and `status_of` prints the line of a fault and gives the exit
-//! status. `config_at` and `explained_at` read a configuration's file, `read_configuration` its bytes, and
-//! `read_file` those of any file up to a limit, by `read_within`.
+//! status. `config_at`, `explained_at` and `checked_at` read a configuration's file, and `print_routes` prints what `check` does of it;
+//! `read_configuration` reads its bytes, and `read_file` those of any file up to a limit, by `read_within`.
 //!
 //! Files: `files.rt` reads files, `configurations.rt` those of configurations, `faults.rt` has the faults and their status, `checking.rt` the command `check`,
 //! `replaying.rt` the command `replay` and `explaining.rt` the command `explain`. docs/PROTOCOL.md has each line of output and each status.
@@ -24,7 +24,7 @@ mod replaying;
 #[cfg(test)]
 mod tests;
 
-pub use checking::{check_file, config_at, explained_at};
+pub use checking::{check_file, checked_at, config_at, explained_at, print_routes};
 pub use configurations::read_configuration;
 pub use explaining::explain_file;
 pub use faults::{OfflineFault, status_of};
