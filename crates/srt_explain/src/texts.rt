@@ -182,12 +182,23 @@ fn keys_of(part: Part) -> &'static [Key] {
     }
 }
 
+/// Whether a key asks for encryption, by one of its usual names.
+fn asks_for_encryption(key: &str) -> bool {
+    key.as_bytes().ends_with(b"passphrase") || key == "pbkeylen"
+}
+
 fn write_unknown<W: fmt::Write>(
     f: &mut fmt::Formatter<W>,
     key: &str,
     part: Part,
     hint: Hint,
 ) -> fmt::Result {
+    if asks_for_encryption(key) {
+        return write!(
+            f,
+            "{key}: unknown key; this version encrypts nothing, and refuses callers with a passphrase"
+        );
+    }
     let key = KeyText(key);
     match hint {
         Hint::Resembles(meant) => {
