@@ -67,6 +67,9 @@ abbrev pub few_indexes_text : (left : ℕ) → List ℕ
 few_indexes_text left =
     decimal left ++ codes " of 511 indexes are left; each route that opens while the gateway runs uses one, restart it in a quiet hour"
 
+abbrev pub held_text : (route : List ℕ) → List ℕ
+held_text route = codes "configuration closes " ++ escaped_all route ++ codes ", which has sessions; it is taken if it stays so for 5 s"
+
 -- words and a text for people
 abbrev pub about_text : (words why : List ℕ) → List ℕ
 about_text words why = words ++ readable_all why
@@ -81,4 +84,5 @@ config_text (events.Wrong why) = about_text (codes "configuration not taken: ") 
 config_text (events.NoMemory route) = no_memory_text route.now
 config_text (events.NoIndexes opens left) = no_indexes_text opens left
 config_text (events.Unread why) = about_text (codes "configuration can't be read: ") why.now
+config_text (events.Held route) = held_text route.now
 config_text (events.FewIndexes left) = few_indexes_text left

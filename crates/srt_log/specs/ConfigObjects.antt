@@ -17,6 +17,7 @@ config_kind (events.Wrong why) = codes "config_wrong"
 config_kind (events.NoMemory route) = codes "config_no_memory"
 config_kind (events.NoIndexes opens left) = codes "config_no_indexes"
 config_kind (events.Unread why) = codes "config_unread"
+config_kind (events.Held route) = codes "config_held"
 config_kind (events.FewIndexes left) = codes "few_indexes"
 
 unfoldable pub numbers_members : ChangeSummary → List ℕ
@@ -53,4 +54,5 @@ config_members (events.Wrong why) = readable_member (codes "why") why.now
 config_members (events.NoMemory route) = shown_member (codes "route") route.now
 config_members (events.NoIndexes opens left) = no_indexes_members opens left
 config_members (events.Unread why) = readable_member (codes "why") why.now
+config_members (events.Held route) = shown_member (codes "route") route.now
 config_members (events.FewIndexes left) = number_member (codes "left") left

@@ -75,6 +75,11 @@ pub enum ConfigEvent<'a> {
         /// Why, in the system's words.
         why: &'a [u8],
     },
+    /// It isn't taken yet: it closes a route that has sessions. It is taken if the file is the same five seconds later.
+    Held {
+        /// The route's name: the first one.
+        route: &'a [u8],
+    },
     /// Few indexes are left for routes that open while the gateway runs.
     FewIndexes {
         /// Their number.

@@ -3,7 +3,7 @@
 ghost use Rattle.std.specs.Prelude.{◌≡◌};
 ghost use Rattle.srt_log.specs.Texts.{put};
 ghost use Rattle.srt_log.specs.ConfigEvents.{taken_text, cause_text, closes_text, opens_text, also_text, other_text, end_text, fixed_text, no_memory_text};
-ghost use Rattle.srt_log.specs.ConfigEvents.{first_text, others_text, numbers_text, no_indexes_text, few_indexes_text, about_text, config_text};
+ghost use Rattle.srt_log.specs.ConfigEvents.{first_text, others_text, numbers_text, no_indexes_text, few_indexes_text, held_text, about_text, config_text};
 
 use crate::config_events::{ChangeSummary, CloseCause, ConfigEvent};
 use crate::line::Line;
@@ -165,6 +165,15 @@ fn put_few_indexes(line: &mut Line, left: u64)
     );
 }
 
+#[tactic(auto, using(crate::proofs::Puts::put_put))]
+fn put_held(line: &mut Line, route: &[u8])
+    ensures { line.new.text.items ≡ put line.old.text.items (held_text route.now) }
+{
+    line.put(b"configuration closes ");
+    line.put_escaped(route);
+    line.put(b", which has sessions; it is taken if it stays so for 5 s");
+}
+
 /// Puts words and a text for people.
 #[tactic(auto, using(crate::proofs::Puts::put_put))]
 fn put_about(line: &mut Line, words: &[u8], why: &[u8])
@@ -191,6 +200,7 @@ pub(crate) fn put_config(line: &mut Line, event: ConfigEvent<'_>)
         ConfigEvent::NoMemory { route } => put_no_memory(line, route),
         ConfigEvent::NoIndexes { opens, left } => put_no_indexes(line, opens, left),
         ConfigEvent::Unread { why } => put_about(line, b"configuration can't be read: ", why),
+        ConfigEvent::Held { route } => put_held(line, route),
         ConfigEvent::FewIndexes { left } => put_few_indexes(line, left),
     }
 }

@@ -22,6 +22,7 @@ pub(crate) fn config_kind(event: ConfigEvent<'_>) -> &'static str
         ConfigEvent::NoMemory { .. } => "config_no_memory",
         ConfigEvent::NoIndexes { .. } => "config_no_indexes",
         ConfigEvent::Unread { .. } => "config_unread",
+        ConfigEvent::Held { .. } => "config_held",
         ConfigEvent::FewIndexes { .. } => "few_indexes",
     }
 }
@@ -98,6 +99,7 @@ pub(crate) fn put_config(out: &mut Vec<u8>, event: ConfigEvent<'_>) -> Result<()
         ConfigEvent::NoMemory { route } => put_shown(out, b"route", route),
         ConfigEvent::NoIndexes { opens, left } => put_no_indexes(out, opens, left),
         ConfigEvent::Unread { why } => put_readable(out, b"why", why),
+        ConfigEvent::Held { route } => put_shown(out, b"route", route),
         ConfigEvent::FewIndexes { left } => put_number(out, b"left", left),
     }
 }

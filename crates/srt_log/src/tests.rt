@@ -531,6 +531,11 @@ fn lines_of_a_change_that_is_refused(rt: HostRuntime) -> Result<(), Fail> {
     )?;
     assert_config_line(
         &rt,
+        ConfigEvent::Held { route: b"studio" },
+        "configuration closes studio, which has sessions; it is taken if it stays so for 5 s\n",
+    )?;
+    assert_config_line(
+        &rt,
         ConfigEvent::FewIndexes { left: 111 },
         "111 of 511 indexes are left; each route that opens while the gateway runs uses one, restart it in a quiet hour\n",
     )
