@@ -24,6 +24,8 @@ SMALL = dict(buffer=190, sessions=3, inbox=16)
 PATIENT = dict(latency_ms=400, buffer=512, sessions=3)  # Of a route that loses nothing where the machine stands still for a while.
 INDEXES = 511
 TAKEN = r"configuration changed: (\d+) routes stay, (\d+) open, (\d+) close, (\d+) change"
+HOLDING = 5.0  # For so long a file has to stay the same that closes a route with sessions.
+HELD = "configuration closes {}, which has sessions; it is taken if it stays so for 5 s"
 REMOVED, CHANGED = "closed, it is no longer in the configuration", "closed, to open again with other keys"
 
 
@@ -178,12 +180,29 @@ def hangs_up():
         expect_polite(run.stop(), ["studio", "news"])
 
 
-@case("the callers of a route that is removed get a SHUTDOWN, and no others")
+def opened_all(run, *names):
+    """Waits until the log has the sessions of a publisher and a subscriber of each of these routes, as the last snapshots do then."""
+    for name in names:
+        for role in ("publisher", "subscriber"):
+            run.line(rf"{name}: {role} .* opened, .*", LOOK)
+
+
+def held(run, name, first):
+    """Waits for the line that a file is held since this route has sessions. Returns the time at which it was there."""
+    number, _ = run.line(re.escape(HELD.format(name)), LOOK, first)
+    return run.lines[number].came
+
+
+@case("the callers of a route that is removed get a SHUTDOWN five seconds later, and no others")
 def route_removed():
     with Run([live("studio"), live("news", **SMALL)], "--no-time") as run:
         run.is_up()
         air, gone = OnAir(run, "studio"), OnAir(run, "news")
-        first = changed(run, [live("studio")], (1, 0, 1, 0))
+        opened_all(run, "studio", "news")
+        before = len(run.lines)
+        first = changed(run, [live("studio")], (1, 0, 1, 0), LOOK + HOLDING)
+        spent = run.lines[first].came - held(run, "news", before)
+        expect(HOLDING - 0.1 <= spent <= HOLDING + 2, f"it was held for {spent:.2f} s")
         closed(run, "news", REMOVED, first)
         for one in gone.callers():
             expect_shut(run, one, "news")
@@ -199,7 +218,7 @@ def route_renamed():
         run.is_up()
         gone = [OnAir(run, "studio"), OnAir(run, "news")]
         # The keys of `studio` are those of `news` now, and the other way round under a new name.
-        first = changed(run, [live("guest", **SMALL), live("studio", latency_ms=200, **SMALL)], (0, 1, 1, 1))
+        first = changed(run, [live("guest", **SMALL), live("studio", latency_ms=200, **SMALL)], (0, 1, 1, 1), LOOK + HOLDING)
         closed(run, "news", REMOVED, first)
         closed(run, "studio", CHANGED, first)
         opened(run, "guest", 2, first)
@@ -364,6 +383,30 @@ def half_written():
         opened(run, "news", 1, before)
         expect(run.find(TAKEN, before)[1].groups() == ("1", "1", "0", "0"), f"the log says {run.texts(before)}")
         air.end()
+        expect_polite(run.stop(), ["studio", "news"])
+
+
+@case("a writer that pauses between two routes throws nobody off")
+def writer_pauses():
+    routes = [live("studio"), live("news", **SMALL)]
+    with Run(routes, "--no-time") as run:
+        run.is_up()
+        airs = [OnAir(run, it) for it in ("studio", "news")]
+        opened_all(run, "studio", "news")
+        half, whole = text_of(run, routes[:1]), text_of(run, routes)
+        expect(whole.startswith(half), "the routes aren't in their order")
+        before = len(run.lines)
+        with open(run.file, "w") as it:
+            it.write(half)
+            it.flush()
+            time.sleep(2)
+            it.write(whole[len(half):])
+        held(run, "news", before)
+        time.sleep(HOLDING + 2)
+        told = [it for it in run.texts(before) if "configuration" in it]
+        expect(told == [HELD.format("news")], f"it says {told}")
+        for air in airs:
+            air.end()
         expect_polite(run.stop(), ["studio", "news"])
 
 
@@ -556,7 +599,7 @@ def full_inbox():
             first = changed(run, [*steady, live("guest", **PATIENT)], (2, 1, 0, 0))
             opened(run, "guest", 2, first)
             expect_stream(run, "guest")
-            first = changed(run, steady, (2, 0, 1, 0))
+            first = changed(run, steady, (2, 0, 1, 0), LOOK + HOLDING)
             closed(run, "guest", REMOVED, first)
             wait_for_full(run)
             first = changed(run, [steady[0], live("news", latency_ms=300, **SMALL)], (1, 0, 0, 1))

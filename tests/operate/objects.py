@@ -25,6 +25,7 @@ FORMS = {
     "stop_requested": r"stopping, by a (?P<cause>signal)",
     "stopped": "stopped",
     "config_taken": r"configuration changed: (?P<staying>\d+) routes stay, (?P<opening>\d+) open, (?P<closing>\d+) close, (?P<changing>\d+) change",
+    "config_held": r"configuration closes (?P<route>\S+), which has sessions; it is taken if it stays so for 5 s",
     "route_opens": r"(?P<route>\S+): opened with index (?P<index>\d+), (?P<megabytes>\d+) MB",
     "route_closes": r"(?P<route>\S+): closed, .*",
     "config_wrong": r"configuration not taken: (?P<why>.*)",

@@ -223,6 +223,7 @@ class Model:
         self.is_unread = False
         self.closed: list[Route] = []  # Those that the last state of the file closed,
         self.opened: list[Route] = []  # and those that it opened.
+        self.waits: list[str] = []  # The forms of lines that may come before those: a route that it closes had sessions at the last look.
         self.counts = Bounds()
         self.outcomes: Counter[str] = Counter()  # What became of the states of the file, and of the routes.
 
@@ -235,7 +236,7 @@ class Model:
 
     def unread(self, why: str) -> list[str]:
         """The forms of the log's lines where the file can't be read, for a reason of this form."""
-        self.closed, self.opened = [], []
+        self.closed, self.opened, self.waits = [], [], []
         first, self.is_unread = not self.is_unread, True
         self.outcomes["unread"] += 1
         return [f"configuration can't be read: {why}"] if first else []
@@ -244,7 +245,7 @@ class Model:
         """The forms of the log's lines, in order, where the file has this content, which is then in force unless a line reports why not."""
         if len(content) > LARGEST:
             return self.unread(f"larger than {LARGEST} bytes")
-        self.is_unread, self.closed, self.opened = False, [], []
+        self.is_unread, self.closed, self.opened, self.waits = False, [], [], []
         if content == self.last:
             return []
         self.last = content
@@ -279,6 +280,7 @@ class Model:
             return self.refuse(f"{len(opening)} routes are to open, {INDEXES - self.used} indexes are left; restart the gateway", "NO_INDEXES")
         for index, it in enumerate(opening, self.used):
             it.index = index
+        self.waits = [f"configuration closes {re.escape(it.name)}, which has sessions; it is taken if it stays so for 5 s" for it in gone]
         self.closed, self.opened = [*gone, *(before[it.name] for it in changed)], opening
         self.routes, self.tables, self.taken = after, tables, self.taken + 1
         counts = len(after) - len(opening), len(opening) - len(changed), len(gone), len(changed)

@@ -86,13 +86,17 @@ class Compared:
         """The lines about the configuration that weren't compared yet, each with its number."""
         return [(at, text) for at, text in enumerate(self.run.texts(self.next_line), self.next_line) if re.fullmatch(CONFIG_LINE, text)]
 
+    def change_lines(self) -> list[tuple[int, str]]:
+        """The lines about the configuration, without those that it is held, which depend on when sessions were looked at last."""
+        return [it for it in self.config_lines() if not any(re.fullmatch(form, it[1]) for form in self.model.waits)]
+
     def expect_lines(self, forms: list[str]) -> None:
         """Expects these lines about the configuration next, in this order, and no others among them."""
         until = time.monotonic() + SECONDS
-        found = self.config_lines()
+        found = self.change_lines()
         while len(found) < len(forms) and time.monotonic() < until and self.run.runs():
             time.sleep(0.02)
-            found = self.config_lines()
+            found = self.change_lines()
         texts = [text for _, text in found]
         right = len(texts) >= len(forms) and all(re.fullmatch(form, text) for form, text in zip(forms, texts))
         self.expect(right, f"the log has {texts}, and not {forms}")

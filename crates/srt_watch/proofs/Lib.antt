@@ -2,9 +2,13 @@ pub mod Appended
 pub mod Asked
 pub mod ChangedRoutes
 pub mod Floods
+pub mod GrownRoutes
+pub mod HeldChanges
 pub mod Logging
 pub mod LossLines
+pub mod OpenedLines
 pub mod PagesShown
+pub mod PlacedRoutes
 pub mod ReadTexts
 pub mod Reloading
 pub mod RouteLines

@@ -1,11 +1,12 @@
 -- The lines of a changed configuration, and the counts of changes.
-use Rattle.std.specs.Prelude.{ℕ, ◌-◌, List, [], ◌∷◌, codes, Option, None, Some, option_map, slice_get, length, if◌then◌else◌}
+use Rattle.std.specs.Prelude.{ℕ, ◌-◌, List, [], ◌∷◌, ◌++◌, map, codes, Option, None, Some, option_map, slice_get, length, if◌then◌else◌}
 use Rattle.std.specs.Fmt.InlineText.{inline_text}
 use Rattle.std.specs.List.{flat_map}
 use Rattle.srt_types.specs.declared.shared.Entry.{Entry}
 use Rattle.srt_types.specs.Terms.{Terms, terms_of}
 use Rattle.srt_config.specs.declared.changes.RouteChange.{RouteChange}
 use Rattle.srt_config.specs.declared.changes.RouteChange.TheVariants.{Stays, Reopens, Opens}
+use Rattle.srt_log.specs.declared.config_events.ChangeSummary.{ChangeSummary}
 use Rattle.srt_log.specs.declared.config_events.CloseCause.{CloseCause}
 use Rattle.srt_log.specs.declared.config_events.CloseCause.TheVariants.{Removed, OtherKeys}
 use Rattle.srt_log.specs.declared.config_events.ConfigEvent.{ConfigEvent}
@@ -21,7 +22,10 @@ use Rattle.srt_watch.specs.declared.log.When.{When}
 use Rattle.srt_watch.specs.declared.prepared_change.NoRoom.{NoRoom}
 use Rattle.srt_watch.specs.declared.prepared_change.NoRoom.TheVariants.{Route, Lists}
 use Rattle.srt_watch.specs.Census.{one_more}
-use Rattle.srt_watch.specs.Indexes.{opens, reaches_mark, megabytes_of}
+use Rattle.srt_watch.specs.Indexes.{opens, next_after, reaches_mark, megabytes_of}
+use Rattle.srt_watch.specs.Openings.{opening_name}
+use Rattle.srt_watch.specs.declared.in_force.Wanted.{Wanted}
+use Rattle.srt_watch.specs.declared.watched_routes.OpeningRoute.{OpeningRoute}
 use Rattle.srt_watch.specs.Log.{LogCall, Always, Offered, Said, said, lent}
 
 -- one change more that was made, or that wasn't
@@ -46,20 +50,19 @@ counted_not_taken (Unread why) counts = counts
 counted_not_taken (Wrong why) counts = one_refused counts
 counted_not_taken (KeysDiffer keys) counts = one_refused counts
 
+-- that a configuration is held since the route of this name has sessions
+abbrev pub held_said : (route : List ℕ) → Said
+held_said route = config_said (events.Held (lent route))
+
 -- for lack of memory: of the route of this name, or of lists
 abbrev pub no_room_said : NoRoom → Said
 no_room_said (Route name) = config_said (events.NoMemory (lent (inline_text name)))
 no_room_said Lists = config_said (events.Wrong (lent (codes "out of memory")))
 
--- the name of a route, if there is one
-abbrev pub name_or_none : Option (List ℕ) → List ℕ
-name_or_none None = []
-name_or_none (Some name) = name
-
--- why the run rejected a change by which routes of these names open
-abbrev pub rejected_said : (names : List (List ℕ)) → ChangeFault → Said
-rejected_said names (OutOfMemory place) = config_said (events.NoMemory (lent (name_or_none (slice_get names place))))
-rejected_said names (NoIndexLeft left) = config_said (events.NoIndexes (length names) left)
+-- why the run rejected a change by which these routes open
+abbrev pub rejected_said : (opening : List OpeningRoute) → ChangeFault → Said
+rejected_said opening (OutOfMemory place) = config_said (events.NoMemory (lent (opening_name (slice_get opening place))))
+rejected_said opening (NoIndexLeft left) = config_said (events.NoIndexes (length opening) left)
 
 -- the routes that close, of a configuration with these entries: first those whose names are gone, then those that open again
 abbrev pub close_call : When → CloseCause → Option Terms → List LogCall
@@ -84,6 +87,23 @@ reopened_calls when before changes = flat_map (reopened_call when before) change
 abbrev pub open_call : When → RouteChange → Terms → (index : ℕ) → List LogCall
 open_call when change terms index =
     if opens change then Offered when Session (config_said (events.RouteOpens (lent terms.name) index (megabytes_of terms))) ∷ [] else []
+
+-- all routes that open, in the order of the configuration, which has these routes; the first one has this index
+abbrev pub opens_calls : When → (index : ℕ) → List RouteChange → List Terms → List LogCall
+opens_calls when index [] routes = []
+opens_calls when index (change ∷ changes) [] = []
+opens_calls when index (change ∷ changes) (terms ∷ routes) =
+    open_call when change terms index ++ opens_calls when (next_after index change) changes routes
+
+-- the routes that close and open by a change of a configuration with these entries
+abbrev pub route_calls : When → List Entry → Wanted → (first : ℕ) → List LogCall
+route_calls when before wanted first =
+    gone_calls when before wanted.changes.gone.items ++ reopened_calls when before wanted.changes.routes.items
+    ++ opens_calls when first wanted.changes.routes.items (map terms_of wanted.config.entries.items)
+
+-- a change that was made, with these numbers of routes, and its routes
+abbrev pub taken_calls : When → ChangeSummary → List Entry → Wanted → (first : ℕ) → List LogCall
+taken_calls when numbers before wanted first = Always when (config_said (events.Taken numbers)) ∷ route_calls when before wanted first
 
 -- when few indexes are left
 abbrev pub few_calls : When → (before used : ℕ) → List LogCall

@@ -1,5 +1,6 @@
 -- The first lines of a log.
-use Rattle.std.specs.Prelude.{ℕ, Bool, List, [], ◌∷◌, ◌++◌, map, Option, None, Some, if◌then◌else◌}
+use Rattle.std.specs.Prelude.{◌≡◌, ℕ, Bool, List, [], ◌∷◌, ◌++◌, map, Option, None, Some, IfSome, if◌then◌else◌}
+use Rattle.std.specs.Fmt.Cut.{IsTextOrCut}
 use Rattle.std.specs.Fmt.InlineText.{inline_text}
 use Rattle.std.specs.declared.fmt.InlineText.{InlineText}
 use Rattle.srt_log.specs.declared.events.LogEvent.TheVariants.{Started, Unblocked, Warned}
@@ -20,6 +21,12 @@ warning_call when warning = Always when (said (Warned (lent (inline_text warning
 
 abbrev pub warning_calls : When → List (InlineText 512) → List LogCall
 warning_calls when warnings = map (warning_call when) warnings
+
+-- a warning more, whose text is this; it may be cut
+pub record HasWarned (output : Option (List ℕ)) (old new : List (InlineText 512)) : Type 0 where
+  pub warning : InlineText 512
+  pub text_is : IfSome output (λ text. IsTextOrCut 512 text (inline_text warning))
+  pub new_is : new ≡ old ++ warning ∷ []
 
 -- all of them, in their order, once
 abbrev pub first_calls : Option Start → List (InlineText 512) → When → (routes memory : ℕ) → List LogCall

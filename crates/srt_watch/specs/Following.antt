@@ -5,6 +5,7 @@ use Rattle.srt_config.specs.Config.{settings_of}
 use Rattle.srt_config.specs.Changes.{requested, requested_by, any_fixed}
 use Rattle.srt_supervision.specs.Changes.{AskedChange, with_asked}
 use Rattle.srt_supervision.specs.declared.changes.ChangeFault.{ChangeFault}
+use Rattle.srt_watch.specs.Holding.{FileLook, MayBeTaken}
 use Rattle.srt_watch.specs.Indexes.{closing, indexes_from, numbers_of, changes_nothing}
 use Rattle.srt_watch.specs.Requests.{opened_by, config_of}
 use Rattle.srt_watch.specs.declared.in_force.InForce.{InForce}
@@ -49,7 +50,8 @@ pub data IsRequested (before after : InForce) (wanted : Wanted) (old new : Recor
   Asked : (outcome : Result ℕ ChangeFault) → changes_no_route wanted ≡ false → new ≡ with_asked old (request_of before wanted outcome) →
       IsAnswered before after wanted outcome → IsRequested before after wanted old new
 
--- A poll of the file: nothing that is taken, or a configuration.
-pub data IsFollowed (before after : InForce) (old new : Record) : Type 0 where
-  Stayed : after ≡ before → new ≡ old → IsFollowed before after old new
-  Changed : (wanted : Wanted) → IsWanted before wanted → IsRequested before after wanted old new → IsFollowed before after old new
+-- A poll of the file: nothing that is taken, or a configuration that may be.
+pub data IsFollowed (look : FileLook) (before after : InForce) (old new : Record) : Type 0 where
+  Stayed : after ≡ before → new ≡ old → IsFollowed look before after old new
+  Changed : (wanted : Wanted) → IsWanted before wanted → MayBeTaken look before wanted → IsRequested before after wanted old new →
+      IsFollowed look before after old new

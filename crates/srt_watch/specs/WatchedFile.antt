@@ -2,9 +2,9 @@
 use Rattle.std.specs.Prelude.{ℕ, ◌==◌, Bool, true, false, not, ◌||◌, List, Option, None, Some, if◌then◌else◌}
 use Rattle.std.specs.Str.{bytes_eq}
 use Rattle.srt_watch.specs.declared.config_file.FileStamp.{FileStamp}
-use Rattle.srt_watch.specs.declared.config_file.LastPoll.{LastPoll}
-use Rattle.srt_watch.specs.declared.config_file.Phase.{Phase}
-use Rattle.srt_watch.specs.declared.config_file.Phase.TheVariants.{Settling, Read, Known}
+use Rattle.srt_watch.specs.declared.watched_file.LastPoll.{LastPoll}
+use Rattle.srt_watch.specs.declared.watched_file.Phase.{Phase}
+use Rattle.srt_watch.specs.declared.watched_file.Phase.TheVariants.{Settling, Read, Known}
 
 -- the content may be another one: size or time differ, or it is the first poll
 abbrev pub differs : (before : Option FileStamp) → (now : FileStamp) → Bool
@@ -15,6 +15,10 @@ abbrev pub next_phase : Phase → Phase
 next_phase Settling = Read
 next_phase Read = Known
 next_phase Known = Known
+
+-- before the first poll
+abbrev pub no_poll : LastPoll
+no_poll = record { stamp = None; phase = Known }
 
 -- it isn't known whether the file's writer is still at work
 abbrev pub settles : Phase → Bool

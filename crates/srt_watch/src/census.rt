@@ -1,11 +1,10 @@
 //! The status of a route, and the counts of refusals.
 
 ghost use Rattle.std.specs.Prelude.{◌≡◌};
-ghost use Rattle.srt_watch.specs.Showing.{AreTotals};
 ghost use Rattle.srt_watch.specs.Census.{refusals_of, limits_of, status_with, with_refusal, with_cause, grown_limits};
 
 use srt_hs::RefusalCode;
-use srt_route::{RefusalCause, Route, SessionView};
+use srt_route::{RefusalCause, Route, SessionView, Totals};
 use srt_status::{CauseCounts, LimitCounts, RefusalCounts, RouteStatus};
 use srt_types::product_limits::MAX_SESSIONS;
 use srt_types::{NotAdmitted, Role};
@@ -26,8 +25,8 @@ fn refusals_of(route: &Route) -> RefusalCounts
     }
 }
 
-// Returns how many conclusions each limit of a route refused.
-fn limits_of(route: &Route) -> LimitCounts
+/// Returns how many conclusions each limit of a route refused.
+pub(crate) fn limits_of(route: &Route) -> LimitCounts
     ensures { result ≡ limits_of route.now }
 {
     LimitCounts {
@@ -37,18 +36,18 @@ fn limits_of(route: &Route) -> LimitCounts
     }
 }
 
-/// Updates the status of a route, whose open sessions are these. Its name, its mode, the number of sessions allowed and the
+/// Updates the status of a route, whose open sessions and totals are these. Its name, its mode, the number of sessions allowed and the
 /// take-overs stay.
 pub(crate) fn note_route(
     route: &Route,
     sessions: &[Option<SessionView>; MAX_SESSIONS],
+    totals: Totals,
     status: &mut RouteStatus,
 )
-    ensures status { status.new ≡ status_with route.now sessions.now status.new.totals status.old }
-    ensures totals { AreTotals route.now status.new.totals }
+    ensures { status.new ≡ status_with route.now sessions.now totals status.old }
 {
     status.sessions = *sessions;
-    status.totals = route.totals();
+    status.totals = totals;
     status.opened = route.opened();
     status.refused = refusals_of(route);
     status.limits = Some(limits_of(route));

@@ -1,13 +1,13 @@
 //! The lines of a configuration that changes while the gateway runs, and the counts of such changes.
 
-ghost use Rattle.std.specs.Prelude.{◌≡◌, [], ◌∷◌, ◌++◌, true, option_map};
+ghost use Rattle.std.specs.Prelude.{◌≡◌, [], ◌∷◌, ◌++◌, map, true, option_map};
 ghost use Rattle.srt_types.specs.Terms.{terms_of};
 ghost use Rattle.srt_log.specs.declared.shares.LineKind.TheVariants.{Session};
 ghost use Rattle.srt_watch.specs.Overview.{no_changes};
 ghost use Rattle.srt_watch.specs.Log.{HasState, Logged, Always, Offered};
-ghost use Rattle.srt_watch.specs.ChangeLines.{config_said, one_taken, one_refused, not_taken_said, counted_not_taken, no_room_said};
+ghost use Rattle.srt_watch.specs.ChangeLines.{config_said, one_taken, one_refused, not_taken_said, counted_not_taken, held_said, no_room_said};
 ghost use Rattle.srt_watch.specs.ChangeLines.{close_call, closing_call, gone_calls, reopened_call, reopened_calls};
-ghost use Rattle.srt_watch.specs.ChangeLines.{open_call, few_calls};
+ghost use Rattle.srt_watch.specs.ChangeLines.{rejected_said, open_call, opens_calls, route_calls, taken_calls, few_calls};
 
 use crate::in_force::{NotTaken, Wanted};
 use crate::indexes::{megabytes_of, next_after, opens, reaches_mark};
@@ -84,6 +84,16 @@ impl<W: Write + Drop> ChangeLog<W> {
         }
     }
 
+    /// Logs that a configuration isn't taken yet, since it closes the route of this name, which has sessions.
+    pub(crate) fn held(&mut self, when: When, route: &str)
+        ensures counts { self.new.counts ≡ self.old.counts }
+        ensures logged { Logged (W.contents self.old.log.out) (W.contents self.new.log.out) self.old.log.pace self.new.log.pace
+            (Always when (held_said route.now) ∷ []) }
+    {
+        let route = route.as_bytes();
+        self.write(when, ConfigEvent::Held { route });
+    }
+
     /// Logs that a configuration isn't taken for lack of memory, and counts it.
     pub(crate) fn no_room(&mut self, when: When, no_room: &NoRoom)
         ensures counts { self.new.counts ≡ one_refused self.old.counts }
@@ -103,7 +113,11 @@ impl<W: Write + Drop> ChangeLog<W> {
     }
 
     /// Logs why the run rejected this change, and counts it.
-    pub(crate) fn rejected(&mut self, when: When, change: &PreparedChange, fault: ChangeFault) {
+    pub(crate) fn rejected(&mut self, when: When, change: &PreparedChange, fault: ChangeFault)
+        ensures counts { self.new.counts ≡ one_refused self.old.counts }
+        ensures logged { Logged (W.contents self.old.log.out) (W.contents self.new.log.out) self.old.log.pace self.new.log.pace
+            (Always when (rejected_said change.now.room.opening.items fault) ∷ []) }
+    {
         match fault {
             ChangeFault::OutOfMemory(place) => {
                 let route = change.name_at(place).as_bytes();
@@ -130,11 +144,19 @@ impl<W: Write + Drop> ChangeLog<W> {
         first: usize,
     )
         ensures counts { self.new.counts ≡ one_taken self.old.counts }
+        ensures logged { Logged (W.contents self.old.log.out) (W.contents self.new.log.out) self.old.log.pace self.new.log.pace
+            (taken_calls when change.now.numbers before.now.entries.items change.now.wanted first) }
     {
         let wanted = change.wanted();
         let routes = change.numbers();
         self.write(when, ConfigEvent::Taken { routes });
-        log_routes(&mut self.log, when, wanted, before, first);
+        log_routes(
+            &mut self.log,
+            when,
+            wanted,
+            before.entries.as_slice(),
+            first,
+        );
         self.counts.taken = self.counts.taken.saturating_add(1);
     }
 
@@ -259,30 +281,47 @@ fn log_if_opens<W: Write + Drop>(
     );
 }
 
-// Writes which routes open, in the order of the configuration. They have the indexes from `first` on.
-fn log_opens<W: Write + Drop>(log: &mut LogWriter<W>, when: When, wanted: &Wanted, first: usize) {
+// Writes which of these routes open, in their order. They have the indexes from `first` on.
+#[tactic(auto, using(crate::proofs::OpenedLines::leads_begin, crate::proofs::OpenedLines::leads_on, crate::proofs::OpenedLines::leads_end))]
+fn log_opens<W: Write + Drop>(
+    log: &mut LogWriter<W>,
+    when: When,
+    changes: &[RouteChange],
+    entries: &[Entry],
+    first: usize,
+)
+    ensures { Logged (W.contents log.old.out) (W.contents log.new.out) log.old.pace log.new.pace
+        (opens_calls when first changes.now (map terms_of entries.now)) }
+{
     let mut index = first;
-    for (change, entry) in wanted
-        .changes
-        .routes
-        .iter()
-        .zip(wanted.config.entries.iter())
-    {
-        log_if_opens(log, when, *change, entry, index);
-        index = next_after(index, *change);
+    let mut rest = changes;
+    let mut routes = entries;
+    while !rest.is_empty() && !routes.is_empty() {
+        log_if_opens(log, when, rest[0], &routes[0], index);
+        index = next_after(index, rest[0]);
+        rest = &rest[1..];
+        routes = &routes[1..];
     }
 }
 
 // Writes which routes close and open by a change: first those whose names are gone, then those that open again.
+#[tactic(auto, using(crate::proofs::Logging::logged_both))]
 fn log_routes<W: Write + Drop>(
     log: &mut LogWriter<W>,
     when: When,
     wanted: &Wanted,
-    before: &Config,
+    before: &[Entry],
     first: usize,
-) {
-    let entries = before.entries.as_slice();
-    log_gone(log, when, entries, wanted.changes.gone.as_slice());
-    log_reopened(log, when, entries, wanted.changes.routes.as_slice());
-    log_opens(log, when, wanted, first);
+)
+    ensures { Logged (W.contents log.old.out) (W.contents log.new.out) log.old.pace log.new.pace (route_calls when before.now wanted.now first) }
+{
+    log_gone(log, when, before, wanted.changes.gone.as_slice());
+    log_reopened(log, when, before, wanted.changes.routes.as_slice());
+    log_opens(
+        log,
+        when,
+        wanted.changes.routes.as_slice(),
+        wanted.config.entries.as_slice(),
+        first,
+    );
 }

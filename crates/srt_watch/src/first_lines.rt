@@ -2,7 +2,7 @@
 
 ghost use Rattle.std.specs.Prelude.{◌≡◌, [], ◌∷◌, ◌++◌, OnOk, Some, None};
 ghost use Rattle.srt_watch.specs.Log.{Logged, said};
-ghost use Rattle.srt_watch.specs.FirstLines.{started_said, first_calls, warning_call, warning_calls, unblocked_calls};
+ghost use Rattle.srt_watch.specs.FirstLines.{started_said, first_calls, warning_call, warning_calls, unblocked_calls, HasWarned};
 
 use crate::log::{LogWriter, When};
 use srt_log::LogEvent;
@@ -51,7 +51,10 @@ impl FirstLines {
     }
 
     /// Adds a warning of the configuration. Allocates; the only error is out of memory.
-    pub(crate) fn warn<D: Display + Drop>(&mut self, warning: D) -> Result<(), AllocError> {
+    pub(crate) fn warn<D: Display + Drop>(&mut self, warning: D) -> Result<(), AllocError>
+        ensures start { self.new.start ≡ self.old.start }
+        ensures warnings { OnOk result (HasWarned (D.output warning) self.old.warnings.items self.new.warnings.items) }
+    {
         match self.warnings.push(InlineText::of(warning)) {
             Ok(()) => Ok(()),
             Err(_) => Err(AllocError),

@@ -1,10 +1,13 @@
 //! How a watcher follows the configuration's file: the change that a changed file requests, and what becomes of it.
 
-ghost use Rattle.std.specs.Prelude.{◌≡◌, ℕ, IfOk, IfSome, map, length};
+ghost use Rattle.std.specs.Prelude.{◌≡◌, ℕ, true, IfOk, IfSome, is_some, option_map, map, length};
 ghost use Rattle.srt_types.specs.Terms.{Terms, terms_of};
 ghost use Rattle.srt_supervision.specs.Answers.{Closes, Opens};
 ghost use Rattle.srt_watch.specs.Answers.{WasInForce, WasRead, IsToClose, IsToOpen};
+ghost use Rattle.srt_watch.specs.ChangeLines.{one_taken};
+ghost use Rattle.srt_watch.specs.Holding.{waits_for, waiting, held_calls, IsHeldConfig, look_of};
 ghost use Rattle.srt_watch.specs.Indexes.{numbers_of};
+ghost use Rattle.srt_watch.specs.Log.{Logged};
 ghost use Rattle.srt_watch.specs.Requests.{config_of, first_indexes};
 ghost use Rattle.srt_watch.specs.Following.{IsTaken, IsRequested, IsFollowed, closes_of, opens_of};
 
@@ -13,7 +16,7 @@ use crate::config_file::ConfigFile;
 use crate::in_force::{InForce, NotTaken, Wanted};
 use crate::log::When;
 use crate::prepared_change::PreparedChange;
-use crate::watched_file::WatchedFile;
+use crate::watched_file::{News, WatchedFile};
 use crate::watched_routes::WatchedRoutes;
 use srt_config::Config;
 use srt_supervision::{ChangeRoutes, RouteChanges};
@@ -25,6 +28,14 @@ use std::io::Write;
 struct Requested {
     change: PreparedChange,
     changes: RouteChanges,
+}
+
+// A configuration that was read, and that may be taken.
+#[derive(Drop)]
+struct Found {
+    wanted: Wanted,
+    // its content was held for five seconds, and is the same
+    was_held: bool,
 }
 
 /// The configuration that the gateway follows.
@@ -56,18 +67,62 @@ impl<'a, F: ConfigFile + Drop> Following<'a, F> {
     }
 
     // Polls the file, once a second. None if it has nothing new.
-    fn poll(&mut self, moment: u64) -> Option<Result<Wanted, NotTaken>>
+    fn poll(&mut self, moment: u64) -> Option<Result<Found, NotTaken>>
         ensures in_force { self.new.in_force ≡ self.old.in_force }
-        ensures wanted { IfSome result (λ found. IfOk found (WasRead F.facts self.old.in_force)) }
+        ensures wanted { IfSome result (λ found. IfOk found (λ f. WasRead F.facts self.old.in_force f.wanted)) }
+        ensures held { IfSome result (λ found. IfOk found (λ f. f.was_held ≡ true →
+            IsHeldConfig self.old.file.polling moment (option_map (λ v. v.items) self.old.file.content) f.wanted.config)) }
     {
         match self.file.poll(moment)? {
-            Ok(content) => {
+            Ok(News { content, was_held }) => {
                 let wanted = self.in_force.wanted(self.alloc, content.as_slice());
                 self.file.keep(content);
-                Some(wanted)
+                match wanted {
+                    Ok(wanted) => Some(Ok(Found { wanted, was_held })),
+                    Err(not_taken) => Some(Err(not_taken)),
+                }
             }
             Err(why) => Some(Err(NotTaken::Unread(why))),
         }
+    }
+
+    // Returns the index of a route that a configuration closes, and that has sessions; none if the configuration was held.
+    fn waits_for(&self, routes: &WatchedRoutes, found: &Found) -> Option<usize>
+        ensures { result ≡ waits_for found.now.was_held routes.now self.now.in_force found.now.wanted }
+    {
+        if found.was_held {
+            return None;
+        }
+        routes.first_used(
+            self.in_force.indexes(),
+            found.wanted.changes.gone.as_slice(),
+        )
+    }
+
+    // Holds a configuration for five seconds if it closes a route with sessions, unless it was held, and logs that. Returns
+    // whether it is held.
+    #[tactic(auto, using(crate::proofs::Logging::logged_nothing))]
+    fn holds<W: Write + Drop>(
+        &mut self,
+        log: &mut ChangeLog<W>,
+        when: When,
+        routes: &WatchedRoutes,
+        found: &Found,
+    ) -> bool
+        ensures in_force { self.new.in_force ≡ self.old.in_force }
+        ensures result { result ≡ is_some (waits_for found.now.was_held routes.now self.old.in_force found.now.wanted) }
+        ensures polling { self.new.file.polling
+            ≡ waiting (waits_for found.now.was_held routes.now self.old.in_force found.now.wanted) self.old.file.polling when.moment }
+        ensures counts { log.new.counts ≡ log.old.counts }
+        ensures logged { Logged (W.contents log.old.log.out) (W.contents log.new.log.out) log.old.log.pace log.new.log.pace
+            (held_calls when routes.now (waits_for found.now.was_held routes.now self.old.in_force found.now.wanted)) }
+    {
+        let Some(index) = self.waits_for(routes, found) else {
+            return false;
+        };
+        log.held(when, routes.name_of(index));
+        self.file.hold(when.moment);
+        true
     }
 
     // Puts the configuration in force whose change the run made, and logs it. Routes opened from the index `first` on.
@@ -80,7 +135,8 @@ impl<'a, F: ConfigFile + Drop> Following<'a, F> {
         first: usize,
     )
         requires { WasRead F.facts self.old.in_force change.wanted }
-        ensures { IsTaken self.old.in_force self.new.in_force change.wanted first }
+        ensures taken { IsTaken self.old.in_force self.new.in_force change.wanted first }
+        ensures counts { log.new.counts ≡ one_taken log.old.counts }
     {
         let before = routes.used();
         log.taken(when, &change, self.in_force.config(), first);
@@ -129,16 +185,22 @@ impl<'a, F: ConfigFile + Drop> Following<'a, F> {
     )
         requires closings { (r : ℕ) → ∥ IsToClose F.facts r ∥₁ → C.requires_of (Closes r) }
         requires openings { (t : Terms) → ∥ IsToOpen F.facts t ∥₁ → C.requires_of (Opens t) }
-        ensures { IsFollowed self.old.in_force self.new.in_force (C.asked run.old) (C.asked run.new) }
+        ensures { IsFollowed
+            (look_of self.old.file.polling when.moment (option_map (λ v. v.items) self.old.file.content) routes.old)
+            self.old.in_force self.new.in_force (C.asked run.old) (C.asked run.new) }
     {
-        let wanted = match self.poll(when.moment) {
-            Some(Ok(wanted)) => wanted,
+        let found = match self.poll(when.moment) {
+            Some(Ok(found)) => found,
             Some(Err(not_taken)) => {
                 log.not_taken(when, &not_taken);
                 return;
             }
             None => return,
         };
+        if self.holds(log, when, routes, &found) {
+            return;
+        }
+        let Found { wanted, .. } = found;
         match PreparedChange::of(self.alloc, &self.in_force, routes, wanted) {
             Ok((change, changes)) => {
                 self.request(log, when, routes, run, Requested { change, changes });

@@ -12,8 +12,8 @@ use srt_log::ChangeSummary;
 use srt_types::Entry;
 use std::alloc::{AllocError, Global};
 
-// Returns the index of the route at a place. Callers pass places of routes alone.
-fn index_at(indexes: &[usize], place: usize) -> usize
+/// Returns the index of the route at a place. Callers pass places of routes alone.
+pub(crate) fn index_at(indexes: &[usize], place: usize) -> usize
     ensures { result ≡ index_at indexes.now place }
 {
     match indexes.get(place) {

@@ -15,10 +15,10 @@
 //!   and lost datagrams (`losses.rt`), of sessions (`route_lines.rt`) and of a changed configuration (`change_log.rt`).
 //! - Page: `page.rt` shows the gateway (`overview.rt`) and its routes (`watched_routes.rt`). `showing.rt` takes the snapshots of
 //!   a route, `census.rt` counts refusals.
-//! - Reload: `following.rt` requests the change of a changed configuration, and puts it in force. `watched_file.rt` finds what
-//!   is new in the file, by the rule of `config_file.rt`. `in_force.rt` has the configuration in force and compares it with the
-//!   file's. `prepared_change.rt` is a change with all memory that it needs, and `indexes.rt` has which routes close and which
-//!   indexes the others get.
+//! - Reload: `following.rt` requests the change of a changed configuration, and puts it in force. `watched_file.rt` has when the
+//!   file is read, and what is new in it. `in_force.rt` has the configuration in force and compares it with the file's.
+//!   `prepared_change.rt` is a change with all memory that it needs, and `indexes.rt` has which routes close and which indexes
+//!   the others get.
 //!
 //! `machine.rt`, `status_server.rt` and `config_file.rt` have the traits. The words of each line are in `srt_log`, those of the
 //! page in `srt_status`, and the changes of a configuration in `srt_config`. `stopping.rt` has the steps of a stop.

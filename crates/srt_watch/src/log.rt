@@ -7,6 +7,7 @@ ghost use Rattle.srt_watch.specs.Log.{IsStamp, IsTimeOf, HasState, Wrote, Logged
 ghost use Rattle.srt_watch.specs.Log.{object_at, line_at, line_if, left_out_text, said};
 ghost use Rattle.srt_watch.specs.Log.{Offered, Always, Polled, Missed, Closed};
 ghost use Rattle.srt_watch.specs.Draining.{IsDrained};
+ghost use Rattle.srt_watch.specs.Writes.{is_passing, pace_after, refused_after};
 ghost use Rattle.srt_log.specs.declared.events.LogEvent.TheVariants.{Stopped};
 
 use crate::machine::Machine;
@@ -104,8 +105,10 @@ impl LogPace {
 }
 
 // Whether a write that failed so may succeed later: there was no room for the line, or no memory.
-fn is_passing(kind: ErrorKind) -> bool {
-    kind == ErrorKind::WouldBlock || kind == ErrorKind::OutOfMemory
+fn is_passing(kind: ErrorKind) -> bool
+    ensures { result ≡ is_passing kind }
+{
+    matches!(kind, ErrorKind::WouldBlock | ErrorKind::OutOfMemory)
 }
 
 // Makes the object of an event in place of another one, and writes it.
@@ -186,20 +189,27 @@ impl<W: Write + Drop> LogWriter<W> {
         }
     }
 
-    // Writes a line, whatever the limit. If the writer has no room for it now, or there is no memory for it, the `count`
+    // Notes how the write of a line ended. If the writer has no room for it now, or there is no memory for it, the `count`
     // lines that it stands for are counted; any other failed write is ignored: the gateway continues without a log.
+    fn note(&mut self, outcome: io::Result<()>, count: u64)
+        ensures out { self.new.out ≡ self.old.out }
+        ensures pace { self.new.pace ≡ pace_after outcome self.old.pace }
+        ensures refused { self.new.refused ≡ refused_after outcome self.old.refused count }
+    {
+        if let Err(error) = outcome {
+            self.pace.is_whole = false;
+            if is_passing(error.kind()) {
+                self.refused = self.refused.saturating_add(count);
+            }
+        }
+    }
+
+    // Writes a line, whatever the limit.
     fn write(&mut self, when: When, event: LogEvent<'_>, count: u64)
         ensures { Wrote (W.contents self.old.out) (W.contents self.new.out) self.old.pace self.new.pace (line_at when (said event.entry)) }
     {
-        match self.put_line(when, event) {
-            Ok(()) => {}
-            Err(error) => {
-                self.pace.is_whole = false;
-                if is_passing(error.kind()) {
-                    self.refused = self.refused.saturating_add(count);
-                }
-            }
-        }
+        let outcome = self.put_line(when, event);
+        self.note(outcome, count);
     }
 
     // Writes how many lines were left out, if some were.

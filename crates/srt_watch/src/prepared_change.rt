@@ -1,9 +1,10 @@
 //! A change of the run's routes, with all memory that it needs here allocated.
 
-ghost use Rattle.std.specs.Prelude.{◌≡◌, ◌≤◌, [], ◌∷◌, ◌++◌, IfOk, OnOk, length, map, vec_len, vec_capacity};
+ghost use Rattle.std.specs.Prelude.{◌≡◌, ◌≤◌, [], ◌∷◌, ◌++◌, IfOk, OnOk, length, map, slice_get, vec_len, vec_capacity};
 ghost use Rattle.srt_types.specs.Terms.{terms_of};
 ghost use Rattle.srt_watch.specs.Indexes.{closing, indexes_from, numbers_of, changes_nothing};
 ghost use Rattle.srt_watch.specs.Requests.{opened_at, opened_by, config_of};
+ghost use Rattle.srt_watch.specs.Openings.{opening_name};
 
 use crate::in_force::{InForce, Wanted};
 use crate::indexes::{changes_nothing, closing, fill_indexes, numbers_of, opens};
@@ -211,12 +212,16 @@ impl PreparedChange {
     }
 
     /// The number of routes that open.
-    pub(crate) fn opens(&self) -> usize {
+    pub(crate) fn opens(&self) -> usize
+        ensures { result ≡ length self.now.room.opening.items }
+    {
         self.room.opening.len()
     }
 
     /// The name of the route at this place of those that open; empty if there is none.
-    pub(crate) fn name_at(&self, place: usize) -> &str {
+    pub(crate) fn name_at(&self, place: usize) -> &str
+        ensures { result.now ≡ opening_name (slice_get self.now.room.opening.items place) }
+    {
         match self.room.opening.get(place) {
             Some(opening) => opening.name(),
             None => "",

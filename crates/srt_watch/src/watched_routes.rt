@@ -1,15 +1,23 @@
 //! The routes of a run, by their indexes, and the status of those in the configuration in force.
 
-ghost use Rattle.std.specs.Prelude.{◌≡◌, slice_get};
+ghost use Rattle.std.specs.Prelude.{◌≡◌, ◌+◌, IfOk, IfSome, Some, [], map, option_map, slice_get, string_bytes};
 ghost use Rattle.std.specs.Option.{option_copied};
 ghost use Rattle.std.specs.List.{position};
+ghost use Rattle.srt_types.specs.Terms.{terms_of};
+ghost use Rattle.srt_watch.specs.Census.{status_with};
+ghost use Rattle.srt_watch.specs.Log.{most};
+ghost use Rattle.srt_watch.specs.Openings.{fresh_status, IsOpening};
+ghost use Rattle.srt_watch.specs.Observing.{status_place, status_at, with_snapshot, with_take_overs, changed_if, grown_of, HasObserved};
+ghost use Rattle.srt_watch.specs.Placing.{unplaced, placed, all_placed, HasAdded, IfStays, HasGrown, ArePlaced};
+ghost use Rattle.srt_watch.specs.Holding.{is_open, has_sessions, is_used_at, first_used};
 ghost use Rattle.srt_watch.specs.Routes.{used_of, has_index, is_of, place_of, route_at, name_of};
 
-use crate::census::{grown_limits, note_route};
+use crate::census::{grown_limits, limits_of, note_route};
+use crate::indexes::index_at;
 use crate::showing::{first_snapshot, sessions_of, snapshot_of};
 use srt_config::RouteChange;
-use srt_log::RouteSnapshot;
-use srt_route::{Route, Totals};
+use srt_log::{RouteSnapshot, SlotSession};
+use srt_route::{Route, SessionView, Totals};
 use srt_status::{LimitCounts, RefusalCounts, RouteStatus};
 use srt_sub::Sendings;
 use srt_types::product_limits::MAX_SESSIONS;
@@ -102,6 +110,20 @@ fn find(routes: &[WatchedRoute], index: usize) -> Option<usize>
     routes.iter().position(|route| route.has_index(index))
 }
 
+// Whether a session is open in a slot.
+fn is_open(slot: &Option<SlotSession>) -> bool
+    ensures { result ≡ is_open slot.now }
+{
+    matches!(slot, Some(SlotSession::Open(_)))
+}
+
+// Whether a session is open at a snapshot of a route.
+fn has_sessions(snapshot: &RouteSnapshot) -> bool
+    ensures { result ≡ has_sessions snapshot.now }
+{
+    snapshot.slots.iter().any(|slot| is_open(slot))
+}
+
 // Returns the place of the route with this index. That is the index itself, unless the run left indexes out.
 fn place_of(routes: &[WatchedRoute], index: usize) -> Option<usize>
     ensures { result ≡ place_of routes.now index }
@@ -113,7 +135,9 @@ fn place_of(routes: &[WatchedRoute], index: usize) -> Option<usize>
 }
 
 // Returns the status of a route before its first snapshot, without a name.
-fn empty_status(alloc: Global, mode: Mode, sessions: u32) -> RouteStatus {
+fn empty_status(alloc: Global, mode: Mode, sessions: u32) -> RouteStatus
+    ensures { result ≡ fresh_status result mode sessions }
+{
     RouteStatus {
         name: String::new(alloc),
         mode,
@@ -130,7 +154,9 @@ fn empty_status(alloc: Global, mode: Mode, sessions: u32) -> RouteStatus {
 
 impl OpeningRoute {
     /// Returns the route of this entry. Allocates two copies of its name; the only error is out of memory.
-    pub(crate) fn new(alloc: Global, entry: &Entry) -> Result<OpeningRoute, AllocError> {
+    pub(crate) fn new(alloc: Global, entry: &Entry) -> Result<OpeningRoute, AllocError>
+        ensures { IfOk result (IsOpening (terms_of entry.now)) }
+    {
         let mut status = empty_status(alloc, entry.mode, entry.sessions);
         status.name = String::from_str(alloc, entry.name.as_str())?;
         Ok(OpeningRoute {
@@ -140,7 +166,9 @@ impl OpeningRoute {
     }
 
     /// Returns its name.
-    pub(crate) fn name(&self) -> &str {
+    pub(crate) fn name(&self) -> &str
+        ensures { result.now ≡ string_bytes self.now.name }
+    {
         self.name.as_str()
     }
 }
@@ -159,15 +187,18 @@ impl WatchedRoutes {
         Ok(routes)
     }
 
-    // Adds the route of an entry, for which there is room, with the next index, and shows it after the others. Allocates
-    // two copies of its name; the only error is out of memory.
+    // Adds the route of an entry, with the next index, and shows it after the others. Allocates two copies of its name; the
+    // only error is out of memory.
     fn add_shown(&mut self, alloc: Global, entry: &Entry) -> Result<(), AllocError> {
         let place = self.shown.len();
-        let status = self.add(place, OpeningRoute::new(alloc, entry)?);
+        let OpeningRoute { name, status } = OpeningRoute::new(alloc, entry)?;
+        self.routes.push(WatchedRoute {
+            index: place,
+            name,
+            snapshot: first_snapshot(),
+            place: Some(place),
+        })?;
         self.shown.push(status)?;
-        if let Some(route) = self.routes.last_mut() {
-            route.place = Some(place);
-        }
         Ok(())
     }
 
@@ -208,17 +239,41 @@ impl WatchedRoutes {
         }
     }
 
-    // Returns the status of the route with this index. None if it is no longer in the configuration.
-    fn status_of(&mut self, index: usize) -> Option<&mut RouteStatus> {
-        let place = self.route(index)?.place?;
-        self.shown.get_mut(place)
+    // Whether a session was open in the route with this index at its last snapshot.
+    fn is_used(&self, index: usize) -> bool
+        ensures { result ≡ is_used_at self.now index }
+    {
+        match self.route(index) {
+            Some(route) => has_sessions(&route.snapshot),
+            None => false,
+        }
     }
 
-    // Replaces the snapshot of the route with this index. Returns the one before; None if no route has the index.
-    fn replace_snapshot(&mut self, index: usize, new: RouteSnapshot) -> Option<RouteSnapshot> {
-        let place = place_of(self.routes.as_slice(), index)?;
-        let route = self.routes.get_mut(place)?;
-        Some(mem::replace(&mut route.snapshot, new))
+    /// Returns the index of the first of these routes in which a session was open at its last snapshot: `gone` has their
+    /// places, `indexes` the index of the route at each place.
+    #[tactic(auto, using(crate::proofs::ChangedRoutes::used_step, crate::proofs::ChangedRoutes::used_end))]
+    pub(crate) fn first_used(&self, indexes: &[usize], gone: &[usize]) -> Option<usize>
+        ensures { result ≡ first_used self.now indexes.now gone.now }
+    {
+        let mut rest = gone;
+        while !rest.is_empty() {
+            let found = index_at(indexes, rest[0]);
+            if self.is_used(found) {
+                return Some(found);
+            }
+            rest = &rest[1..];
+        }
+        None
+    }
+
+    // Returns the place of the status of the route with this index. None if it is no longer in the configuration.
+    fn status_place(&self, index: usize) -> Option<usize>
+        ensures { result ≡ status_place self.now index }
+    {
+        match self.route(index) {
+            Some(route) => route.place,
+            None => None,
+        }
     }
 
     /// Takes a snapshot of the route with this index, and updates its status. `stops`: the gateway is about to end. None
@@ -229,28 +284,29 @@ impl WatchedRoutes {
         route: &Route,
         moment: u64,
         stops: bool,
-    ) -> Option<SnapshotPair> {
+    ) -> Option<SnapshotPair>
+        ensures { HasObserved self.old self.new index route.now moment stops result }
+    {
         let sessions = sessions_of(route);
+        let totals = route.totals();
         let new = snapshot_of(route, &sessions, moment, stops);
-        let old = self.replace_snapshot(index, new)?;
-        let grown = match self.status_of(index) {
-            Some(status) => {
-                let before = status.limits.unwrap_or(LimitCounts::default());
-                note_route(route, &sessions, status);
-                grown_limits(before, status.limits)
-            }
+        let at = place_of(self.routes.as_slice(), index);
+        let place = self.status_place(index);
+        let old = put_snapshot(&mut self.routes, at, new);
+        let grown = put_status(&mut self.shown, place, route, &sessions, totals);
+        match old {
+            Some(old) => Some(SnapshotPair { old, new, grown }),
             None => None,
-        };
-        Some(SnapshotPair { old, new, grown })
+        }
     }
 
     /// Adds this many take-overs to those of the route with this index.
-    pub(crate) fn count_take_overs(&mut self, index: usize, more: u64) {
-        if let Some(status) = self.status_of(index) {
-            if let Some(count) = status.take_overs {
-                status.take_overs = Some(count.saturating_add(more));
-            }
-        }
+    pub(crate) fn count_take_overs(&mut self, index: usize, more: u64)
+        ensures routes { self.new.routes ≡ self.old.routes }
+        ensures shown { self.new.shown.items ≡ changed_if (with_take_overs more) self.old.shown.items (status_place self.old index) }
+    {
+        let place = self.status_place(index);
+        add_take_overs(&mut self.shown, place, more);
     }
 
     /// Allocates what this many more routes need, and returns an empty list for the status of as many routes as the
@@ -260,13 +316,21 @@ impl WatchedRoutes {
         alloc: Global,
         opening: usize,
         configured: usize,
-    ) -> Result<Vec<RouteStatus>, AllocError> {
+    ) -> Result<Vec<RouteStatus>, AllocError>
+        ensures routes { self.new.routes.items ≡ self.old.routes.items }
+        ensures shown { self.new.shown ≡ self.old.shown }
+        ensures result { IfOk result (λ list. list.items ≡ []) }
+    {
         self.routes.reserve(opening)?;
         Vec::with_capacity(alloc, configured)
     }
 
     // Adds a route that opens with this index, the highest so far, and returns its status.
-    fn add(&mut self, index: usize, opening: OpeningRoute) -> RouteStatus {
+    fn add(&mut self, index: usize, opening: OpeningRoute) -> RouteStatus
+        ensures status { result ≡ opening.status }
+        ensures routes { HasAdded self.old.routes.items self.new.routes.items index opening }
+        ensures shown { self.new.shown ≡ self.old.shown }
+    {
         let OpeningRoute { name, status } = opening;
         // There is room for it (`open`, `make_room`).
         let _ = self.routes.push(WatchedRoute {
@@ -279,23 +343,30 @@ impl WatchedRoutes {
     }
 
     // Moves the status of a route that stays out of the list.
-    fn taken(&mut self, alloc: Global, place: usize) -> RouteStatus {
+    fn taken(&mut self, alloc: Global, place: usize) -> RouteStatus
+        ensures status { IfSome (slice_get self.old.shown.items place) (λ s. result ≡ s) }
+        ensures routes { self.new.routes ≡ self.old.routes }
+    {
         let nothing = empty_status(alloc, Mode::Live, 0);
-        match self.shown.get_mut(place) {
-            Some(status) => mem::replace(status, nothing),
-            None => nothing,
+        if place >= self.shown.len() {
+            return nothing;
         }
+        mem::replace(&mut self.shown[place], nothing)
     }
 
     // Returns the status of the next route of a changed configuration, which has this index. Routes that open are added
     // in their order.
+    #[tactic(auto, using(crate::proofs::GrownRoutes::grown_same, crate::proofs::GrownRoutes::grown_added))]
     fn next_status(
         &mut self,
         alloc: Global,
         change: RouteChange,
         index: usize,
         opening: &mut IntoIter<OpeningRoute>,
-    ) -> Option<RouteStatus> {
+    ) -> Option<RouteStatus>
+        ensures stays { IfStays change (λ place. IfSome (slice_get self.old.shown.items place) (λ s. result ≡ Some s)) }
+        ensures routes { HasGrown self.old.routes.items self.new.routes.items }
+    {
         match change {
             RouteChange::Stays(place) => Some(self.taken(alloc, place)),
             RouteChange::Reopens(_) | RouteChange::Opens => match opening.next() {
@@ -305,38 +376,142 @@ impl WatchedRoutes {
         }
     }
 
-    /// Changes to the routes of a configuration that is in force now. `indexes` has the index of each. Routes that open are
-    /// added in their order; routes that aren't in the configuration lose their status. Doesn't allocate: `shown` is the
-    /// list that `make_room` returned.
-    pub(crate) fn change(
+    // Puts the status of each route of a changed configuration into this list, in its order.
+    #[tactic(auto, using(crate::proofs::GrownRoutes::grown_none, crate::proofs::GrownRoutes::grown_both))]
+    fn next_shown(
         &mut self,
         alloc: Global,
         changes: &[RouteChange],
         indexes: &[usize],
         opening: Vec<OpeningRoute>,
         mut shown: Vec<RouteStatus>,
-    ) {
+    ) -> Vec<RouteStatus>
+        ensures { HasGrown self.old.routes.items self.new.routes.items }
+    {
         let mut opening = opening.into_iter();
         for (change, index) in changes.iter().zip(indexes.iter()) {
             if let Some(status) = self.next_status(alloc, *change, *index, &mut opening) {
                 let _ = shown.push(status);
             }
         }
-        self.shown = shown;
-        place_all(self.routes.as_mut_slice(), indexes);
+        shown
+    }
+
+    /// Changes to the routes of a configuration that is in force now. `indexes` has the index of each. Routes that open are
+    /// added in their order; routes that aren't in the configuration lose their status. Doesn't allocate: `shown` is the
+    /// list that `make_room` returned.
+    #[tactic(auto, using(crate::proofs::GrownRoutes::grown_placed))]
+    pub(crate) fn change(
+        &mut self,
+        alloc: Global,
+        changes: &[RouteChange],
+        indexes: &[usize],
+        opening: Vec<OpeningRoute>,
+        shown: Vec<RouteStatus>,
+    )
+        ensures { ArePlaced self.old.routes.items self.new.routes.items indexes.now }
+    {
+        self.shown = self.next_shown(alloc, changes, indexes, opening, shown);
+        place_all(&mut self.routes, indexes);
     }
 }
 
-// Sets the places of all routes: these indexes are in the configuration, in this order.
-fn place_all(routes: &mut [WatchedRoute], indexes: &[usize]) {
-    for route in routes.iter_mut() {
-        route.place = None;
+// Replaces the snapshot of the route at a place. Returns the one before; None if no route is there.
+fn put_snapshot(
+    routes: &mut Vec<WatchedRoute>,
+    place: Option<usize>,
+    new: RouteSnapshot,
+) -> Option<RouteSnapshot>
+    ensures routes { routes.new.items ≡ changed_if (with_snapshot new) routes.old.items place }
+    ensures result { result ≡ option_map (λ r. r.snapshot) (route_at routes.old.items place) }
+{
+    let place = place?;
+    if place >= routes.len() {
+        return None;
     }
-    for (place, index) in indexes.iter().enumerate() {
-        if let Some(found) = place_of(routes, *index) {
-            if let Some(route) = routes.get_mut(found) {
-                route.place = Some(place);
-            }
-        }
+    let old = routes[place].snapshot;
+    routes[place].snapshot = new;
+    Some(old)
+}
+
+// Updates the status at a place, if one is there. Returns what the limits of its route have refused since, if `reserved` or
+// `sessions_per_address` refused any.
+fn put_status(
+    shown: &mut Vec<RouteStatus>,
+    place: Option<usize>,
+    route: &Route,
+    sessions: &[Option<SessionView>; MAX_SESSIONS],
+    totals: Totals,
+) -> Option<LimitCounts>
+    ensures shown { shown.new.items ≡ changed_if (status_with route.now sessions.now totals) shown.old.items place }
+    ensures result { result ≡ grown_of route.now (status_at shown.old.items place) }
+{
+    let place = place?;
+    if place >= shown.len() {
+        return None;
+    }
+    let before = shown[place].limits.unwrap_or(LimitCounts::default());
+    note_route(route, sessions, totals, &mut shown[place]);
+    grown_limits(before, Some(limits_of(route)))
+}
+
+// Returns a number of take-overs and some more.
+fn more_take_overs(count: Option<u64>, more: u64) -> Option<u64>
+    ensures { result ≡ option_map (λ n. most (n + more)) count }
+{
+    match count {
+        Some(count) => Some(count.saturating_add(more)),
+        None => None,
+    }
+}
+
+// Adds this many take-overs to those of the status at a place, if one is there.
+fn add_take_overs(shown: &mut Vec<RouteStatus>, place: Option<usize>, more: u64)
+    ensures { shown.new.items ≡ changed_if (with_take_overs more) shown.old.items place }
+{
+    let Some(place) = place else {
+        return;
+    };
+    if place >= shown.len() {
+        return;
+    }
+    shown[place].take_overs = more_take_overs(shown[place].take_overs, more);
+}
+
+// Takes the places of all routes away.
+#[tactic(auto, using(crate::proofs::PlacedRoutes::unplaced_none, crate::proofs::PlacedRoutes::unplaced_next, crate::proofs::PlacedRoutes::unplaced_all))]
+fn unplace_all(routes: &mut Vec<WatchedRoute>)
+    ensures { routes.new.items ≡ map unplaced routes.old.items }
+{
+    for at in 0..routes.len() {
+        routes[at].place = None;
+    }
+}
+
+// Sets the place of the route with this index, if there is one.
+fn put_place(routes: &mut Vec<WatchedRoute>, index: usize, place: usize)
+    ensures { routes.new.items ≡ changed_if (placed place) routes.old.items (place_of routes.old.items index) }
+{
+    let Some(at) = place_of(routes.as_slice(), index) else {
+        return;
+    };
+    if at >= routes.len() {
+        return;
+    }
+    routes[at].place = Some(place);
+}
+
+// Sets the places of all routes: these indexes are in the configuration, in this order.
+#[tactic(auto, using(crate::proofs::PlacedRoutes::placed_step, crate::proofs::PlacedRoutes::placed_end))]
+fn place_all(routes: &mut Vec<WatchedRoute>, indexes: &[usize])
+    ensures { routes.new.items ≡ all_placed routes.old.items indexes.now }
+{
+    unplace_all(routes);
+    let mut place = 0usize;
+    let mut rest = indexes;
+    while !rest.is_empty() {
+        put_place(routes, rest[0], place);
+        place = place.saturating_add(1);
+        rest = &rest[1..];
     }
 }

@@ -1,12 +1,17 @@
 //! A watcher: its rests and snapshots, the changes that it requests of the run, and how it stops the gateway.
 
-ghost use Rattle.std.specs.Prelude.{◌≡◌, [], ◌∷◌};
+ghost use Rattle.std.specs.Prelude.{◌≡◌, [], ◌∷◌, true, None, Some, IfOk, length};
 ghost use Rattle.std.specs.Option.{ForSome};
 ghost use Rattle.srt_watch.specs.Answers.{IsAnswer};
+ghost use Rattle.srt_watch.specs.Course.{first_course, begun, is_due, after_due, is_stopping};
 ghost use Rattle.srt_watch.specs.Log.{Logged, Missed};
-ghost use Rattle.srt_watch.specs.Losses.{with_faults, with_missed, more_missed};
-ghost use Rattle.srt_watch.specs.Overview.{with_report, after_refusal};
-ghost use Rattle.srt_watch.specs.Routes.{name_of, requested_by};
+ghost use Rattle.srt_watch.specs.Losses.{no_losses, with_faults, with_missed, more_missed};
+ghost use Rattle.srt_watch.specs.Overview.{no_overview, no_changes, with_report, after_refusal};
+ghost use Rattle.srt_watch.specs.Routes.{name_of, requested_by, used_of};
+ghost use Rattle.srt_watch.specs.Turns.{ShowedAt, HasBegun, HasLost, pair_calls, HasShown};
+ghost use Rattle.srt_watch.specs.Pages.{ShowedPages};
+ghost use Rattle.srt_watch.specs.Stopping.{order_of, stop_step};
+ghost use Rattle.srt_supervision.specs.Answers.{IsOrdered};
 ghost use Rattle.srt_watch.specs.Watching.{refused_call, stop_calls, CheckedStop};
 
 use crate::change_log::ChangeLog;
@@ -21,7 +26,7 @@ use crate::page::Page;
 use crate::route_lines::{RouteLog, log_changes, log_limits, take_overs};
 use crate::status_server::StatusServer;
 use crate::steering::Steering;
-use crate::watched_routes::WatchedRoutes;
+use crate::watched_routes::{SnapshotPair, WatchedRoutes};
 use srt_config::Config;
 use srt_log::{LineKind, LogEvent, StopCause};
 use srt_route::Route;
@@ -84,6 +89,66 @@ fn check_stop<M: Machine, W: Write + Drop>(
     log_stop(log, when, by);
 }
 
+// Writes the first lines, unless they were written, for this many routes.
+fn log_first<M: Machine, W: Write + Drop>(
+    machine: &M,
+    first_lines: &mut FirstLines,
+    log: &mut LogWriter<W>,
+    when: When,
+    routes: usize,
+)
+    ensures start { first_lines.new.start ≡ None }
+    ensures logged { HasBegun (M.says machine.now) first_lines.old (W.contents log.old.out) (W.contents log.new.out) log.old.pace log.new.pace when routes }
+{
+    let routes = u32::try_from(routes).unwrap_or(u32::MAX);
+    let memory = machine.memory().unwrap_or(0);
+    first_lines.log(log, when, routes, memory);
+}
+
+// Reads how many datagrams the kernel dropped, and logs that and the socket's faults since the last such lines.
+fn log_drops<M: Machine, W: Write + Drop>(
+    machine: &M,
+    overview: &mut Overview,
+    losses: &mut Losses,
+    log: &mut LogWriter<W>,
+    when: When,
+)
+    ensures { HasLost (M.says machine.now) overview.old overview.new losses.old losses.new (W.contents log.old.out) (W.contents log.new.out)
+        log.old.pace log.new.pace when }
+{
+    let drops = machine.drops();
+    overview.drops = drops;
+    losses.log(log, when, drops);
+}
+
+// Writes the lines of what changed between two snapshots of the route with this name.
+#[tactic(auto, using(crate::proofs::Logging::logged_both))]
+fn log_pair<W: Write + Drop>(log: &mut LogWriter<W>, when: When, name: &[u8], pair: &SnapshotPair)
+    ensures { Logged (W.contents log.old.out) (W.contents log.new.out) log.old.pace log.new.pace (pair_calls when name.entry pair.now) }
+{
+    log_changes(log, RouteLog { name, when }, pair);
+    log_limits(log, when, name, pair.grown);
+}
+
+// Takes a snapshot of the route with this index, and writes what has changed since the one before. `stops`: the gateway is
+// about to end.
+fn show<W: Write + Drop>(
+    routes: &mut WatchedRoutes,
+    log: &mut LogWriter<W>,
+    when: When,
+    stops: bool,
+    index: usize,
+    route: &Route,
+)
+    ensures { HasShown routes.old routes.new index route.now stops (W.contents log.old.out) (W.contents log.new.out) log.old.pace log.new.pace when }
+{
+    let Some(pair) = routes.observe(index, route, when.moment, stops) else {
+        return;
+    };
+    log_pair(log, when, routes.name_of(index).as_bytes(), &pair);
+    routes.count_take_overs(index, take_overs(&pair));
+}
+
 /// The watcher of a gateway. It logs sessions, refusals and faults, shows the status page, requests the changes of a changed
 /// configuration, and stops the gateway on a signal or after its time.
 #[derive(Drop)]
@@ -124,6 +189,10 @@ where
         start: Start,
     ) -> Result<Watcher<'a, M, W, P, F>, AllocError>
         requires { ForSome start.lasts M.facts.was_lasting }
+        ensures parts { IfOk result (λ w. (w.machine ≡ machine) × (w.form ≡ form) × (w.page.server ≡ page) × (w.page.version ≡ start.version)
+            × (w.first_lines.start ≡ Some start) × (w.changes.log.out ≡ out)) }
+        ensures begins { IfOk result (λ w. (w.steering.lasts ≡ start.lasts) × (w.steering.course ≡ first_course) × (w.losses ≡ no_losses)
+            × (w.overview ≡ no_overview) × (w.changes.counts ≡ no_changes)) }
     {
         let routes = WatchedRoutes::open(alloc, entries)?;
         Ok(Watcher {
@@ -167,11 +236,20 @@ where
     // Writes the first lines, once all threads run and all memory is allocated.
     fn begin(&mut self, when: When)
         requires { M.facts.was_moment when.moment }
+        ensures course { self.new.steering.course ≡ begun self.old.steering.course when.moment self.old.steering.lasts }
+        ensures machine { M.says self.new.machine ≡ M.says self.old.machine }
+        ensures others { (self.new.overview ≡ self.old.overview) × (self.new.losses ≡ self.old.losses) }
+        ensures start { self.new.first_lines.start ≡ None }
+        ensures logged { HasBegun (M.says self.old.machine) self.old.first_lines (W.contents self.old.changes.log.out) (W.contents self.new.changes.log.out)
+            self.old.changes.log.pace self.new.changes.log.pace when (length self.old.routes.shown.items) }
     {
-        let routes = u32::try_from(self.routes.shown().len()).unwrap_or(u32::MAX);
-        let memory = self.machine.memory().unwrap_or(0);
-        self.first_lines
-            .log(&mut self.changes.log, when, routes, memory);
+        log_first(
+            &self.machine,
+            &mut self.first_lines,
+            &mut self.changes.log,
+            when,
+            self.routes.shown().len(),
+        );
         self.steering.begin(when.moment);
     }
 
@@ -179,6 +257,8 @@ where
     fn note_status(&mut self, moment: u64, status: RunStatus)
         ensures overview { self.new.overview ≡ with_report self.old.overview moment status }
         ensures losses { self.new.losses ≡ with_faults (with_missed self.old.losses status.missed) status.faults }
+        ensures machine { M.says self.new.machine ≡ M.says self.old.machine }
+        ensures others { (self.new.steering ≡ self.old.steering) × (self.new.first_lines ≡ self.old.first_lines) }
         ensures logged { Logged (W.contents self.old.changes.log.out) (W.contents self.new.changes.log.out) self.old.changes.log.pace self.new.changes.log.pace
             (Missed (more_missed self.old.losses status.missed) ∷ []) }
     {
@@ -190,10 +270,18 @@ where
     }
 
     // Logs the socket's faults and the datagrams that the kernel dropped since the last such lines.
-    fn log_losses(&mut self, when: When) {
-        let drops = self.machine.drops();
-        self.overview.drops = drops;
-        self.losses.log(&mut self.changes.log, when, drops);
+    fn log_losses(&mut self, when: When)
+        ensures others { self.new.steering ≡ self.old.steering }
+        ensures lost { HasLost (M.says self.old.machine) self.old.overview self.new.overview self.old.losses self.new.losses
+            (W.contents self.old.changes.log.out) (W.contents self.new.changes.log.out) self.old.changes.log.pace self.new.changes.log.pace when }
+    {
+        log_drops(
+            &self.machine,
+            &mut self.overview,
+            &mut self.losses,
+            &mut self.changes.log,
+            when,
+        );
     }
 
     // Counts a conclusion that the lobby refused, and writes the line of one that it or a route refused.
@@ -209,8 +297,32 @@ where
         log_refused(&mut self.changes.log, when, name, refusal);
     }
 
+    // Makes a turn at this time: writes the first lines and what the last second left out, notes the state of the run, and
+    // looks whether the gateway is to stop.
+    fn turn(&mut self, when: When, status: RunStatus)
+        requires { M.facts.was_moment when.moment }
+        ensures state { (self.new.overview ≡ with_report self.old.overview when.moment status)
+            × (self.new.losses ≡ with_faults (with_missed self.old.losses status.missed) status.faults) × (self.new.first_lines.start ≡ None) }
+    {
+        self.begin(when);
+        self.note_status(when.moment, status);
+        self.changes.log.end_second(when);
+        self.changes.log.catch_up(when);
+        check_stop(
+            &self.machine,
+            &mut self.steering,
+            &mut self.changes.log,
+            when,
+        );
+    }
+
     // Serves the page, with the last snapshots.
-    fn serve_page(&mut self) {
+    fn serve_page(&mut self)
+        ensures others { (self.new.steering ≡ self.old.steering) × (self.new.changes ≡ self.old.changes) × (self.new.first_lines ≡ self.old.first_lines)
+            × (self.new.overview ≡ self.old.overview) × (self.new.losses ≡ self.old.losses) }
+        ensures shown { ShowedPages (P.shown self.old.page.server) (P.shown self.new.page.server) self.old.overview self.old.changes.counts
+            self.old.page.version self.old.routes.shown.items (used_of self.old.routes.routes.items) }
+    {
         let moment = self.machine.moment();
         self.page
             .show(moment, &self.overview, self.changes.counts, &self.routes);
@@ -243,7 +355,13 @@ where
     P: StatusServer + Drop,
     F: ConfigFile + Drop,
 {
-    fn next(&mut self, status: RunStatus) -> Order {
+    fn next(&mut self, status: RunStatus) -> Order
+        ensures answered { IsOrdered (IsAnswer M.facts F.facts) result }
+        ensures turned { ShowedAt (M.says self.old.machine) self.old.form (λ when.
+            (self.new.overview ≡ with_report self.old.overview when.moment status)
+            × (self.new.losses ≡ with_faults (with_missed self.old.losses status.missed) status.faults)
+            × (result ≡ order_of (stop_step self.new.steering.course.requested_at when.moment status.is_quiet))) }
+    {
         self.page.rest(
             &mut self.machine,
             &self.overview,
@@ -251,21 +369,15 @@ where
             &self.routes,
         );
         let when = When::now(&mut self.machine, self.form);
-        self.begin(when);
-        self.note_status(when.moment, status);
-        self.changes.log.end_second(when);
-        self.changes.log.catch_up(when);
-        check_stop(
-            &self.machine,
-            &mut self.steering,
-            &mut self.changes.log,
-            when,
-        );
+        self.turn(when, status);
         self.serve_page();
         self.steering.order(when.moment, status.is_quiet)
     }
 
-    fn wants_routes(&mut self) -> bool {
+    fn wants_routes(&mut self) -> bool
+        ensures course { ShowedAt (M.says self.old.machine) self.old.form (λ when. (result ≡ is_due self.old.steering.course when.moment)
+            × (self.new.steering.course ≡ after_due self.old.steering.course when.moment)) }
+    {
         let when = When::now(&mut self.machine, self.form);
         if !self.steering.is_snapshot_due(when.moment) {
             return false;
@@ -275,18 +387,29 @@ where
         true
     }
 
-    fn show_route(&mut self, index: usize, route: &Route) {
+    fn show_route(&mut self, index: usize, route: &Route)
+        ensures { ShowedAt (M.says self.old.machine) self.old.form
+            (HasShown self.old.routes self.new.routes index route.now (is_stopping self.old.steering.course)
+            (W.contents self.old.changes.log.out) (W.contents self.new.changes.log.out) self.old.changes.log.pace self.new.changes.log.pace) }
+    {
         let when = When::now(&mut self.machine, self.form);
         let stops = self.steering.is_stopping();
-        if let Some(pair) = self.routes.observe(index, route, when.moment, stops) {
-            let name = self.routes.name_of(index).as_bytes();
-            log_changes(&mut self.changes.log, RouteLog { name, when }, &pair);
-            log_limits(&mut self.changes.log, when, name, pair.grown);
-            self.routes.count_take_overs(index, take_overs(&pair));
-        }
+        show(
+            &mut self.routes,
+            &mut self.changes.log,
+            when,
+            stops,
+            index,
+            route,
+        );
     }
 
-    fn refused(&mut self, refusal: &Refusal) {
+    fn refused(&mut self, refusal: &Refusal)
+        ensures overview { self.new.overview ≡ after_refusal self.old.overview refusal.now }
+        ensures logged { ShowedAt (M.says self.old.machine) self.old.form (λ when. Logged (W.contents self.old.changes.log.out)
+            (W.contents self.new.changes.log.out) self.old.changes.log.pace self.new.changes.log.pace
+            (refused_call when (requested_by self.old.routes refusal.now.name.items refusal.now.route) refusal.now ∷ [])) }
+    {
         let when = When::now(&mut self.machine, self.form);
         self.note_refused(when, refusal);
     }

@@ -1,8 +1,8 @@
 //! A watcher that follows a configuration's file, over a file in memory that says something else at each look.
 
 use super::{CALLER, NOTHING, Watching, assert_lines, start, watcher};
-use crate::config_file::LastPoll;
 use crate::indexes::{megabytes_of, reaches_mark};
+use crate::watched_file::LastPoll;
 use crate::{ConfigFile, FileStamp, MAX_REASON};
 use srt_config::{Config, read_config};
 use srt_status::ChangeCounts;
@@ -23,7 +23,7 @@ pub(super) const OTHER_HEAD: &str =
     "secret = \"000102030405060708090a0b0c0d0e0f101112131415161718191a1b1c1d1e1e\"\nbind = \"127.0.0.1:9001\"\nworkers = 3\n";
 
 /// Routes; the second `studio` has another latency, the third a key that is none.
-const STUDIO: &str =
+pub(super) const STUDIO: &str =
     "[[route]]\nname = \"studio\"\nmode = \"live\"\nlatency_ms = 120\nbuffer = 1024\nsessions = 2\ninbox = 16\noutbox = 136\n";
 
 const SLOW_STUDIO: &str =
@@ -35,7 +35,7 @@ const WRONG_STUDIO: &str =
 const GUARDED_STUDIO: &str =
     "[[route]]\nname = \"studio\"\nmode = \"live\"\nlatency_ms = 120\nbuffer = 1024\nsessions = 2\ninbox = 16\noutbox = 136\npublish_from = [\"192.0.2.0/24\"]\npublish_key = \"put-a-key-of-your-own-here\"\n";
 
-const NEWS: &str =
+pub(super) const NEWS: &str =
     "[[route]]\nname = \"news\"\nmode = \"live\"\nlatency_ms = 120\nbuffer = 1024\nsessions = 2\ninbox = 16\noutbox = 136\n";
 
 const GUEST: &str =
@@ -89,7 +89,7 @@ pub(super) fn missing() -> InlineText<MAX_REASON> {
     InlineText::of("No such file or directory (os error 2)")
 }
 
-fn config(alloc: Global, parts: &[&'static str]) -> Result<Config, Fail> {
+pub(super) fn config(alloc: Global, parts: &[&'static str]) -> Result<Config, Fail> {
     let bytes = text(alloc, parts)?;
     let Ok(text) = str::from_utf8(bytes.as_slice()) else {
         return Err(Fail::from("a text"));
@@ -101,7 +101,7 @@ fn config(alloc: Global, parts: &[&'static str]) -> Result<Config, Fail> {
 }
 
 /// A watcher that follows a file which says these texts, and was started with `config`.
-fn follower<'a>(
+pub(super) fn follower<'a>(
     alloc: Global,
     config: &'a Config,
     texts: &'static [&'static [&'static str]],
@@ -138,7 +138,7 @@ impl ChangeRoutes for Run {
 
 /// Returns the change that is requested at the next two polls of the file, of a run that returns this outcome. The first
 /// poll finds the file changed, and requests nothing.
-fn next_change(
+pub(super) fn next_change(
     watcher: &mut Watching<'_>,
     outcome: Result<usize, ChangeFault>,
 ) -> Option<RouteChanges> {
@@ -157,7 +157,7 @@ fn next_change(
 }
 
 /// Asserts that a change closes the routes with these indexes, and opens as many routes, the first of this name.
-fn assert_requests(
+pub(super) fn assert_requests(
     rt: &impl Abort,
     change: Option<RouteChanges>,
     closes: &[usize],

@@ -29,7 +29,7 @@ returns-in-Ok g c =
     Asked (Ok c.in-Ok.first) (ap changes_nothing (sym c.requires.numbers) ∙ sym c.changes_nothing.ensures ∙ c.if-changes_nothing.false)
     (c.in-Ok.ensures.asked ∙ (λ i. with_asked (g.C.ChangeRoutes.asked c.args.run.now)
     (record { closes = c.requires.closes i; opens = c.requires.opens i; outcome = Ok c.in-Ok.first })))
-    c.note_made.ensures
+    c.note_made.ensures.taken
 
 pub returns-in-Err : goal.returns-in-Err
 returns-in-Err g c =

@@ -1,0 +1,37 @@
+-- The routes that open by a change, before they are open.
+use Rattle.std.specs.Prelude.{◌≡◌, ℕ, List, [], replicate, Option, None, Some, string_bytes}
+use Rattle.srt_types.specs.declared.shared.Mode.{Mode}
+use Rattle.srt_types.specs.Terms.{Terms}
+use Rattle.srt_route.specs.Totals.{no_totals}
+use Rattle.srt_status.specs.declared.routes.RouteStatus.{RouteStatus}
+use Rattle.srt_watch.specs.Overview.{no_refusals}
+use Rattle.srt_watch.specs.declared.watched_routes.OpeningRoute.{OpeningRoute}
+
+-- its name; empty if there is none
+abbrev pub opening_name : Option OpeningRoute → List ℕ
+opening_name None = []
+opening_name (Some route) = string_bytes route.name
+
+-- the status of a route before its first snapshot, with its name
+abbrev pub fresh_status : RouteStatus → Mode → (sessions : ℕ) → RouteStatus
+fresh_status named mode sessions = record named {
+  mode = mode;
+  sessions_allowed = sessions;
+  sessions = replicate 17 None;
+  totals = no_totals;
+  opened = 0;
+  refused = no_refusals;
+  limits = None;
+  take_overs = Some 0;
+  ends = None;
+}
+
+-- of a route with these terms
+pub record IsFresh (terms : Terms) (status : RouteStatus) : Type 0 where
+  pub name_is : string_bytes status.name ≡ terms.name
+  pub status_is : status ≡ fresh_status status terms.mode terms.sessions
+
+-- a route with these terms that is to open
+pub record IsOpening (terms : Terms) (route : OpeningRoute) : Type 0 where
+  pub name_is : string_bytes route.name ≡ terms.name
+  pub status_is : IsFresh terms route.status

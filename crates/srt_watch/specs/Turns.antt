@@ -1,0 +1,61 @@
+-- What a watcher does in its turns: its first lines, the losses, a route that it is shown.
+use Rattle.std.specs.Prelude.{◌≡◌, ℕ, ◌-◌, ◌^◌, min, Bool, List, ◌++◌, Option, None, Some, IfSome}
+use Rattle.std.specs.Option.{unwrap_or}
+use denote.Ref.{Bor}
+use Rattle.srt_route.specs.declared.route.Route.{Route}
+use Rattle.srt_watch.specs.FirstLines.{first_calls}
+use Rattle.srt_watch.specs.Log.{LogCall, Logged, IsTimeOf}
+use Rattle.srt_watch.specs.Losses.{loss_calls, after_losses}
+use Rattle.srt_watch.specs.Machines.{MachineState}
+use Rattle.srt_watch.specs.Observing.{status_place, with_take_overs, changed_if, HasObserved}
+use Rattle.srt_watch.specs.RouteLines.{change_calls, limit_calls, take_overs_to}
+use Rattle.srt_watch.specs.Routes.{name_of}
+use Rattle.srt_watch.specs.declared.first_lines.FirstLines.{FirstLines}
+use Rattle.srt_watch.specs.declared.log.LogForm.{LogForm}
+use Rattle.srt_watch.specs.declared.log.LogPace.{LogPace}
+use Rattle.srt_watch.specs.declared.log.When.{When}
+use Rattle.srt_watch.specs.declared.losses.Losses.{Losses}
+use Rattle.srt_watch.specs.declared.overview.Overview.{Overview}
+use Rattle.srt_watch.specs.declared.watched_routes.SnapshotPair.{SnapshotPair}
+use Rattle.srt_watch.specs.declared.watched_routes.WatchedRoutes.{WatchedRoutes}
+
+-- something was done at the time that a machine says
+pub record ShowedAt (says : Option MachineState) (form : LogForm) (done : When → Type 0) : Type 0 where
+  pub when : When
+  pub now_is : IfSome says (λ s. IsTimeOf form s when)
+  pub is_done : done when
+
+-- The first lines were written, with the memory that the machine says.
+pub record HasBegun (says : Option MachineState) (lines : FirstLines) (before after : Option (List ℕ)) (p q : LogPace) (when : When) (routes : ℕ) : Type 0 where
+  pub memory : Option ℕ
+  pub memory_is : IfSome says (λ s. memory ≡ s.memory)
+  pub logged : Logged before after p q (first_calls lines.start lines.warnings.items when (min routes (2 ^ 32 - 1)) (unwrap_or memory 0))
+
+-- The number of dropped datagrams was read, and what is new of it and of the socket's faults was logged.
+pub record HasLost (says : Option MachineState) (o n : Overview) (old new : Losses) (before after : Option (List ℕ)) (p q : LogPace) (when : When) : Type 0
+  where
+    pub drops : Option ℕ
+    pub drops_are : IfSome says (λ s. drops ≡ s.drops)
+    pub overview_is : n ≡ record o { drops = drops }
+    pub losses_are : new ≡ after_losses old drops
+    pub logged : Logged before after p q (loss_calls old when drops)
+
+-- the lines of two snapshots of a route
+abbrev pub pair_calls : When → Bor (List ℕ) → SnapshotPair → List LogCall
+pair_calls when name pair = change_calls when name pair ++ limit_calls when name.now pair.grown
+
+-- what was logged and counted of two snapshots of the route with this index, if there are two
+pub data HasTold (middle new : WatchedRoutes) (index : ℕ) (before after : Option (List ℕ)) (p q : LogPace) (when : When) : Option SnapshotPair → Type 0 where
+  Nothing : new ≡ middle → after ≡ before → q ≡ p → HasTold middle new index before after p q when None
+  Told : (pair : SnapshotPair) (name : Bor (List ℕ)) → name.now ≡ name_of middle index → Logged before after p q (pair_calls when name pair) →
+      new.routes ≡ middle.routes →
+      new.shown.items ≡ changed_if (with_take_overs (take_overs_to pair.old pair.new 120)) middle.shown.items (status_place middle index) →
+      HasTold middle new index before after p q when (Some pair)
+
+-- A route was shown: it was observed, and what has changed since the snapshot before was logged.
+pub record HasShown (old new : WatchedRoutes) (index : ℕ) (route : Route) (stops : Bool) (before after : Option (List ℕ)) (p q : LogPace) (when : When) : Type 0
+  where
+    pub middle : WatchedRoutes
+    pub pair : Option SnapshotPair
+    pub observed : HasObserved old middle index route when.moment stops pair
+    pub told : HasTold middle new index before after p q when pair
