@@ -272,6 +272,7 @@ class Model:
         names = {it.name for it in after}
         gone = [it for it in self.routes if it.name not in names]
         changed = [it for it in opening if it.name in before]
+        self.waits = [f"configuration closes {re.escape(it.name)}, which has sessions; it is taken if it stays so for 5 s" for it in gone]
         if not opening and not gone:
             self.outcomes["the same"] += 1
             self.routes, self.tables = after, tables
@@ -280,7 +281,6 @@ class Model:
             return self.refuse(f"{len(opening)} routes are to open, {INDEXES - self.used} indexes are left; restart the gateway", "NO_INDEXES")
         for index, it in enumerate(opening, self.used):
             it.index = index
-        self.waits = [f"configuration closes {re.escape(it.name)}, which has sessions; it is taken if it stays so for 5 s" for it in gone]
         self.closed, self.opened = [*gone, *(before[it.name] for it in changed)], opening
         self.routes, self.tables, self.taken = after, tables, self.taken + 1
         counts = len(after) - len(opening), len(opening) - len(changed), len(gone), len(changed)
