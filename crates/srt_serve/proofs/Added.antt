@@ -1,6 +1,6 @@
 -- Which routes the watcher answered to open.
 use Rattle.std.proofs.Common.{◌≡◌, inl, inr, ℕ, zero, suc, ◌+◌, ◌<◌, ◌≤◌, List, [], ◌∷◌, ◌++◌, length, map, get_or, sym, ap, subst, append_assoc, arith}
-use Rattle.std.specs.Prelude.{Option, Some, None, IfSome, IfNone}
+use Rattle.std.specs.Prelude.{Result, Ok, Err, IfOk, IfErr}
 use Rattle.std.proofs.Math.Seq.{get_or-append_seam}
 use Rattle.std.proofs.lemmas.Bool.{cases_lt}
 use Rattle.std.proofs.lemmas.List.{get_or_append_left, length-append}
@@ -42,14 +42,15 @@ answered_grow answered first routes routes' n grew index new h =
     ])
 
 -- perhaps one route more
-pub next_answered : {E : Type 0} (answered : Answer → Type 0) (first : ℕ) (Q : E → Type 0) (N : Type 0) (found : Option E) (routes routes' : List CellIdentity)
+pub next_answered : {E F : Type 0} (answered : Answer → Type 0) (first : ℕ) (Q : E → Type 0) (N : Type 0) (found : Result E F)
+    (routes routes' : List CellIdentity)
     → ((e : E) → Q e → (n : CellIdentity) × (routes' ≡ routes ++ n ∷ []) × (n.index ≡ length routes) × IsAnswered answered first n.index n.terms)
     → (N → routes' ≡ routes)
-    → IfSome found Q → IfNone found N → AreAnswered answered first routes → AreAnswered answered first routes'
-next_answered answered first Q N (Some e) routes routes' more same some none h =
+    → IfOk found Q → IfErr found (λ _. N) → AreAnswered answered first routes → AreAnswered answered first routes'
+next_answered answered first Q N (Ok e) routes routes' more same some none h =
     let one = more e some in
     answered_grow answered first routes routes' one.0 one.1 one.2 one.3 h
-next_answered answered first Q N None routes routes' more same some none h = subst (AreAnswered answered first) (sym (same none)) h
+next_answered answered first Q N (Err f) routes routes' more same some none h = subst (AreAnswered answered first) (sym (same none)) h
 
 -- the watcher answered to open all routes after the first ones
 added_after : (answered : Answer → Type 0) (first : ℕ) (routes later : List CellIdentity) → first ≤ length routes

@@ -14,7 +14,7 @@ use Rattle.srt_poller.specs.declared.ends.Ends.{Ends}
 use Rattle.srt_supervision.specs.declared.report.Report.{Report}
 use Rattle.srt_supervision.specs.Answers.{Answer, AllClose}
 use Rattle.srt_supervision.specs.declared.watch.Answers.{Ghosts}
-use Rattle.srt_serve.specs.declared.arrivals.CloseRequest.{CloseRequest}
+use Rattle.srt_serve.specs.declared.evidence.CloseRequest.{CloseRequest}
 use Rattle.srt_serve.specs.inside.Requests.{routes_of}
 use Rattle.srt_poller.specs.Beginnings.{all_shown}
 use Rattle.srt_poller.specs.Devices.{Heard, Carried, joined}

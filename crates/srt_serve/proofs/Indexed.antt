@@ -1,6 +1,6 @@
 -- Routes come one after another.
 use Rattle.std.proofs.Common.{◌≡◌, inl, inr, ℕ, ◌<◌, List, [], ◌∷◌, ◌++◌, length, get_or, sym, subst, ◌∙◌, arith}
-use Rattle.std.specs.Prelude.{Option, Some, None, IfSome, IfNone}
+use Rattle.std.specs.Prelude.{Result, Ok, Err, IfOk, IfErr}
 use Rattle.std.proofs.Math.Seq.{get_or-append_seam}
 use Rattle.std.proofs.lemmas.Bool.{cases_lt}
 use Rattle.std.proofs.lemmas.List.{get_or_append_left, length-append}
@@ -29,10 +29,10 @@ indexed_grow routes routes' n grew index h = subst AreIndexed (sym grew) (λ r m
 ])
 
 -- perhaps one route more
-pub next_indexed : {E : Type 0} (Q : E → Type 0) (N : Type 0) (found : Option E) (routes routes' : List CellIdentity)
+pub next_indexed : {E F : Type 0} (Q : E → Type 0) (N : Type 0) (found : Result E F) (routes routes' : List CellIdentity)
     → ((e : E) → Q e → (n : CellIdentity) × (routes' ≡ routes ++ n ∷ []) × (n.index ≡ length routes)) → (N → routes' ≡ routes)
-    → IfSome found Q → IfNone found N → AreIndexed routes → AreIndexed routes'
-next_indexed Q N (Some e) routes routes' more same some none indexed =
+    → IfOk found Q → IfErr found (λ _. N) → AreIndexed routes → AreIndexed routes'
+next_indexed Q N (Ok e) routes routes' more same some none indexed =
     let one = more e some in
     indexed_grow routes routes' one.0 one.1 one.2 indexed
-next_indexed Q N None routes routes' more same some none indexed = subst AreIndexed (sym (same none)) indexed
+next_indexed Q N (Err f) routes routes' more same some none indexed = subst AreIndexed (sym (same none)) indexed

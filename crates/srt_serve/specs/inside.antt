@@ -5,3 +5,9 @@ pub mod Requests
 pub mod Changing
 pub mod Watched
 pub mod Reported
+pub mod Working
+pub mod Notices
+pub mod Orders
+pub mod Inline
+pub mod Leaving
+pub mod Quiet

@@ -1,6 +1,6 @@
 //! Places for the routes of a run, and how the polling thread and the ticking one reach the routes in them.
 
-ghost use Rattle.std.specs.Prelude.{◌≡◌, ◌<◌, [], IfOk, IfSome, length, map};
+ghost use Rattle.std.specs.Prelude.{◌≡◌, ◌<◌, [], IfOk, IfErr, length, map};
 ghost use Rattle.srt_types.specs.Terms.{terms_of};
 ghost use Rattle.srt_lobby.specs.Names.{as_hidden, name_of, new_name};
 ghost use Rattle.srt_mailbox.specs.Identities.{identity_in};
@@ -10,6 +10,11 @@ ghost use Rattle.srt_serve.specs.Opened.{new_clocks};
 ghost use Rattle.srt_supervision.specs.Answers.{Closes};
 
 use crate::answers::{Beginning, ClosesRoute};
+use crate::evidence::{
+    CloseRequest, FlagClear, FlagRaised, Marked, MarkedBefore, NoneMarked, NoneSeated, NoneStated,
+    WordWritten, mark, next_clock, next_poller, raise_flag, request_in, take_flag, take_mark,
+    write_word,
+};
 use crate::ticking::TickEnds;
 use srt_lobby::NewName;
 use srt_mailbox::{Attachment, ClockEnd, Place, PollerEnds, Seat, SeatReader, open_seat};
@@ -19,7 +24,7 @@ use srt_types::Entry;
 use srt_wakeups::AtomicBitSet;
 use std::alloc::{AllocError, Global};
 use std::marker::PhantomData;
-use std::sync::atomic::{AtomicBool, AtomicIn, Ordering};
+use std::sync::atomic::{AtomicBool, AtomicIn};
 
 /// The polling thread's attachment of a route: it gets it with its ends of the route. That a route has one is evidence
 /// that the run began with it, or that the watcher requested to open a route of its terms.
@@ -85,10 +90,12 @@ impl<A: Answers + Beginning> TickEnds<ClockEnd> for ClockArrivals<'_, A> {
 
     ghost places = { λ s. locks_of s.reader };
 
-    fn next(&mut self) -> Option<ClockEnd> {
-        match self.reader.next_clock() {
-            Some(hand) => Some(hand.end),
-            None => None,
+    type NoneLeft = NoneSeated;
+
+    fn next(&mut self) -> Result<ClockEnd, NoneSeated> {
+        match next_clock(&mut self.reader) {
+            Ok(hand) => Ok(hand.end),
+            Err(none) => Err(none),
         }
     }
 }
@@ -106,20 +113,35 @@ pub struct RouteNotices<A: Answers> {
     words: Vec<AtomicIn<ClosesRoute<A>>>,
 }
 
-/// A route that the watcher requested to close.
+/// What became of a request to close a route.
 #[derive(Drop)]
-pub struct CloseRequest<A: Answers> {
-    /// The route's index.
-    pub route: usize,
-    of: PhantomData<A>,
-    ghost known: { ∥ A.answered (Closes route) ∥₁ },
+pub enum CloseNotice<A: Answers> {
+    /// Its word states it, and it is marked among those that are to close, by this call or before.
+    Left(WordWritten<ClosesRoute<A>>, Result<Marked, MarkedBefore>),
+    /// It was requested before.
+    Repeated(MarkedBefore),
+    /// There is no such route.
+    NoSuchRoute,
+}
+
+/// Evidence that no route among some first ones was to close.
+#[derive(Drop)]
+pub enum NoneToClose {
+    /// None was marked.
+    Unmarked(NoneMarked),
+    /// The first one that was marked, at this index, has no word.
+    Wordless(usize),
+    /// Its word stated none.
+    Unstated(NoneStated),
 }
 
 // Allocates a word for each of this many routes.
 fn open_words<A: Answers>(
     alloc: Global,
     routes: usize,
-) -> Result<Vec<AtomicIn<ClosesRoute<A>>>, AllocError> {
+) -> Result<Vec<AtomicIn<ClosesRoute<A>>>, AllocError>
+    ensures { IfOk result (λ words. length words.items ≡ routes) }
+{
     let mut words = Vec::with_capacity(alloc, routes)?;
     for _ in 0..routes {
         words.push(AtomicIn::new(0))?;
@@ -128,8 +150,12 @@ fn open_words<A: Answers>(
 }
 
 impl<A: Answers> RouteNotices<A> {
+    ghost use Rattle.srt_serve.specs.inside.Notices.{AreFor, HasNoWord, IsNoticed};
+
     /// For this many routes at most. Allocates two bits and a word for each; an error means out of memory.
-    pub fn open(alloc: Global, routes: usize) -> Result<RouteNotices<A>, AllocError> {
+    pub fn open(alloc: Global, routes: usize) -> Result<RouteNotices<A>, AllocError>
+        ensures { IfOk result (λ notices. AreFor routes notices) }
+    {
         Ok(RouteNotices {
             is_pending: AtomicBool::new(false),
             requested: AtomicBitSet::open(alloc, routes)?,
@@ -140,60 +166,43 @@ impl<A: Answers> RouteNotices<A> {
 
     /// Requests that this route be closed, once `notify` is called. The watcher requested it. A second request for a route
     /// is ignored.
-    pub fn close(&self, route: usize)
+    pub fn close(&self, route: usize) -> CloseNotice<A>
         requires { A.answered (Closes route) }
+        ensures { IsNoticed self.now route result }
     {
-        if let Some(word) = self.words.get(route) {
-            if self.requested.set(route) {
-                word.store((route as u64).wrapping_add(1), Ordering::SeqCst);
-                self.closings.set(route);
+        let Some(word) = self.words.get(route) else {
+            return CloseNotice::NoSuchRoute;
+        };
+        match mark(&self.requested, route) {
+            Ok(_) => {
+                let written = write_word(word, (route as u64).wrapping_add(1));
+                CloseNotice::Left(written, mark(&self.closings, route))
             }
+            Err(before) => CloseNotice::Repeated(before),
         }
     }
 
     /// Notifies the polling thread, which checks before its next round. For the watching thread, at the end of a change.
-    pub fn notify(&self) {
-        self.is_pending.store(true, Ordering::SeqCst);
+    pub fn notify(&self) -> FlagRaised {
+        raise_flag(&self.is_pending)
     }
 
-    // Whether there was a notice since the last call. A notice after the store sets the flag again.
-    fn take_pending(&self) -> bool {
-        let is_pending = self.is_pending.load(Ordering::SeqCst);
-        if is_pending {
-            self.is_pending.store(false, Ordering::SeqCst);
-        }
-        is_pending
-    }
-
-    // The route that the word at this index states, if it states one among this many.
-    fn stated(&self, index: usize, routes: usize) -> Option<CloseRequest<A>>
-        ensures { IfSome result (λ request. request.route < routes) }
+    // The next route that is to close, among this many. The watcher requested that. The error is evidence that there is
+    // none.
+    fn next_close(&self, routes: usize) -> Result<CloseRequest<A>, NoneToClose>
+        ensures some { IfOk result (λ request. request.route < routes) }
+        ensures none { IfErr result (HasNoWord self.now routes) }
     {
-        let word = self.words.get(index)?.load(Ordering::SeqCst);
-        if word == 0 {
-            return None;
-        }
-        let route = (word - 1) as usize;
-        if route < routes {
-            Some(CloseRequest {
-                route,
-                of: PhantomData,
-            })
-        } else {
-            None
-        }
-    }
-
-    // The next route that is to close, among this many. The watcher requested that.
-    fn next_close(&self, routes: usize) -> Option<CloseRequest<A>>
-        ensures { IfSome result (λ request. request.route < routes) }
-    {
-        let index = self.closings.next_from(0);
-        if index < routes {
-            self.closings.clear(index);
-            self.stated(index, routes)
-        } else {
-            None
+        let index = match take_mark(&self.closings, routes) {
+            Ok(index) => index,
+            Err(none) => return Err(NoneToClose::Unmarked(none)),
+        };
+        let Some(word) = self.words.get(index) else {
+            return Err(NoneToClose::Wordless(index));
+        };
+        match request_in(word, routes) {
+            Ok(request) => Ok(request),
+            Err(none) => Err(NoneToClose::Unstated(none)),
         }
     }
 }
@@ -209,6 +218,10 @@ where
     notices: &'n RouteNotices<A>,
     // the routes that were requested to close, the oldest first, each at most once
     requested: Vec<CloseRequest<A>>,
+    // evidence that there was no notice, no further route, and none to close, when that was found last
+    unnoticed: Option<FlagClear>,
+    none_added: Option<NoneSeated>,
+    none_to_close: Option<NoneToClose>,
     ghost indexed: { AreIndexed (arrived reader) },
     ghost answered: { AreAnswered A.answered A.first (arrived reader) },
 }
@@ -229,12 +242,16 @@ impl<'a, 'n, A: Answers + Beginning> PollerArrivals<'a, 'n, A> {
             reader,
             notices,
             requested: Vec::with_capacity(alloc, routes)?,
+            unnoticed: None,
+            none_added: None,
+            none_to_close: None,
         })
     }
 }
 
 impl<A: Answers + Beginning> Openings for PollerArrivals<'_, '_, A> {
-    ghost use Rattle.std.specs.Prelude.{Some};
+    ghost use Rattle.std.specs.Prelude.{◌⊎◌, ◌≤◌, Some, IsSome, length};
+    ghost use Rattle.std.specs.Vec.{vec_capacity};
     ghost use Rattle.srt_serve.specs.inside.Arrived.{marked};
     ghost use Rattle.srt_serve.specs.inside.Requests.{routes_of};
 
@@ -244,13 +261,27 @@ impl<A: Answers + Beginning> Openings for PollerArrivals<'_, '_, A> {
     // them.
     ghost requested = { λ s. Some (marked (locks_of s.reader) (routes_of s.requested.items)) };
 
+    // Only with evidence it answers that nothing has changed, or that there is no further route.
+    ghost unchanged = { λ s. IsSome s.unnoticed };
+
+    ghost no_more = { λ s. IsSome s.none_added };
+
+    // or there is no room for a further request; there is for one of each route
+    ghost none_to_close = { λ s. IsSome s.none_to_close ⊎ (vec_capacity s.requested ≤ length s.requested.items) };
+
     fn has_changes(&mut self) -> bool {
-        self.notices.take_pending()
+        match take_flag(&self.notices.is_pending) {
+            Ok(()) => true,
+            Err(clear) => {
+                self.unnoticed = Some(clear);
+                false
+            }
+        }
     }
 
     fn next(&mut self) -> Option<AddedRoute> {
-        match self.reader.next_poller() {
-            Some(taken) => {
+        match next_poller(&mut self.reader) {
+            Ok(taken) => {
                 let PollerEnds {
                     ingress,
                     drain,
@@ -261,7 +292,10 @@ impl<A: Answers + Beginning> Openings for PollerArrivals<'_, '_, A> {
                     ends: Ends { ingress, drain },
                 })
             }
-            None => None,
+            Err(none) => {
+                self.none_added = Some(none);
+                None
+            }
         }
     }
 
@@ -269,7 +303,13 @@ impl<A: Answers + Beginning> Openings for PollerArrivals<'_, '_, A> {
         if self.requested.len() >= self.requested.capacity() {
             return None;
         }
-        let request = self.notices.next_close(routes)?;
+        let request = match self.notices.next_close(routes) {
+            Ok(request) => request,
+            Err(none) => {
+                self.none_to_close = Some(none);
+                return None;
+            }
+        };
         let route = request.route;
         let Ok(()) = self.requested.push(request) else {
             unreachable!();

@@ -1,13 +1,25 @@
 //! Counts of the polling thread that the watching one reads. Each has a type of its own, so that none is taken for another.
+//! They are generic over a rule: under an unknown one, only a counter can show a number.
+
+ghost use Rattle.std.specs.Prelude.{◌≡◌};
+ghost use Rattle.std.specs.Sync.Atomic.Rule.{StaysUnderAdd};
 
 use std::marker::PhantomData;
-use std::sync::atomic::{AtomicU64, Ordering};
+use std::sync::atomic::{AtomicIn, Ordering, Rule};
 
 /// The faults of the socket: waits, reads and sends that failed.
 pub struct SocketFaults;
 
+impl Rule for SocketFaults {
+    ghost invariant = { λ _. Unit {0} };
+}
+
 /// The refusals for which there was no place.
 pub struct MissedRefusals;
+
+impl Rule for MissedRefusals {
+    ghost invariant = { λ _. Unit {0} };
+}
 
 /// How many of `K` there were when they were read.
 #[derive(Drop)]
@@ -17,29 +29,40 @@ pub struct Count<K> {
     of: PhantomData<K>,
 }
 
-/// Counts `K`, from 0 on.
+/// Evidence that one of `K` was counted.
 #[derive(Drop)]
-pub struct Counter<K> {
-    count: AtomicU64,
+pub struct Counted<K> {
     of: PhantomData<K>,
 }
 
-impl<K> Counter<K> {
+/// Counts `K`, from 0 on.
+#[derive(Drop)]
+pub struct Counter<K: Rule> {
+    count: AtomicIn<K>,
+}
+
+impl<K: Rule> Counter<K> {
     /// None were counted yet.
-    pub const fn new() -> Counter<K> {
+    pub fn new() -> Counter<K>
+        requires { K.invariant 0 }
+    {
         Counter {
-            count: AtomicU64::new(0),
-            of: PhantomData,
+            count: AtomicIn::new(0),
         }
     }
 
     /// Counts one.
-    pub fn add(&self) {
+    pub fn add(&self) -> Counted<K>
+        requires { StaysUnderAdd K.invariant 1 }
+    {
         self.count.fetch_add(1, Ordering::SeqCst);
+        Counted { of: PhantomData }
     }
 
     /// How many there were so far.
-    pub fn read(&self) -> Count<K> {
+    pub fn read(&self) -> Count<K>
+        ensures { K.invariant result.number }
+    {
         Count {
             number: self.count.load(Ordering::SeqCst),
             of: PhantomData,

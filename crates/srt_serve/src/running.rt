@@ -1,6 +1,6 @@
 //! A run of the gateway, from the opening of its routes to their accounts.
 
-ghost use Rattle.std.specs.Prelude.{◌≡◌, ◌↔◌, ◌⊎◌, ◌≤◌, ◌^◌, true, false, None, Err, List, [], ◌++◌, IfOk, OnOk, IsSome, map, length, take};
+ghost use Rattle.std.specs.Prelude.{◌≡◌, ◌↔◌, ◌⊎◌, ◌<◌, ◌≤◌, ◌^◌, true, false, None, Err, List, [], ◌++◌, IfOk, IfErr, OnOk, IsSome, map, length, take};
 ghost use Rattle.std.specs.Vec.{vec_len, vec_capacity};
 ghost use Rattle.srt_types.specs.Terms.{terms_of};
 ghost use Rattle.srt_cookie.specs.Cookie.{secret_bytes};
@@ -15,6 +15,8 @@ ghost use Rattle.srt_mailbox.specs.Places.{arrived, locks_of};
 ghost use Rattle.srt_poller.specs.Devices.{heard, carried};
 ghost use Rattle.srt_poller.specs.Openings.{NewRoute, names_in, ends_in, route_reports, route_reports_more};
 ghost use Rattle.srt_serve.specs.NamesAtStart.{later_hidden, first_names};
+ghost use Rattle.srt_wakeups.specs.Marks.{IsFor};
+ghost use Rattle.srt_serve.specs.inside.Notices.{AreFor};
 ghost use Rattle.srt_serve.specs.inside.Polled.{AreReady};
 ghost use Rattle.srt_serve.specs.Opened.{AreOpened, terms_in, new_clocks};
 ghost use Rattle.srt_supervision.specs.Answers.{AllClose, RunEnds};
@@ -180,7 +182,9 @@ fn open_wakeups(
     routes: usize,
     workers: usize,
     is_watched: bool,
-) -> Result<Wakeups, AllocError> {
+) -> Result<Wakeups, AllocError>
+    ensures { IfOk result (λ wakeups. IsFor routes workers wakeups) }
+{
     let wakeups = Wakeups::open(alloc, routes, workers)?;
     if is_watched {
         wakeups.await_watcher();
@@ -211,6 +215,9 @@ fn open_shared<A: Answers + Beginning>(
 ) -> Result<Shared<A>, AllocError>
     ensures channel { IfOk result (λ s. IsSome s.channel ↔ (is_watched ≡ true)) }
     ensures places { IfOk result (λ s. is_watched ≡ true → length s.places.items ≡ 511) }
+    ensures first { IfOk result (λ s. is_watched ≡ false → length s.places.items ≡ first) }
+    ensures notices { IfOk result (λ s. AreFor (length s.places.items) s.notices) }
+    ensures wakeups { IfOk result (λ s. IsFor (length s.places.items) workers s.wakeups) }
 {
     let routes = if is_watched { MAX_ROUTES } else { first };
     Ok(Shared {
@@ -237,14 +244,15 @@ fn prepare(alloc: Global, entries: &[Entry], schedules: &[Schedule]) -> Result<P
     })
 }
 
-// Takes the poller's ends of the routes that were added since its last round, as long as there is room for them. None are
+// Takes the poller's ends of all routes that were added since its last round, as long as there is room for them. None are
 // taken if the run isn't watched.
 fn take_late<A: Answers, O: Openings>(
     channel: Option<&WatcherChannel<A>>,
     ends: &mut Vec<Ends>,
     openings: &mut O,
 )
-    ensures { (more : List NewRoute) × ((more ≡ []) ⊎ IsSome channel.entry) × AreHidden (names_in more)
+    ensures all { IsSome channel.entry → O.no_more openings.new ⊎ (vec_capacity ends.old ≤ length ends.new.items) }
+    ensures taken { (more : List NewRoute) × ((more ≡ []) ⊎ IsSome channel.entry) × AreHidden (names_in more)
         × (route_reports (O.added openings.new) (O.requested openings.new) ≡ route_reports_more
         (route_reports (O.added openings.old) (O.requested openings.old)) more [])
         × (ends.new.items ≡ ends.old.items ++ ends_in more) }
@@ -280,13 +288,15 @@ fn come_to_all<'a, R: Wait, K: Drop, A: Answers + Beginning, T: Watch>(
         × (new_clocks (arrived clocks.new.arrivals.reader) ≡ new_clocks (arrived clocks.old.arrivals.reader) ++ more)
         × (clocks.new.ends.items ≡ clocks.old.ends.items ++ more)) }
     ensures all { OnOk result ((more : List CellIdentity) × (arrived clocks.new.arrivals.reader ≡ arrived routes.now ++ more)) }
+    ensures busy { IfErr result (λ _. (length (arrived routes.now) < length put.now.items) ⊎ (511 < length (arrived routes.now))
+        ⊎ (length (arrived clocks.new.arrivals.reader) < length (arrived routes.now))) }
     ensures ticker { clocks.new.ticker ≡ clocks.old.ticker }
 {
     let Ok(()) = began_with(routes, put) else {
         return Err(Busy);
     };
     watch_last(context.rt, context.cells, context.channel, watch);
-    take_new(&mut clocks.ends, &mut clocks.arrivals);
+    let _ = take_new(&mut clocks.ends, &mut clocks.arrivals);
     reached_all(routes, &clocks.arrivals.reader)
 }
 
@@ -433,6 +443,7 @@ where
         ends,
         openings,
         gate: poller,
+        missing: None,
     };
     let others = OtherThreads {
         clocks: Clocks {

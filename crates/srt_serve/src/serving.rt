@@ -1,6 +1,6 @@
 //! Starts the threads of a run, and joins them.
 
-ghost use Rattle.std.specs.Prelude.{◌≡◌, ◌≤◌, ◌^◌, IfSome, IfNone, IsSome, length};
+ghost use Rattle.std.specs.Prelude.{◌≡◌, ◌≤◌, ◌^◌, None, IfSome, IfNone, IsSome, length};
 ghost use Rattle.srt_cookie.specs.Cookie.{secret_bytes};
 ghost use Rattle.srt_lobby.specs.Lobby.{class_of};
 ghost use Rattle.srt_lobby.specs.Names.{names_of};
@@ -13,6 +13,7 @@ ghost use Rattle.srt_serve.specs.inside.Polled.{AreReady, Polled, AreUntouched};
 
 use crate::answers::Beginning;
 use crate::arrivals::{NameAttachment, RouteHost, RouteNotices};
+use crate::evidence::{RunOver, ThreadsMissing, gather};
 use crate::inline_serving::InlineServer;
 use crate::ticking::Clockwork;
 use crate::watcher_channel::WatcherChannel;
@@ -66,6 +67,8 @@ pub struct PollerState<G: Drop, O: Drop> {
     pub openings: O,
     /// The gate through which it serves routes, if it does. `serve_routes` takes it out.
     pub gate: Option<G>,
+    /// Evidence that some thread was missing, if one was. `serve_routes` puts it there.
+    pub missing: Option<ThreadsMissing>,
 }
 
 /// What the threads besides the polling one have for themselves.
@@ -100,7 +103,7 @@ where
             if scope
                 .spawn(move || {
                     name_thread(ThreadName::Worker(first));
-                    work(rt, cells, gate, first, wakeups)
+                    let _ = work(rt, cells, gate, first, wakeups);
                 })
                 .is_err()
             {
@@ -116,21 +119,23 @@ where
 fn watch_over<R: Wait, A: Answers + Beginning, C, T: Watch>(
     context: &RunContext<R, C, A>,
     watch: &mut T,
-)
+) -> Option<RunOver>
 where
     C: Serve + RouteHost<Seat = Seat<NameAttachment<A>>>,
     requires { (a : Answer) → T.answered a → A.answered a }
+    ensures { IfNone result (context.now.channel ≡ None) }
 {
     name_thread(ThreadName::Watch);
-    if let Some(channel) = context.channel {
-        let changer = Changer {
-            alloc: context.alloc,
-            places: context.cells,
-            notices: context.notices,
-            routes: context.routes,
-        };
-        watch_routes(context.rt, changer, context.wakeups, channel, watch);
-    }
+    let Some(channel) = context.channel else {
+        return None;
+    };
+    let changer = Changer {
+        alloc: context.alloc,
+        places: context.cells,
+        notices: context.notices,
+        routes: context.routes,
+    };
+    Some(watch_routes(context.rt, changer, context.wakeups, channel, watch))
 }
 
 // Starts the workers, and watches in a thread more if the run is watched. Returns when all have ended.
@@ -152,7 +157,9 @@ where
         context.rt,
         &mut ||
             requires { (a : Answer) → T.answered a → A.answered a }
-        { watch_over(context, watch) },
+        {
+            let _ = watch_over(context, watch);
+        },
         &mut || start_workers(context, gates),
     );
 }
@@ -178,6 +185,7 @@ fn poll<R: Wait, S: Source, W: Wire, O: Openings + Drop, C: Serve, G: Gate + Dro
         (after (names_of polling.new.names) (heard (S.gave source.new) (S.calls source.new))
         (carried (W.handed wire.new) (W.attempts wire.new)) polling.new.ends.items pumping.report)) }
     ensures unread { IfNone result (AreUntouched source.old source.new wire.old wire.new) }
+    ensures missing { IfNone result (IsSome polling.new.missing) }
 {
     let RunContext {
         rt,
@@ -189,7 +197,8 @@ fn poll<R: Wait, S: Source, W: Wire, O: Openings + Drop, C: Serve, G: Gate + Dro
         channel,
         ..
     } = *context;
-    if !wakeups.gather(rt) {
+    if let Err(missing) = gather(rt, wakeups) {
+        polling.missing = Some(missing);
         wakeups.finish();
         return None;
     }
@@ -236,7 +245,7 @@ where
         context.rt,
         &mut || {
             name_thread(ThreadName::Tick);
-            clocks.tick(context.rt, context.wakeups)
+            let _ = clocks.tick(context.rt, context.wakeups);
         },
         &mut ||
             requires { (a : Answer) → T.answered a → A.answered a }
@@ -277,6 +286,7 @@ where
         (carried (W.handed wire.new) (W.attempts wire.new)) polling.new.ends.items pumping.report)) }
     ensures ticked { D.ticked others.old.clocks others.new.clocks }
     ensures unread { IfNone result (AreUntouched source.old source.new wire.old wire.new) }
+    ensures missing { IfNone result (IsSome polling.new.missing) }
 {
     let clocks = &mut others.clocks;
     let gates = &mut others.gates;

@@ -1,6 +1,6 @@
 //! Settles all routes at the end of a run.
 
-ghost use Rattle.std.specs.Prelude.{◌≡◌, ◌≤◌, List, [], ◌++◌, IfOk, OnOk, length, map, take};
+ghost use Rattle.std.specs.Prelude.{◌≡◌, ◌⊎◌, ◌<◌, ◌≤◌, List, [], ◌++◌, IfOk, IfErr, OnOk, length, map, take};
 ghost use Rattle.std.specs.Vec.{vec_capacity};
 ghost use Rattle.srt_mailbox.specs.Cells.{CellIdentity};
 ghost use Rattle.srt_mailbox.specs.Identities.{identity_in};
@@ -25,6 +25,7 @@ pub fn began_with<'a, X: Attachment + Drop>(
     requires { map (λ t. t.of) put.now.items ≡ take (length put.now.items) (locks_of routes.now) }
     ensures began { OnOk result ((more : List CellIdentity) × (arrived routes.now ≡ map (λ t. identity_in t.value.cell) put.now.items ++ more)) }
     ensures few { OnOk result (length (arrived routes.now) ≤ 511) }
+    ensures busy { IfErr result (λ _. (length (arrived routes.now) < length put.now.items) ⊎ (511 < length (arrived routes.now))) }
 {
     if routes.routes() < put.len() {
         return Err(Busy);
@@ -45,7 +46,8 @@ pub fn reached_all<'a, X: Attachment + Drop>(
     arrivals: &SeatReader<'a, X>,
 ) -> Result<(), Busy>
     requires { locks_of arrivals.now ≡ locks_of routes.now }
-    ensures { OnOk result ((more : List CellIdentity) × (arrived arrivals.now ≡ arrived routes.now ++ more)) }
+    ensures all { OnOk result ((more : List CellIdentity) × (arrived arrivals.now ≡ arrived routes.now ++ more)) }
+    ensures busy { IfErr result (λ _. length (arrived arrivals.now) < length (arrived routes.now)) }
 {
     if arrivals.routes() < routes.routes() {
         return Err(Busy);

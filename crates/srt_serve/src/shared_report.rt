@@ -3,11 +3,29 @@
 ghost use Rattle.std.specs.Prelude.{◌≡◌};
 ghost use Rattle.srt_serve.specs.inside.Reported.{report_in};
 
+use crate::evidence::{
+    COUNTS, CountsRead, CountsWritten, FlagClear, FlagSet, read_counts, read_flag, write_counts,
+};
 use srt_supervision::Report;
 use std::sync::atomic::{AtomicBool, AtomicU64, Ordering};
 
-// The number of counts in a report.
-const COUNTS: usize = 10;
+/// What became of a report that was to be left.
+#[derive(Drop)]
+pub enum ReportLeft {
+    /// Its counts were written.
+    Written(CountsWritten),
+    /// None was wanted.
+    Unwanted(FlagClear),
+}
+
+/// A report as it was read.
+#[derive(Drop)]
+pub struct ReportRead {
+    /// The report.
+    pub report: Report,
+    read: CountsRead,
+    ghost stated: { report ≡ report_in read.numbers },
+}
 
 /// A report that one thread leaves and another one takes. The one writes the counts only while they are wanted, and the
 /// other reads them only while they aren't, so that what is taken is a report of one time.
@@ -56,6 +74,8 @@ fn report_of(numbers: &[u64; COUNTS]) -> Report
 }
 
 impl SharedReport {
+    ghost use Rattle.srt_serve.specs.inside.Leaving.{IsLeft};
+
     /// No report was left yet; the first one is wanted.
     pub const fn new() -> SharedReport {
         SharedReport {
@@ -77,40 +97,45 @@ impl SharedReport {
 
     /// Leaves this report if one is wanted. Costs a load if none is. Only one thread calls this.
     #[inline(always)]
-    pub fn leave(&self, report: &Report) {
-        if self.is_wanted.load(Ordering::SeqCst) {
-            self.store(report);
-            self.is_wanted.store(false, Ordering::SeqCst);
+    pub fn leave(&self, report: &Report) -> ReportLeft
+        ensures { IsLeft report.now result }
+    {
+        match read_flag(&self.is_wanted) {
+            Ok(_) => {
+                let written = self.store(report);
+                self.is_wanted.store(false, Ordering::SeqCst);
+                ReportLeft::Written(written)
+            }
+            Err(clear) => ReportLeft::Unwanted(clear),
         }
     }
 
     // Not written out in the poller's loop: a report is wanted many rounds apart.
     #[inline(never)]
-    fn store(&self, report: &Report) {
-        let numbers = numbers_of(report);
-        let counts = &self.counts[..];
-        for at in 0..COUNTS {
-            counts[at].store(numbers[at], Ordering::SeqCst);
+    fn store(&self, report: &Report) -> CountsWritten
+        ensures { report_in result.numbers ≡ report.now }
+    {
+        write_counts(&self.counts, numbers_of(report))
+    }
+
+    /// The report that was left since the last was taken; from then on the next one is wanted. The error is evidence that
+    /// none was left. Only one thread calls this.
+    pub fn take(&self) -> Result<ReportRead, FlagSet> {
+        match read_flag(&self.is_wanted) {
+            Ok(wanted) => Err(wanted),
+            Err(_) => {
+                let report = self.load();
+                self.is_wanted.store(true, Ordering::SeqCst);
+                Ok(report)
+            }
         }
     }
 
-    /// The report that was left, if there is one since the last was taken; from then on the next one is wanted. Only one
-    /// thread calls this.
-    pub fn take(&self) -> Option<Report> {
-        if self.is_wanted.load(Ordering::SeqCst) {
-            return None;
+    fn load(&self) -> ReportRead {
+        let read = read_counts(&self.counts);
+        ReportRead {
+            report: report_of(&read.numbers),
+            read,
         }
-        let report = self.load();
-        self.is_wanted.store(true, Ordering::SeqCst);
-        Some(report)
-    }
-
-    fn load(&self) -> Report {
-        let counts = &self.counts[..];
-        let mut numbers = [0; COUNTS];
-        for at in 0..COUNTS {
-            numbers[at] = counts[at].load(Ordering::SeqCst);
-        }
-        report_of(&numbers)
     }
 }

@@ -748,8 +748,10 @@ impl<E> TickEnds<E> for NoEnds {
 
     ghost places = { λ _. [] };
 
-    fn next(&mut self) -> Option<E> {
-        None
+    type NoneLeft = ();
+
+    fn next(&mut self) -> Result<E, ()> {
+        Err(())
     }
 }
 
@@ -789,7 +791,7 @@ fn turns_after<R: AllocGlobal + Wait>(
         arrivals: NoEnds,
         ticker,
     };
-    tick(rt, &mut clocks, &wakeups);
+    let _ = tick(rt, &mut clocks, &wakeups);
     let mut turns = Vec::new(alloc);
     for cell in &cells {
         turns.push(cell.visit(rt, &mut Ungated, 64).turns)?;

@@ -1,8 +1,10 @@
 //! The ticking thread: it offers the time to all routes.
 
-ghost use Rattle.std.specs.Prelude.{◌≡◌, ◌<◌, ◌^◌, List, [], ◌∷◌, ◌++◌};
+ghost use Rattle.std.specs.Prelude.{◌≡◌, ◌<◌, ◌≤◌, ◌^◌, List, [], ◌∷◌, ◌++◌, IfNone, length};
+ghost use Rattle.std.specs.Vec.{vec_capacity};
 ghost use Rattle.srt_serve.specs.Ticks.{WereTicked, Ticked};
 
+use crate::evidence::{RunOver, run_over};
 use srt_mailbox::{ClockEnd, InboxFull};
 use srt_types::Item;
 use srt_wakeups::Wakeups;
@@ -70,7 +72,7 @@ impl TickEnd for ClockEnd {
 
 /// Returns the clock's ends of routes that are added while others are ticked.
 pub trait TickEnds<E> {
-    ghost use Rattle.std.specs.Prelude.{◌≡◌, ℕ, List, [], ◌∷◌, ◌++◌, IfSome, IfNone};
+    ghost use Rattle.std.specs.Prelude.{◌≡◌, ℕ, List, [], ◌∷◌, ◌++◌, IfOk, IfErr};
 
     /// All ends that it returned, in their order.
     ghost added: { Self → List E };
@@ -78,11 +80,14 @@ pub trait TickEnds<E> {
     /// The names of the places from which it takes them. No call changes that.
     ghost places: { Self → List ℕ };
 
-    /// Returns the next end, if there is one. Polled before each tick, so it may not wait, and should cost no more than a
-    /// load or two if there is none.
-    fn next(&mut self) -> Option<E>
-        ensures some { IfSome result (λ end. added self.new ≡ added self.old ++ end ∷ []) }
-        ensures none { IfNone result (added self.new ≡ added self.old) }
+    /// Evidence that there was no further end.
+    type NoneLeft: Drop;
+
+    /// Returns the next end; the error is evidence that there is none. Polled before each tick, so it may not wait, and
+    /// should cost no more than a load or two if there is none.
+    fn next(&mut self) -> Result<E, Self::NoneLeft>
+        ensures some { IfOk result (λ end. added self.new ≡ added self.old ++ end ∷ []) }
+        ensures none { IfErr result (λ _. added self.new ≡ added self.old) }
         ensures same { places self.new ≡ places self.old };
 }
 
@@ -97,19 +102,23 @@ pub struct Clocks<K: Drop, E: Drop, A: Drop> {
     pub ticker: K,
 }
 
-/// Takes the ends that were added, as long as there is room for them.
-pub fn take_new<E: Drop, A: TickEnds<E>>(ends: &mut Vec<E>, arrivals: &mut A)
+/// Takes all ends that were added: until there is evidence that there is none, or as long as there is room for them.
+pub fn take_new<E: Drop, A: TickEnds<E>>(ends: &mut Vec<E>, arrivals: &mut A) -> Option<A::NoneLeft>
     ensures taken { (more : List E) × (A.added arrivals.new ≡ A.added arrivals.old ++ more) × (ends.new.items ≡ ends.old.items ++ more) }
     ensures same { A.places arrivals.new ≡ A.places arrivals.old }
+    ensures all { IfNone result (vec_capacity ends.old ≤ length ends.new.items) }
 {
     for at in ends.len()..ends.capacity() {
-        let Some(end) = arrivals.next() else {
-            return;
-        };
-        let Ok(()) = ends.push(end) else {
-            unreachable!();
-        };
+        match arrivals.next() {
+            Ok(end) => {
+                let Ok(()) = ends.push(end) else {
+                    unreachable!();
+                };
+            }
+            Err(none) => return Some(none),
+        }
     }
+    None
 }
 
 /// The work of a ticking thread until the run has ended. Code that starts threads is generic over this trait.
@@ -118,7 +127,7 @@ pub trait Clockwork {
     ghost ticked: { Self → Self → Type 0 };
 
     /// Ticks until the run has ended.
-    fn tick<R: Wait>(&mut self, rt: &R, wakeups: &Wakeups)
+    fn tick<R: Wait>(&mut self, rt: &R, wakeups: &Wakeups) -> RunOver
         ensures { ticked self.old self.new };
 }
 
@@ -129,8 +138,8 @@ impl<K: Ticker + Drop, E: TickEnd + Drop, A: TickEnds<E> + Drop> Clockwork for C
     ghost ticked = { λ a b. (A.places b.arrivals ≡ A.places a.arrivals)
         × Ticked E.inbox E.tried (K.gave a.ticker) (K.gave b.ticker) (A.added a.arrivals) (A.added b.arrivals) a.ends.items b.ends.items };
 
-    fn tick<R: Wait>(&mut self, rt: &R, wakeups: &Wakeups) {
-        tick(rt, self, wakeups);
+    fn tick<R: Wait>(&mut self, rt: &R, wakeups: &Wakeups) -> RunOver {
+        tick(rt, self, wakeups)
     }
 }
 
@@ -175,7 +184,7 @@ fn tick_with_new<R: Wait, E: TickEnd + Drop, A: TickEnds<E>>(
         × WereTicked E.inbox E.tried (moment ∷ []) (ends.old.items ++ more) ends.new.items }
     ensures same { A.places arrivals.new ≡ A.places arrivals.old }
 {
-    take_new(ends, arrivals);
+    let _ = take_new(ends, arrivals);
     tick_all(rt, ends, moment);
 }
 
@@ -186,19 +195,20 @@ pub fn tick<R: Wait, K: Ticker + Drop, E: TickEnd + Drop, A: TickEnds<E> + Drop>
     rt: &R,
     clocks: &mut Clocks<K, E, A>,
     wakeups: &Wakeups,
-)
+) -> RunOver
     ensures ticked { Ticked E.inbox E.tried (K.gave clocks.old.ticker) (K.gave clocks.new.ticker) (A.added clocks.old.arrivals) (A.added clocks.new.arrivals)
         clocks.old.ends.items clocks.new.ends.items }
     ensures same { A.places clocks.new.arrivals ≡ A.places clocks.old.arrivals }
 {
     wakeups.arrive();
     for _ in rt.forever() {
-        if wakeups.is_done() {
-            return;
+        if let Some(over) = run_over(wakeups) {
+            return over;
         }
         let moment = clocks.ticker.next();
         tick_with_new(rt, &mut clocks.ends, &mut clocks.arrivals, moment);
         wakeups.ticked(clocks.ends.len());
         thread::yield_now();
     }
+    unreachable!()
 }

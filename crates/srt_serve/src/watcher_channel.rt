@@ -6,19 +6,96 @@
 //! of different item types is also refused by the prover (docs/proving-traps.md, "Queues and threads"), so the counts are
 //! in atomics with a flag (`SharedReport`). Nothing here is touched for a packet of an open session.
 
+ghost use Rattle.std.specs.Prelude.{◌≡◌};
 ghost use Rattle.srt_supervision.specs.Answers.{IsOrdered};
 
 use crate::answers::{ClosesAll, EndsRun};
-use crate::counters::{Count, Counter, MissedRefusals, SocketFaults};
-use crate::shared_report::SharedReport;
+use crate::counters::{Count, Counted, Counter, MissedRefusals, SocketFaults};
+use crate::evidence::{
+    NoPlace, OrderRead, WasPut, WordWritten, look_for_place, put, read_order, write_word,
+};
+use crate::shared_report::{ReportLeft, SharedReport};
 use crossbeam_queue::ArrayQueue;
-use srt_supervision::{Answers, Order, Refusal};
+use srt_supervision::{Answers, Order, Refusal, Report};
 use std::alloc::{AllocError, Global};
 use std::sync::Wait;
-use std::sync::atomic::{AtomicIn, Ordering};
+use std::sync::atomic::AtomicIn;
 
 // The most refusals that wait for the watcher, which takes them many times a second.
 const REFUSAL_PLACES: usize = 64;
+
+/// Evidence that an order was set: a word that was written.
+#[derive(Drop)]
+pub enum OrderSet<A: Answers> {
+    /// The word of the orders to close all.
+    Closes(WordWritten<ClosesAll<A>>),
+    /// The word of the orders to end.
+    Ends(WordWritten<EndsRun<A>>),
+}
+
+/// What became of a refusal.
+#[derive(Drop)]
+pub enum Left {
+    /// It waits for the watcher.
+    Waits(WasPut<Refusal>),
+    /// There was no place, and it was counted as missed.
+    Missed(Missed),
+}
+
+/// Evidence that a refusal was counted as missed, since there was no place for it.
+#[derive(Drop)]
+pub struct Missed {
+    none: NoPlace,
+    counted: Counted<MissedRefusals>,
+}
+
+/// What the polling thread hands to a watcher, and asks it. All calls are of the polling thread. What is known once one has
+/// returned is for the channel to choose; it may be nothing, but only by the call can a caller show it.
+pub trait PollerChannel: Answers {
+    ghost use Rattle.std.specs.Prelude.{◌≡◌, IfSome};
+    ghost use Rattle.srt_supervision.specs.declared.order.Order.{Order as TheOrder};
+    ghost use Rattle.srt_supervision.specs.declared.report.Report.{Report as TheReport};
+    ghost use Rattle.srt_supervision.specs.declared.refusal.Refusal.{Refusal as TheRefusal};
+    ghost use Rattle.srt_supervision.specs.Answers.{IsOrdered};
+    ghost use Rattle.srt_serve.specs.inside.Leaving.{IsLeft};
+
+    /// What is known of the order that it returned.
+    ghost ordered: { Self → TheOrder → Type 0 };
+
+    /// What is known of counts that were reported.
+    ghost counted: { Self → TheReport → Type 0 };
+
+    /// What is known once there was no place for a refusal.
+    ghost missed: { Self → Type 0 };
+
+    /// What is known of a refusal that was left.
+    ghost told: { Self → TheRefusal → Type 0 };
+
+    /// What is known once a fault was counted.
+    ghost faulted: { Self → Type 0 };
+
+    /// Returns the order. It is to close all, or to end, only if the watcher gave that order.
+    fn order(&self) -> OrderRead
+        ensures known { IsOrdered Self.answered result.order }
+        ensures ordered { ordered self.now result.order };
+
+    /// Reports the poller's counts.
+    fn report(&self, report: &Report) -> ReportLeft
+        ensures left { IsLeft report.now result }
+        ensures counted { counted self.now report.now };
+
+    /// Evidence that a refusal would find no place, if it wouldn't. Counts it as missed then.
+    fn misses(&self) -> Option<Missed>
+        ensures { IfSome result (λ _. missed self.now) };
+
+    /// Leaves a refusal for the watcher, or counts it as missed.
+    fn leave<R: Wait>(&self, rt: &R, refusal: Refusal) -> Left
+        ensures { told self.now refusal };
+
+    /// Counts a fault of the socket.
+    fn failed(&self) -> Counted<SocketFaults>
+        ensures { faulted self.now };
+}
 
 /// Between the polling thread and the watching one.
 #[derive(Drop)]
@@ -37,6 +114,8 @@ pub struct WatcherChannel<A: Answers> {
 }
 
 impl<A: Answers> WatcherChannel<A> {
+    ghost use Rattle.srt_serve.specs.inside.Orders.{IsSet};
+
     /// The order is to go on, nothing was reported, and the first counts are wanted. Allocates room for 64 refusals; an
     /// error means out of memory.
     pub fn open(alloc: Global) -> Result<WatcherChannel<A>, AllocError> {
@@ -51,32 +130,15 @@ impl<A: Answers> WatcherChannel<A> {
     }
 
     /// Sets the order, which the watcher gave. An order to end is final.
-    pub fn set_order(&self, order: Order)
+    pub fn set_order(&self, order: Order) -> OrderSet<A>
         requires { IsOrdered A.answered order }
+        ensures { IsSet order result }
     {
         match order {
-            Order::GoOn => self.closes.store(0, Ordering::SeqCst),
-            Order::CloseAll => self.closes.store(1, Ordering::SeqCst),
-            Order::End => self.ends.store(1, Ordering::SeqCst),
+            Order::GoOn => OrderSet::Closes(write_word(&self.closes, 0)),
+            Order::CloseAll => OrderSet::Closes(write_word(&self.closes, 1)),
+            Order::End => OrderSet::Ends(write_word(&self.ends, 1)),
         }
-    }
-
-    /// Returns the order. It is to close all, or to end, only if the watcher gave that order.
-    pub fn order(&self) -> Order
-        ensures { IsOrdered A.answered result }
-    {
-        if self.ends.load(Ordering::SeqCst) != 0 {
-            Order::End
-        } else if self.closes.load(Ordering::SeqCst) != 0 {
-            Order::CloseAll
-        } else {
-            Order::GoOn
-        }
-    }
-
-    /// Counts a fault of the socket.
-    pub fn failed(&self) {
-        self.faults.add();
     }
 
     /// The number of faults so far.
@@ -84,29 +146,63 @@ impl<A: Answers> WatcherChannel<A> {
         self.faults.read()
     }
 
-    /// Whether a refusal would find no place. Counts it as missed then.
-    pub fn misses(&self) -> bool {
-        let is_full = self.refusals.is_full();
-        if is_full {
-            self.missed.add();
-        }
-        is_full
-    }
-
-    /// Leaves a refusal for the watcher, or counts it as missed if 64 wait.
-    pub fn leave<R: Wait>(&self, rt: &R, refusal: Refusal) {
-        if self.refusals.push(rt, refusal).is_err() {
-            self.missed.add();
-        }
-    }
-
     /// The number of refusals so far for which there was no place.
     pub fn missed(&self) -> Count<MissedRefusals> {
         self.missed.read()
     }
 
+    // Counts a refusal for which there was no place.
+    fn miss(&self, none: NoPlace) -> Missed {
+        Missed {
+            none,
+            counted: self.missed.add(),
+        }
+    }
+
     /// The refusal that has waited longest.
     pub fn take<R: Wait>(&self, rt: &R) -> Option<Refusal> {
         self.refusals.pop(rt)
+    }
+}
+
+impl<A: Answers> Answers for WatcherChannel<A> {
+    ghost answered = { λ a. A.answered a };
+}
+
+impl<A: Answers> PollerChannel for WatcherChannel<A> {
+    ghost ordered = { λ _ _. Unit {0} };
+
+    ghost counted = { λ _ _. Unit {0} };
+
+    ghost missed = { λ _. Unit {0} };
+
+    ghost told = { λ _ _. Unit {0} };
+
+    ghost faulted = { λ _. Unit {0} };
+
+    fn order(&self) -> OrderRead {
+        read_order(&self.ends, &self.closes)
+    }
+
+    fn report(&self, report: &Report) -> ReportLeft {
+        self.report.leave(report)
+    }
+
+    fn misses(&self) -> Option<Missed> {
+        match look_for_place(&self.refusals) {
+            Ok(()) => None,
+            Err(none) => Some(self.miss(none)),
+        }
+    }
+
+    fn leave<R: Wait>(&self, rt: &R, refusal: Refusal) -> Left {
+        match put(&self.refusals, rt, refusal) {
+            Ok(put) => Left::Waits(put),
+            Err(none) => Left::Missed(self.miss(none)),
+        }
+    }
+
+    fn failed(&self) -> Counted<SocketFaults> {
+        self.faults.add()
     }
 }

@@ -1,18 +1,22 @@
 //! The watching thread of a run: it shows the routes to a watcher, reports refusals to it, passes its orders to the poller,
 //! and makes its changes of the routes.
 
-ghost use Rattle.std.specs.Prelude.{◌≡◌, ◌-◌, IfOk, IfErr, length, map, min, take};
+ghost use Rattle.std.specs.Prelude.{◌≡◌, ◌≢◌, ◌⊎◌, ◌+◌, ◌-◌, ◌%◌, ◌^◌, true, false, IfOk, IfErr, length, map, min, take};
 ghost use Rattle.srt_types.specs.Terms.{terms_of};
 ghost use Rattle.srt_serve.specs.Opened.{terms_in};
 ghost use Rattle.srt_mailbox.specs.Identities.{identity_in};
 ghost use Rattle.srt_serve.specs.inside.Changing.{IsChangeFault};
+ghost use Rattle.srt_serve.specs.inside.Orders.{IsSet};
+ghost use Rattle.srt_serve.specs.inside.Quiet.{HasNoSession, HasSession, is_check_quiet};
 ghost use Rattle.srt_serve.specs.inside.Watched.{known_first, known_with, known_checked, status_of};
 ghost use Rattle.srt_supervision.specs.Answers.{Answer, AreOpenings};
 
 use crate::answers::Beginning;
 use crate::arrivals::{NameAttachment, RouteHost, RouteNotices, seat_route};
 use crate::counters::{Count, MissedRefusals, SocketFaults};
-use crate::watcher_channel::WatcherChannel;
+use crate::evidence::{FlagSet, RunOver, run_over};
+use crate::shared_report::ReportRead;
+use crate::watcher_channel::{OrderSet, WatcherChannel};
 use srt_mailbox::{Observer, Seat, Serve};
 use srt_route::Route;
 use srt_supervision::{
@@ -70,14 +74,20 @@ impl<A: Answers + Beginning, C: RouteHost<Seat = Seat<NameAttachment<A>>>> Chang
         Ok(seats)
     }
 
-    // Puts the routes of a change into their places.
-    fn host_all(&mut self, seats: Vec<Seat<NameAttachment<A>>>) {
+    // Puts the routes of a change into their places, which are taken then.
+    fn host_all(&mut self, seats: Vec<Seat<NameAttachment<A>>>)
+        ensures routes { self.new.routes ≡ (self.old.routes + length seats.items) % 2 ^ 64 }
+        ensures places { self.new.places ≡ self.old.places }
+    {
+        let count = seats.len();
+        let mut at = self.routes;
         for seat in seats {
-            if let Some(place) = self.places.get(self.routes) {
+            if let Some(place) = self.places.get(at) {
                 place.host(seat);
             }
-            self.routes = self.routes.wrapping_add(1);
+            at = at.wrapping_add(1);
         }
+        self.routes = self.routes.wrapping_add(count);
     }
 
     // The places that are taken.
@@ -100,22 +110,48 @@ impl<A: Answers + Beginning, C: RouteHost<Seat = Seat<NameAttachment<A>>>> Chang
         self.host_all(seats);
         for route in &changes.closes {
             if *route < first {
-                self.notices.close(*route);
+                let _ = self.notices.close(*route);
             }
         }
-        self.notices.notify();
+        let _ = self.notices.notify();
         Ok(first)
     }
 }
 
-/// Whether a session of the route is open.
-fn has_session(route: &Route) -> bool {
+// Whether a session of the route is open.
+fn has_session(route: &Route) -> bool
+    ensures none { result ≡ false → HasNoSession route.now }
+    ensures some { result ≡ true → HasSession route.now }
+{
     for slot in 0..MAX_SESSIONS {
-        if route.session(slot).is_some() {
-            return true;
+        match route.session(slot) {
+            Some(_) => return true,
+            None => {}
         }
     }
     false
+}
+
+// Whether a route with this number of waiting replies has no open session, and no reply waits.
+fn is_route_quiet(route: &Route, waiting: usize) -> bool
+    ensures quiet { result ≡ true → (waiting ≡ 0) × HasNoSession route.now }
+    ensures busy { result ≡ false → (waiting ≢ 0) ⊎ HasSession route.now }
+{
+    if waiting != 0 {
+        return false;
+    }
+    !has_session(route)
+}
+
+// Whether a check that found all routes quiet or not, and a hint of a reply in an outbox or not, counts as quiet: only while
+// the order is to close all or to end.
+fn is_check_quiet(order: Order, all_quiet: bool, is_outbox_ready: bool) -> bool
+    ensures { result ≡ is_check_quiet order all_quiet is_outbox_ready }
+{
+    match order {
+        Order::GoOn => false,
+        Order::CloseAll | Order::End => all_quiet && !is_outbox_ready,
+    }
 }
 
 // Shows one route to the watcher, if it wants routes, and records whether the route is quiet.
@@ -132,8 +168,11 @@ impl<T: Watch> Observer for Viewer<'_, T> {
 
     ghost looked = { λ _. None };
 
-    fn look(&mut self, route: &Route, waiting: usize) {
-        self.is_quiet = waiting == 0 && !has_session(route);
+    fn look(&mut self, route: &Route, waiting: usize)
+        ensures quiet { self.new.is_quiet ≡ true → (waiting ≡ 0) × HasNoSession route.now }
+        ensures busy { self.new.is_quiet ≡ false → (waiting ≢ 0) ⊎ HasSession route.now }
+    {
+        self.is_quiet = is_route_quiet(route, waiting);
         if self.looks {
             self.watch.show_route(self.index, route);
         }
@@ -194,16 +233,16 @@ impl Known {
     }
 
     // The same with the counts that were left since, if there are any.
-    fn with_counts(self, left: Option<Report>) -> Known
+    fn with_counts(self, left: Result<ReportRead, FlagSet>) -> Known
         ensures { result ≡ known_with left self }
     {
         match left {
-            Some(counts) => Known {
-                counts,
+            Ok(read) => Known {
+                counts: read.report,
                 reports: self.reports.saturating_add(1),
                 quiet: self.quiet,
             },
-            None => self,
+            Err(_) => self,
         }
     }
 
@@ -237,6 +276,31 @@ impl Known {
     }
 }
 
+// The order that a watcher gave after a rest.
+#[derive(Drop)]
+struct Rested<A: Answers> {
+    order: Order,
+    // evidence that it was set
+    set: OrderSet<A>,
+    ghost is_set: { ∥ IsSet order set ∥₁ },
+}
+
+// Lets the watcher rest once, and sets its order.
+fn rest<A: Answers, T: Watch>(
+    channel: &WatcherChannel<A>,
+    watch: &mut T,
+    known: &mut Known,
+) -> Rested<A>
+    requires { (a : Answer) → T.answered a → A.answered a }
+{
+    *known = known.with_counts(channel.report.take());
+    let order = watch.next(known.status(channel.faults(), channel.missed()));
+    Rested {
+        order,
+        set: channel.set_order(order),
+    }
+}
+
 // Lets the watcher rest once, and then executes its order and its changes.
 fn watch_once<R: Wait, A: Answers + Beginning, C, T: Watch>(
     rt: &R,
@@ -250,17 +314,17 @@ where
     C: Serve + RouteHost<Seat = Seat<NameAttachment<A>>>,
     requires { (a : Answer) → T.answered a → A.answered a }
 {
-    *known = known.with_counts(channel.report.take());
-    let order = watch.next(known.status(channel.faults(), channel.missed()));
-    channel.set_order(order);
+    let rested = rest(channel, watch, known);
+    let order = rested.order;
     report_refusals(rt, channel, watch);
     let looks = watch.wants_routes();
     let closes = !matches!(order, Order::GoOn);
     if !closes {
         watch.change_routes(changer);
     }
-    let is_quiet = (looks || closes) && show_all(rt, changer.taken(), watch, looks);
-    *known = known.checked(is_quiet && closes && !wakeups.any_outbox_ready());
+    let all_quiet = (looks || closes) && show_all(rt, changer.taken(), watch, looks);
+    let is_quiet = is_check_quiet(order, all_quiet, wakeups.any_outbox_ready());
+    *known = known.checked(is_quiet);
 }
 
 /// Watches until the run has ended. After each rest of the watcher the poller gets its order, the refusals that wait are
@@ -272,7 +336,7 @@ pub fn watch_routes<R: Wait, A: Answers + Beginning, C, T: Watch>(
     wakeups: &Wakeups,
     channel: &WatcherChannel<A>,
     watch: &mut T,
-)
+) -> RunOver
 where
     C: Serve + RouteHost<Seat = Seat<NameAttachment<A>>>,
     requires { (a : Answer) → T.answered a → A.answered a }
@@ -280,12 +344,13 @@ where
     wakeups.arrive();
     let mut known = Known::new();
     for _ in rt.forever() {
-        if wakeups.is_done() {
-            return;
+        if let Some(over) = run_over(wakeups) {
+            return over;
         }
         watch_once(rt, &mut changer, wakeups, channel, watch, &mut known);
         thread::yield_now();
     }
+    unreachable!()
 }
 
 /// Shows each route once more, and reports the remaining refusals, if the run was watched. For the time after all threads

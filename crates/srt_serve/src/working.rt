@@ -4,7 +4,9 @@ ghost use Rattle.std.specs.Prelude.{◌≡◌, ◌≢◌, ◌≤◌, true, false
 ghost use Rattle.srt_mailbox.specs.Counts.{Grew};
 ghost use Rattle.srt_mailbox.specs.declared.gates.Served.TheVariants.{Turned as TurnedAs, GateRefused, ClaimedElsewhere};
 ghost use Rattle.srt_types.specs.declared.shared.Turned.TheVariants.{Idle};
+ghost use Rattle.srt_serve.specs.inside.Working.{round_first, round_with, is_thin, pause_after, sleeps, first_of};
 
+use crate::evidence::{Entered, RunOver, enter, run_over};
 use srt_mailbox::{Gate, Serve, Served, Visit};
 use srt_types::Turned;
 use srt_wakeups::Wakeups;
@@ -22,8 +24,26 @@ struct Round {
     moved: u32,
 }
 
+// What a worker does after a round.
+#[derive(Clone, Copy)]
+enum Pause {
+    // it dozes, since there was a little to do at each of many routes
+    Doze,
+    // it begins the next round, after it has woken a worker in reserve
+    Share,
+    // it begins the next round
+    GoOn,
+    // it rests, since it found nothing to do again
+    Rest,
+    // it naps, since it found nothing to do
+    Nap,
+}
+
 impl Round {
-    const fn new() -> Round {
+    // Nothing was done.
+    const fn new() -> Round
+        ensures { result ≡ round_first }
+    {
         Round {
             served: 0,
             most: 0,
@@ -31,18 +51,61 @@ impl Round {
         }
     }
 
-    fn count(&mut self, visit: Visit) {
-        if visit.turns > 0 {
-            self.served = self.served.wrapping_add(1);
+    // The same after one visit more.
+    fn with(self, visit: Visit) -> Round
+        ensures { result ≡ round_with visit self }
+    {
+        let served = if visit.turns > 0 {
+            self.served.saturating_add(1)
+        } else {
+            self.served
+        };
+        Round {
+            served,
+            most: self.most.max(visit.turns),
+            moved: self.moved.saturating_add(visit.moved),
         }
-        self.most = self.most.max(visit.turns);
-        self.moved = self.moved.wrapping_add(visit.moved);
     }
 
     // Whether there was a little to do at each of many routes.
-    fn is_thin(&self) -> bool {
+    fn is_thin(self) -> bool
+        ensures { result ≡ is_thin self }
+    {
         self.served >= THIN_ROUTES && self.most <= THIN_TURNS
     }
+
+    // What follows the round, before which the worker had napped, rested or dozed, or not.
+    fn pause(self, napped: bool) -> Pause
+        ensures { result ≡ pause_after self napped }
+    {
+        if self.is_thin() {
+            Pause::Doze
+        } else if self.served > 0 {
+            if self.moved >= MANY_REPLIES {
+                Pause::Share
+            } else {
+                Pause::GoOn
+            }
+        } else if napped {
+            Pause::Rest
+        } else {
+            Pause::Nap
+        }
+    }
+}
+
+// Whether the worker has slept once it did this.
+fn sleeps(pause: Pause) -> bool
+    ensures { result ≡ sleeps pause }
+{
+    !matches!(pause, Pause::Share | Pause::GoOn)
+}
+
+// The route at which the worker with this number begins each of its rounds, of this many routes.
+fn first_of(worker: usize, routes: usize) -> usize
+    ensures { result ≡ first_of worker routes }
+{
+    if routes == 0 { 0 } else { worker % routes }
 }
 
 /// Serves a route until it is idle, blocked by a full outbox, held by the gate or claimed by another call, and for at
@@ -81,6 +144,21 @@ pub fn is_left(visit: Visit) -> bool
     }
 }
 
+// Serves a route that this worker entered, and leaves it.
+fn serve_entered<R: Wait, C: Serve, G: Gate>(
+    rt: &R,
+    cell: &C,
+    entered: Entered<'_>,
+    gate: &mut G,
+) -> Visit
+    ensures most { result.turns ≤ 64 }
+    ensures all { result.end ≡ None → result.turns ≡ 64 }
+{
+    let visit = serve_route(rt, cell, entered.route, gate, entered.wakeups, WORKER_TURNS);
+    entered.leave(is_left(visit));
+    visit
+}
+
 // Passes once over all routes, from the route `first` on, and serves each whose inbox is ready and that no other worker
 // serves. If there is much to do, it wakes another worker.
 fn serve_round<R: Wait, C: Serve, G: Gate>(
@@ -112,10 +190,8 @@ fn serve_round<R: Wait, C: Serve, G: Gate>(
             wakeups.wake_resting();
         }
         if let Some(cell) = cells.get(route) {
-            if wakeups.enter(route) {
-                let visit = serve_route(rt, cell, route, gate, wakeups, WORKER_TURNS);
-                wakeups.leave(route, is_left(visit));
-                round.count(visit);
+            if let Some(entered) = enter(wakeups, route) {
+                round = round.with(serve_entered(rt, cell, entered, gate));
             }
         }
         route = route.wrapping_add(1);
@@ -134,33 +210,25 @@ pub fn work<R: Wait, C: Serve, G: Gate + Drop>(
     mut gate: G,
     first: usize,
     wakeups: &Wakeups,
-) {
+) -> RunOver {
     wakeups.arrive();
-    let first = if cells.is_empty() {
-        0
-    } else {
-        first % cells.len()
-    };
+    let first = first_of(first, cells.len());
     let mut napped = false;
     for _ in rt.forever() {
-        if wakeups.is_done() {
-            return;
+        if let Some(over) = run_over(wakeups) {
+            return over;
         }
         let seen = wakeups.notifications();
         let round = serve_round(rt, cells, first, &mut gate, wakeups);
-        if round.is_thin() {
-            wakeups.doze(rt, seen, round.served);
-            napped = true;
-        } else if round.served > 0 {
-            if round.moved >= MANY_REPLIES {
-                wakeups.wake_reserve();
-            }
-            napped = false;
-        } else if napped {
-            wakeups.rest(rt, seen);
-        } else {
-            wakeups.nap(rt, seen);
-            napped = true;
+        let pause = round.pause(napped);
+        match pause {
+            Pause::Doze => wakeups.doze(rt, seen, round.served),
+            Pause::Share => wakeups.wake_reserve(),
+            Pause::GoOn => {}
+            Pause::Rest => wakeups.rest(rt, seen),
+            Pause::Nap => wakeups.nap(rt, seen),
         }
+        napped = sleeps(pause);
     }
+    unreachable!()
 }

@@ -1,6 +1,7 @@
 -- What is known between two rests of a watcher.
-use Rattle.std.specs.Prelude.{Bool, true, false, ℕ, nat_lt, ◌+◌, ◌-◌, ◌^◌, min, Option, None, Some}
-use Rattle.srt_supervision.specs.declared.report.Report.{Report}
+use Rattle.std.specs.Prelude.{Bool, true, false, ℕ, nat_lt, ◌+◌, ◌-◌, ◌^◌, min, Result, Ok, Err}
+use Rattle.srt_serve.specs.declared.evidence.FlagSet.{FlagSet}
+use Rattle.srt_serve.specs.declared.shared_report.ReportRead.{ReportRead}
 use Rattle.srt_supervision.specs.declared.watch.RunStatus.{RunStatus}
 use Rattle.srt_serve.specs.declared.watching.Known.{Known}
 
@@ -26,9 +27,9 @@ known_first =
     }
 
 -- with the counts that were left since, if there are any: one report more
-abbrev pub known_with : Option Report → Known → Known
-known_with None known = known
-known_with (Some counts) known = record { counts = counts; reports = min (known.reports + 1) (2 ^ 64 - 1); quiet = known.quiet }
+abbrev pub known_with : Result ReportRead FlagSet → Known → Known
+known_with (Err wanted) known = known
+known_with (Ok read) known = record { counts = read.report; reports = min (known.reports + 1) (2 ^ 64 - 1); quiet = known.quiet }
 
 -- after a check that found all quiet, or not
 abbrev pub known_checked : (is_quiet : Bool) → Known → Known

@@ -150,6 +150,7 @@ where
         ends,
         openings,
         gate,
+        missing: None,
     };
     let mut others = OtherThreads {
         clocks: Clocks {

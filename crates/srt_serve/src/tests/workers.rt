@@ -1,6 +1,7 @@
 //! Workers and the polling thread at routes that only count, so that a run may last long.
 
 use crate::inline_serving::InlineServer;
+use crate::watcher_channel::WatcherChannel;
 use crate::working::work;
 use srt_mailbox::{Gate, Observer, Serve, Served, Ungated, Visit};
 use srt_poller::{Hints, InlineService};
@@ -139,7 +140,9 @@ fn a_worker_serves_after_hundreds_of_thousands_of_notifications(
     let wakeups = Wakeups::open(rt.alloc(), 1, 1)?;
     let (_, is_good) = join(
         &rt,
-        || work(&rt, desks.as_slice(), Ungated, 0, &wakeups),
+        || {
+            let _ = work(&rt, desks.as_slice(), Ungated, 0, &wakeups);
+        },
         || notify_and_ask(&rt, &wakeups, desks.as_slice()),
     );
     assert!(rt; is_good && wakeups.notifications() > u64::from(NOTIFICATIONS));
@@ -152,9 +155,8 @@ fn a_worker_serves_after_hundreds_of_thousands_of_notifications(
 fn the_polling_thread_asks_for_workers(rt: HostRuntime) -> Result<(), Fail> {
     let desks = desks(rt.alloc(), &[Load::Turns(1); 12])?;
     let wakeups = Wakeups::open(rt.alloc(), 12, 1)?;
-    let ungated: InlineServer<'_, HostRuntime, Desk, Ungated, NoWatcher> = InlineServer::new(
-        &rt, &desks, &wakeups, None, None,
-    );
+    let ungated: InlineServer<'_, HostRuntime, Desk, Ungated, WatcherChannel<NoWatcher>> =
+        InlineServer::new(&rt, &desks, &wakeups, None, None);
     ungated.polled(7);
     ungated.serve_inline(1);
     assert_eq!(rt;
@@ -165,13 +167,8 @@ fn the_polling_thread_asks_for_workers(rt: HostRuntime) -> Result<(), Fail> {
         ),
         (7, 12, 12)
     );
-    let inline: InlineServer<'_, HostRuntime, Desk, Ungated, NoWatcher> = InlineServer::new(
-        &rt,
-        &desks,
-        &wakeups,
-        None,
-        Some(Ungated),
-    );
+    let inline: InlineServer<'_, HostRuntime, Desk, Ungated, WatcherChannel<NoWatcher>> =
+        InlineServer::new(&rt, &desks, &wakeups, None, Some(Ungated));
     inline.polled(3);
     inline.serve_inline(64);
     assert_eq!(rt;
@@ -204,13 +201,8 @@ fn the_polling_thread_leaves_what_it_does_not_get_done(rt: HostRuntime) -> Resul
     ];
     let desks = desks(rt.alloc(), &loads)?;
     let wakeups = Wakeups::open(rt.alloc(), 4, 1)?;
-    let inline: InlineServer<'_, HostRuntime, Desk, Ungated, NoWatcher> = InlineServer::new(
-        &rt,
-        &desks,
-        &wakeups,
-        None,
-        Some(Ungated),
-    );
+    let inline: InlineServer<'_, HostRuntime, Desk, Ungated, WatcherChannel<NoWatcher>> =
+        InlineServer::new(&rt, &desks, &wakeups, None, Some(Ungated));
     inline.polled(0);
     inline.serve_inline(1);
     assert_eq!(rt;

@@ -17,17 +17,17 @@ serve_routes-requires-send-D g c κs within = search (sendable, clocks_send, arr
 
 pub come_to_all-requires-clause-put : goal.come_to_all-requires-clause-put
 come_to_all-requires-clause-put g c =
-    let late = polled_late _ _ _ _ _ _ _ _ _ _ _ _ _ c.requires.few c.take_late.ensures c.in-Some.ensures.pumped in
+    let late = polled_late _ _ _ _ _ _ _ _ _ _ _ _ _ c.requires.few c.take_late.ensures.taken c.in-Some.ensures.pumped in
     c.requires.put.0 ∙ ap (take _) (sym (same_places _ _ _ _ _ _ _ _ _ _ _ _ _ _ _ _ _ _ _ _ _ _ late))
 
 pub come_to_all-requires-clause-places : goal.come_to_all-requires-clause-places
 come_to_all-requires-clause-places g c =
-    let late = polled_late _ _ _ _ _ _ _ _ _ _ _ _ _ c.requires.few c.take_late.ensures c.in-Some.ensures.pumped in
+    let late = polled_late _ _ _ _ _ _ _ _ _ _ _ _ _ c.requires.few c.take_late.ensures.taken c.in-Some.ensures.pumped in
     c.in-Some.ensures.ticked.0 ∙ c.requires.places ∙ sym (same_places _ _ _ _ _ _ _ _ _ _ _ _ _ _ _ _ _ _ _ _ _ _ late)
 
 pub settle_routes-requires-clause-joined : goal.settle_routes-requires-clause-joined
 settle_routes-requires-clause-joined g c =
-    let late = polled_late _ _ _ _ _ _ _ _ _ _ _ _ _ c.requires.few c.take_late.ensures c.in-Some.ensures.pumped in
+    let late = polled_late _ _ _ _ _ _ _ _ _ _ _ _ _ c.requires.few c.take_late.ensures.taken c.in-Some.ensures.pumped in
     changed_joined _ _ _ _ _ _ _ _ _ _ _ _ _ _ _ _ _ _ c.in-Ok.ensures.all.0 _ _ _ _ _ c.requires.opened
     c.take_late.new.openings.indexed late
     (all_ticked _ _ _ _ _ _ _ _ _ c.in-Some.ensures.ticked.1 c.requires.clocks c.in-Ok.ensures.taken.1
@@ -39,7 +39,7 @@ settle_routes-requires-clause-room g c = (c.requires.accounts.0, omega (arith, c
 
 pub returns-clause-fixed : goal.returns-clause-fixed
 returns-clause-fixed g c unknown =
-    let late = polled_late _ _ _ _ _ _ _ _ _ _ _ _ _ c.requires.few c.take_late.ensures c.in-Some.ensures.pumped in
+    let late = polled_late _ _ _ _ _ _ _ _ _ _ _ _ _ c.requires.few c.take_late.ensures.taken c.in-Some.ensures.pumped in
     let grew = c.in-Ok.ensures.began.1 in
     ran_fixed _ _ _ _ _ _ _ _ _ _ _ _ _ _ _ _ _ _ _ _ _ _ c.in-Ok.ensures.began.0 c.in-Ok.ensures.all.0 _ _ _ _ _
     unknown c.requires.routes c.requires.names refl c.requires.opened c.take_late.new.openings.indexed
@@ -51,7 +51,7 @@ returns-clause-fixed g c unknown =
 
 pub returns-clause-changing : goal.returns-clause-changing
 returns-clause-changing g c known =
-    let late = polled_late _ _ _ _ _ _ _ _ _ _ _ _ _ c.requires.few c.take_late.ensures c.in-Some.ensures.pumped in
+    let late = polled_late _ _ _ _ _ _ _ _ _ _ _ _ _ c.requires.few c.take_late.ensures.taken c.in-Some.ensures.pumped in
     let grew = c.in-Ok.ensures.began.1 in
     ran_changing _ _ _ _ _ _ _ _ _ _ _ _ _ _ _ _ _ _ _ _ _ _ c.in-Ok.ensures.began.0 c.in-Ok.ensures.all.0 _ _ _ _ _ _ _
     known c.in-Ok.ensures.few c.requires.names refl c.requires.opened c.take_late.new.openings.indexed

@@ -8,8 +8,8 @@ loop-r-preserved g c =
     same_so_far (arrived c.args.routes.now) (arrived c.args.arrivals.now) c.loop-r.r c.agree.ensures
     (omega (arith, c.loop-r-test.true, c.routes-r-end.ensures)) c.loop-r.invariant
 
-pub returns : goal.returns
-returns g c = (
+pub returns-clause-all : goal.returns-clause-all
+returns-clause-all g c = (
   drop c.loop-r.r (arrived c.args.arrivals.now),
   has_all (arrived c.args.routes.now) (arrived c.args.arrivals.now) c.loop-r.r
       (omega (arith, c.loop-r-test.false, c.routes-r-end.ensures))

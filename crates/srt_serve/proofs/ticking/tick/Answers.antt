@@ -15,8 +15,8 @@ loop-preserved g c = (
       c.loop.invariant.3 c.next-moment.ensures.records c.tick_with_new.ensures.ticked.1 c.tick_with_new.ensures.ticked.2,
 )
 
-pub returns-then-is_done-clause-ticked : goal.returns-then-is_done-clause-ticked
-returns-then-is_done-clause-ticked g c = c.loop.invariant.3
+pub returns-in-Some-run_over-clause-ticked : goal.returns-in-Some-run_over-clause-ticked
+returns-in-Some-run_over-clause-ticked g c = c.loop.invariant.3
 
-pub returns-then-is_done-clause-same : goal.returns-then-is_done-clause-same
-returns-then-is_done-clause-same g c = c.loop.invariant.2
+pub returns-in-Some-run_over-clause-same : goal.returns-in-Some-run_over-clause-same
+returns-in-Some-run_over-clause-same g c = c.loop.invariant.2
