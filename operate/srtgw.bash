@@ -11,7 +11,7 @@ _srtgw() {
     --for) mapfile -t COMPREPLY < <(compgen -W "30s 10m 8h 7d" -- "$word"); return ;;
   esac
   case $command in
-    check) words="--explain --help" ;;
+    check) words="--explain --addresses --help" ;;
     replay) words="--help" ;;
     explain) words="--output --help" ;;
     serve) words="--rounds --help" ;;

@@ -14,6 +14,7 @@ complete -c srtgw -n __fish_use_subcommand -a run -d 'Serve callers until it is 
 complete -c srtgw -n __fish_use_subcommand -a help -d 'The help of a command'
 complete -c srtgw -n '__srtgw_after check replay explain serve run' -F
 complete -c srtgw -n '__srtgw_after check' -l explain -d 'Say where each fault is and how to fix it, or warn'
+complete -c srtgw -n '__srtgw_after check' -l addresses -d 'Bind its addresses once'
 complete -c srtgw -n '__srtgw_after explain' -l output -r -F -d 'What replay printed for the tape'
 complete -c srtgw -n '__srtgw_after serve' -l rounds -x -d 'How many times the socket is polled'
 complete -c srtgw -n '__srtgw_after run' -l for -x -a '30s 10m 8h 7d' -d 'Stop after this time'

@@ -19,7 +19,7 @@ _srtgw() {
   shift words
   ((CURRENT--))
   case $words[1] in
-    check) _arguments $help '--explain[say where each fault is and how to fix it, or warn]' '1:configuration:_files' ;;
+    check) _arguments $help '--explain[say where each fault is and how to fix it, or warn]' '--addresses[bind its addresses once]' '1:configuration:_files' ;;
     replay) _arguments $help '1:configuration:_files' '2:tape:_files' ;;
     explain) _arguments $help '--output[what replay printed for the tape]:output of replay:_files' '1:tape:_files' ;;
     serve) _arguments $help '--rounds[how many times the socket is polled]:number' '1:configuration:_files' ;;

@@ -1,5 +1,5 @@
-"""A run that can't begin: each wrong configuration, a file that can't be read, an address that can't be bound. What `run` says
-is held to the rows and cases of tests/cli that hold `check --explain`."""
+"""A run that can't begin: each wrong configuration, a file that can't be read, an address that can't be bound, of which
+`check --addresses` says the same. What `run` says is held to the rows and cases of tests/cli that hold `check --explain`."""
 import errno
 import os
 import resource
@@ -88,11 +88,39 @@ def wrong_files():
         expect(found == (1, output, errors), f"{name}: it ended with {found}")
 
 
-def expect_not_bound(text, address, number):
-    """Expects that a run ends since an address, which it tells so, can't be bound, with the system's words for this error."""
-    wanted = (1, "socket fault\n", [f"srtgw: {address}: {os.strerror(number)} (os error {number})"])
-    found = ended(text)
-    expect(found == wanted, f"it ended with {found}")
+def checked(text):
+    """The end of `check --addresses` of this configuration, as that of a run."""
+    with tempfile.TemporaryDirectory(prefix="srtgw-addresses-") as room:
+        with open(f"{room}/gateway.toml", "w") as it:
+            it.write(text)
+        end = subprocess.run([PROGRAM, "check", "gateway.toml", "--addresses"], cwd=room, stdin=subprocess.DEVNULL, capture_output=True, text=True, timeout=20)
+    return end.returncode, end.stdout, end.stderr.splitlines()
+
+
+def why_not_bound(address, number, hint=""):
+    """The line about an address that can't be bound, with the system's words for this error."""
+    return f"srtgw: {address}: {os.strerror(number)} (os error {number}){hint}"
+
+
+def expect_not_bound(text, address, number, hint=""):
+    """Expects that a run ends since an address, which it tells so, can't be bound, and that a check of addresses ends alike."""
+    wanted = (1, "socket fault\n", [why_not_bound(address, number, hint)])
+    for found in (ended(text), checked(text)):
+        expect(found == wanted, f"it ended with {found}")
+
+
+@case("a check of addresses tells of both, and leaves them free")
+def addresses_checked():
+    with socket.socket(socket.AF_INET, socket.SOCK_DGRAM) as datagrams, socket.socket(socket.AF_INET, socket.SOCK_STREAM) as stream:
+        datagrams.bind(("127.0.0.1", 0))
+        stream.bind(("127.0.0.1", 0))
+        stream.listen()
+        port, page = datagrams.getsockname()[1], f"127.0.0.1:{stream.getsockname()[1]}"
+        text = configuration([live("studio")], port, status=page)
+        lines = [why_not_bound(f"127.0.0.1:{port}", errno.EADDRINUSE), why_not_bound(f"status page at {page}", errno.EADDRINUSE)]
+        expect((found := checked(text)) == (1, "socket fault\n", lines), f"it ended with {found}")
+    for _ in range(2):
+        expect((found := checked(text)) == (0, "routes 1\n", []), f"it ended with {found}")
 
 
 @case("a port that is taken")
@@ -154,4 +182,4 @@ def no_right():
         first = int(it.read())
     if os.geteuid() == 0 or first < 2:
         raise Skipped("each port may be bound here")
-    expect_not_bound(configuration([live("studio")], 1), "127.0.0.1:1", errno.EACCES)
+    expect_not_bound(configuration([live("studio")], 1), "127.0.0.1:1", errno.EACCES, "; ports below 1024 need root or CAP_NET_BIND_SERVICE")

@@ -60,6 +60,15 @@ fn explain<'a>(alloc: Global) -> Arg<'a> {
         .help("Prints on standard error where each fault is and how to fix it, or warnings")
 }
 
+fn addresses<'a>(alloc: Global) -> Arg<'a> {
+    Arg::new(alloc, "addresses")
+        .long("addresses")
+        .action(ArgAction::SetTrue)
+        .help(
+            "Also binds the addresses of bind and status once, as run does; those of a gateway that runs are taken",
+        )
+}
+
 fn duration<'a>(alloc: Global) -> Arg<'a> {
     Arg::new(alloc, "for")
         .long("for")
@@ -93,7 +102,8 @@ fn check<'a>(alloc: Global) -> Result<Command<'a>, AllocError> {
     Command::new(alloc, "check")
         .about("Prints how many routes a configuration has, or its first fault")
         .arg(config(alloc))?
-        .arg(explain(alloc))
+        .arg(explain(alloc))?
+        .arg(addresses(alloc))
 }
 
 /// The command `replay`.

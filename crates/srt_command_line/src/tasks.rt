@@ -27,6 +27,8 @@ pub enum Task<'a> {
         config: &'a str,
         /// Whether the outcome is explained on standard error.
         explains: bool,
+        /// Whether its addresses are bound once.
+        tries_addresses: bool,
     },
     /// Run a tape's events, and print their results.
     Replay {
@@ -126,6 +128,7 @@ fn task_in<'a>(name: &str, matches: &ArgMatches<'a>) -> Option<Task<'a>>
         "check" => Some(Task::Check {
             config,
             explains: matches.get_flag("explain"),
+            tries_addresses: matches.get_flag("addresses"),
         }),
         "serve" => Some(Task::Serve {
             config,

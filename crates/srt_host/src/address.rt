@@ -2,7 +2,7 @@
 
 ghost use Rattle.std.specs.Prelude.{◌≡◌};
 ghost use Rattle.std.specs.Net.Socket.{socket_ip, socket_port, socket_flowinfo, socket_scope_id};
-ghost use Rattle.srt_host.specs.Addresses.{IsSocketIp};
+ghost use Rattle.srt_host.specs.Addresses.{IsSocketIp, served_port};
 
 use srt_config::BindAddress;
 use srt_types::is_mapped;
@@ -22,5 +22,20 @@ pub fn socket_address(address: BindAddress) -> SocketAddr
         SocketAddr::V4(SocketAddrV4::new(ip, address.port))
     } else {
         SocketAddr::V6(SocketAddrV6::new(Ipv6Addr::from_octets(ip), address.port, 0, 0))
+    }
+}
+
+/// Returns the address of a socket that was bound at this one of the configuration: with the port that the system chose, if that is
+/// known.
+pub fn served_at(bind: BindAddress, bound: Option<SocketAddr>) -> BindAddress
+    ensures ip { result.ip ≡ bind.ip }
+    ensures port { result.port ≡ served_port bind.port bound }
+{
+    match bound {
+        Some(address) => BindAddress {
+            ip: bind.ip,
+            port: address.port(),
+        },
+        None => bind,
     }
 }

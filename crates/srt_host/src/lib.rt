@@ -8,26 +8,29 @@
 //! error, which waits for nobody; `StatusPage`, the page's sockets; `HostWatcher`, a watcher over all of these, and `WatcherFault`, why there is
 //! none.
 //!
-//! Calls: `open_watcher` for a run of a gateway; `time_now` returns the system's time, and `socket_address` the socket
-//! address that a configuration names.
+//! Calls: `open_watcher` for a run of a gateway; `try_page` binds the page's address once, and `bind_hint` says what may help if an
+//! address can't be bound; `time_now` returns the system's time, `socket_address` the socket address that a configuration names, and
+//! `served_at` the one that a socket got.
 //!
 //! Files: `clock.rt`, `times.rt`, `address.rt`, `host.rt`, `errors.rt` and `status_page.rt` have these, `held_text.rt` the
-//! log's text that waits, and `watching.rt` joins all.
+//! log's text that waits, `hints.rt` the hint, and `watching.rt` joins all.
 #![tactic(auto)]
 
 mod address;
 mod clock;
 mod errors;
 mod held_text;
+mod hints;
 mod host;
 mod status_page;
 mod times;
 mod watching;
 
-pub use address::socket_address;
+pub use address::{served_at, socket_address};
 pub use clock::Since;
 pub use errors::Errors;
+pub use hints::bind_hint;
 pub use host::{Host, HostFile};
 pub use status_page::StatusPage;
 pub use times::time_now;
-pub use watching::{HostWatcher, WatcherFault, open_watcher};
+pub use watching::{HostWatcher, WatcherFault, open_watcher, try_page};

@@ -2,16 +2,18 @@
 
 ghost use Rattle.std.specs.Prelude.{◌≡◌};
 
-use crate::address::socket_address;
+use crate::address::{served_at, socket_address};
 use crate::errors::Errors;
+use crate::hints::bind_hint;
 use crate::host::{Host, HostFile};
 use crate::status_page::StatusPage;
 use srt_command_line::{Manner, VERSION};
-use srt_config::Config;
+use srt_config::{BindAddress, Config};
 use srt_explain::Explained;
 use srt_procfs::signals_are_blocked;
 use srt_watch::{LogForm, Start, Watcher};
 use std::io::ErrorKind;
+use std::net::SocketAddr;
 use std::time::Instant;
 
 /// A watcher over this machine.
@@ -40,11 +42,20 @@ fn open_page(machine: &HostRuntime, config: &Config) -> Result<StatusPage, Watch
         Err(error) if error.kind() == ErrorKind::OutOfMemory => Err(WatcherFault::OutOfMemory),
         Err(error) => {
             if let Some(address) = config.status {
+                let hint = bind_hint(error.kind(), address.port);
                 let address = socket_address(address);
-                let _ = eprintln!(machine; "srtgw: status page at {address}: {error}");
+                let _ = eprintln!(machine; "srtgw: status page at {address}: {error}{hint}");
             }
             Err(WatcherFault::Page(error.raw_os_error()))
         }
+    }
+}
+
+/// Binds the address of the status page once, if the configuration has one. Prints on standard error why it can't be bound.
+pub fn try_page(machine: &HostRuntime, config: &Config) -> Result<(), WatcherFault> {
+    match open_page(machine, config) {
+        Ok(_) => Ok(()),
+        Err(fault) => Err(fault),
     }
 }
 
@@ -59,11 +70,11 @@ fn form_of(manner: Manner) -> LogForm
 }
 
 /// Returns the facts that the log and the page show of a run's beginning.
-fn beginning(machine: &HostRuntime, config: &Config, manner: Manner) -> Start {
+fn beginning(machine: &HostRuntime, served: BindAddress, workers: u32, manner: Manner) -> Start {
     Start {
-        ip: config.bind.ip,
-        port: config.bind.port,
-        workers: config.workers,
+        ip: served.ip,
+        port: served.port,
+        workers,
         is_blocked: signals_are_blocked(machine),
         lasts: manner.lasts,
         version: VERSION,
@@ -94,29 +105,31 @@ fn tell_watcher<'a>(
     Ok(())
 }
 
-/// Opens the watcher of a run whose clock is 0 at `start`. It follows the configuration's file, which is at `path`, and
-/// logs the warnings about it after its first line. Binds the status page's address. Allocates some kilobytes for each
-/// route.
+/// Opens the watcher of a run whose clock is 0 at `start`, and whose socket is bound at this address. It follows the
+/// configuration's file, which is at `path`, and logs the warnings about it after its first line. Binds the status page's
+/// address. Allocates some kilobytes for each route.
 pub fn open_watcher<'a>(
     machine: &'a HostRuntime,
     path: &'a str,
     explained: &'a Explained,
     manner: Manner,
     start: Option<Instant>,
+    bound: Option<SocketAddr>,
 ) -> Result<HostWatcher<'a>, WatcherFault> {
     let config = &explained.config;
+    let served = served_at(config.bind, bound);
     let page = open_page(machine, config)?;
     let Ok(errors) = Errors::open(machine, machine.alloc()) else {
         return Err(WatcherFault::OutOfMemory);
     };
     let Ok(mut watcher) = Watcher::open(
         machine.alloc(),
-        Host::new(machine, start, config.bind),
+        Host::new(machine, start, served),
         page,
         errors,
         form_of(manner),
         config.entries.as_slice(),
-        beginning(machine, config, manner),
+        beginning(machine, served, config.workers, manner),
     ) else {
         return Err(WatcherFault::OutOfMemory);
     };

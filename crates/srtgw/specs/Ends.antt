@@ -1,5 +1,6 @@
 -- How a run ends.
-use Rattle.std.specs.Prelude.{Bool, true}
+use Rattle.std.specs.Prelude.{Bool, true, Result, Ok, Err}
+use Rattle.srt_offline.specs.declared.faults.OfflineFault.{OfflineFault}
 use Rattle.srt_offline.specs.declared.faults.OfflineFault.TheVariants.{Memory}
 use Rattle.srt_offline.specs.Ends.{is_printed as is_offline_printed}
 use Rattle.srt_poller.specs.declared.sockets.BindFault.TheVariants.{Socket}
@@ -18,3 +19,13 @@ is_printed (Run fault) = true
 abbrev pub fault_of : WatcherFault → Fault
 fault_of (watchers.Page number) = Bind (Socket number)
 fault_of watchers.OutOfMemory = Offline Memory
+
+-- how a command ends that opens no socket
+abbrev pub offline_end : Result (Unit {0}) OfflineFault → Result (Unit {0}) Fault
+offline_end (Ok done) = Ok done
+offline_end (Err fault) = Err (Offline fault)
+
+-- how two parts of a task end: with the first fault
+abbrev pub first_end : Result (Unit {0}) Fault → Result (Unit {0}) Fault → Result (Unit {0}) Fault
+first_end (Ok done) second = second
+first_end (Err fault) second = Err fault

@@ -7,15 +7,17 @@
 //! Types: `Fault` (`faults.rt`), why a run ended early. What the command line asks for is `srt_command_line`'s `Task`.
 //!
 //! Calls: `main` takes the words, and `run` does their task: `check`, `replay` and `explain` are `srt_offline`'s,
-//! `serve` (`serving.rt`) binds the UDP socket and runs threads until the rounds are over, `run` (`running.rt`) until it is told to
-//! stop, with a watcher over `srt_host`. `clocks.rt` has the routes' clock. `srtgw_offline` is the same program without
-//! sockets. docs/OPERATING.md has the commands, docs/PROTOCOL.md each line of output and each status.
+//! but `check --addresses` (`checking.rt`), which binds sockets; `serve` (`serving.rt`) binds the UDP socket and runs threads
+//! until the rounds are over, `run` (`running.rt`) until it is told to stop, with a watcher over `srt_host`. `clocks.rt` has the
+//! routes' clock. `srtgw_offline` is the same program without sockets. docs/OPERATING.md has the commands, docs/PROTOCOL.md each
+//! line of output and each status.
 #![tactic(auto)]
 
 ghost use Rattle.std.specs.Prelude.{◌≡◌};
 ghost use Rattle.std.specs.Process.{exit_status};
 ghost use Rattle.srt_offline.specs.Ends.{status_after};
 
+mod checking;
 mod clocks;
 mod faults;
 mod running;
@@ -23,6 +25,7 @@ mod serving;
 #[cfg(test)]
 mod tests;
 
+use checking::{check_addresses, offline};
 use faults::Fault;
 use running::run_gateway;
 use serving::{print_report, serve};
@@ -69,12 +72,21 @@ where
     }
 }
 
-/// How a command ended that opens no socket.
-fn offline(ended: Result<(), OfflineFault>) -> Result<(), Fault> {
-    match ended {
-        Ok(()) => Ok(()),
-        Err(fault) => Err(Fault::Offline(fault)),
+/// `srtgw check CONFIG`, which binds the configuration's addresses once only if it `tries_addresses`.
+fn check<R>(
+    rt: &R,
+    machine: &HostRuntime,
+    path: &str,
+    explains: bool,
+    tries_addresses: bool,
+) -> Result<(), Fault>
+where
+    R: Print + Eprint + Files + AllocGlobal + Net + Clock,
+{
+    if tries_addresses {
+        return check_addresses(rt, machine, path, explains);
     }
+    offline(check_file(rt, path, explains))
 }
 
 /// Does a task.
@@ -83,7 +95,11 @@ where
     R: Print + Eprint + Files + AllocGlobal + Net + Clock + Threads + Wait + Sync,
 {
     match task {
-        Task::Check { config, explains } => offline(check_file(rt, config, explains)),
+        Task::Check {
+            config,
+            explains,
+            tries_addresses,
+        } => check(rt, machine, config, explains, tries_addresses),
         Task::Replay { config, tape } => offline(replay_file(rt, config, tape)),
         Task::Explain { tape, output } => offline(explain_file(rt, tape, output)),
         Task::Serve { config, rounds } => serve_file(rt, config, rounds),

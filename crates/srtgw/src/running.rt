@@ -9,7 +9,7 @@ use crate::serving::{bind, gates, print_report};
 use srt_command_line::Manner;
 use srt_config::Config;
 use srt_explain::Explained;
-use srt_host::{HostWatcher, open_watcher, socket_address, time_now};
+use srt_host::{HostWatcher, bind_hint, open_watcher, socket_address, time_now};
 use srt_mailbox::Account;
 use srt_offline::OfflineFault;
 use srt_poller::{BindFault, MioSource, MioWire, Report, Ungated};
@@ -27,7 +27,7 @@ const MAX_RUN_ROUNDS: u64 = 1 << 48;
 /// The gateway's UDP socket: what arrives at it, what is sent from it, and the moment 0 of both. Without a clock there is
 /// no such moment.
 #[derive(Drop)]
-struct Bound<'a, R: Clock> {
+pub struct Bound<'a, R: Clock> {
     source: MioSource<ClockPoller<'a, R>>,
     wire: MioWire,
     start: Option<Instant>,
@@ -39,7 +39,8 @@ fn explain_bind(rt: &impl Eprint, config: &Config, fault: BindFault) {
     let _ = match fault {
         BindFault::Socket(Some(number)) => {
             let why = io::Error::from_raw_os_error(number);
-            eprintln!(rt; "srtgw: {address}: {why}")
+            let hint = bind_hint(why.kind(), config.bind.port);
+            eprintln!(rt; "srtgw: {address}: {why}{hint}")
         }
         BindFault::Socket(None) => eprintln!(rt; "srtgw: {address}: the socket can't be used"),
         BindFault::OutOfMemory => eprintln!(rt; "srtgw: {address}: out of memory"),
@@ -47,7 +48,7 @@ fn explain_bind(rt: &impl Eprint, config: &Config, fault: BindFault) {
 }
 
 /// Binds the UDP socket of a configuration. Standard error gets why there is none.
-fn bind_explained<'a, R>(rt: &'a R, config: &Config) -> Result<Bound<'a, R>, Fault>
+pub fn bind_explained<'a, R>(rt: &'a R, config: &Config) -> Result<Bound<'a, R>, Fault>
 where
     R: Eprint + AllocGlobal + Net + Clock,
 {
@@ -191,7 +192,14 @@ where
     let config = &explained.config;
     let mut bound = bind_explained(rt, config)?;
     let gates = gates(rt.alloc(), config.workers)?;
-    let watcher = match open_watcher(machine, path, explained, manner, bound.start) {
+    let watcher = match open_watcher(
+        machine,
+        path,
+        explained,
+        manner,
+        bound.start,
+        bound.source.address(),
+    ) {
         Ok(watcher) => watcher,
         Err(fault) => return Err(Fault::of_watcher(fault)),
     };

@@ -31,7 +31,15 @@ where
     R: Print + Eprint + Files + AllocGlobal,
 {
     match task {
-        Task::Check { config, explains } => status_of(rt, check_file(rt, config, explains)),
+        Task::Check {
+            tries_addresses: true,
+            ..
+        } => leave(rt, "check --addresses"),
+        Task::Check {
+            config,
+            explains,
+            ..
+        } => status_of(rt, check_file(rt, config, explains)),
         Task::Replay { config, tape } => status_of(rt, replay_file(rt, config, tape)),
         Task::Explain { tape, output } => status_of(rt, explain_file(rt, tape, output)),
         Task::Serve { .. } => leave(rt, "serve"),

@@ -13,7 +13,7 @@ lasts_of (Some text) = option_map (λ lasts. Some lasts) (duration_in text)
 
 -- the name of the command that a task is of
 abbrev pub name_of : Task → List ℕ
-name_of (tasks.Check config explains) = codes "check"
+name_of (tasks.Check config explains tries) = codes "check"
 name_of (tasks.Replay config tape) = codes "replay"
 name_of (tasks.Explain tape output) = codes "explain"
 name_of (tasks.Serve config rounds) = codes "serve"
