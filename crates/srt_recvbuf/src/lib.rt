@@ -11,10 +11,11 @@
 //! subscriber needs the payload); repeat both until `next_due` returns None. At any time, `ack_point`, `available`,
 //! `has_gaps`, `runs` and `top` return the fields of an ACK or a NAK.
 //!
-//! Files: `buffer.rt` has the rules for reception and drops, and the acknowledgement point; `delivery.rt` what is delivered
-//! and which gaps are given up for it; `nak_runs.rt` the runs of missing numbers that a NAK reports. `window.rt` is the ring of packet states that all use, `laws.rt`
-//! states facts about the definitions. `specs/Receiving.antt` defines all results from the list of arrivals, and
-//! `specs/Stands.antt` defines how the fields represent them.
+//! Files: `buffer.rt` has the rules for reception and drops, and the acknowledgement point; `delivery.rt` what is
+//! delivered and which gaps are given up for it; `nak_runs.rt` the runs of missing numbers that a NAK reports.
+//! `window.rt` is the ring of packet states that all use, `laws.rt` states facts about the definitions.
+//! `specs/Receiving.antt` defines all results from the list of arrivals, and `specs/Stands.antt` defines how the
+//! fields represent them.
 #![tactic(auto)]
 
 mod buffer;

@@ -14,9 +14,10 @@
 //!
 //! Files: `buffer.rt` has the types, queueing, expiry, and the loss marks of a NAK; `acknowledging.rt` the numbers
 //! that an ACK may have, and its effect; `expired_numbers.rt` the numbers of a drop request; `next_due.rt` the next
-//! packet to send; `flow_window.rt` whether it may be a new one. They use `ring.rt`, the ring of packets; `hints.rt`, which speeds up its search for lost packets;
-//! and `parts.rt`, which sorts long loss lists. `laws.rt` states facts about the definitions; `specs/Sending.antt`
-//! defines all results, and `specs/Stands.antt` defines how the fields represent them.
+//! packet to send; `flow_window.rt` whether it may be a new one. They use `ring.rt`, the ring of packets; `hints.rt`,
+//! which speeds up its search for lost packets; and `parts.rt`, which sorts long loss lists. `laws.rt` states facts
+//! about the definitions; `specs/Sending.antt` defines all results, and `specs/Stands.antt` defines how the fields
+//! represent them.
 #![tactic(auto)]
 
 mod acknowledging;
