@@ -31,11 +31,10 @@ pub fn served_at(bind: BindAddress, bound: Option<SocketAddr>) -> BindAddress
     ensures ip { result.ip ≡ bind.ip }
     ensures port { result.port ≡ served_port bind.port bound }
 {
-    match bound {
-        Some(address) => BindAddress {
-            ip: bind.ip,
-            port: address.port(),
-        },
-        None => bind,
-    }
+    let ip = bind.ip;
+    let port = match bound {
+        Some(address) => address.port(),
+        None => bind.port,
+    };
+    BindAddress { ip, port }
 }

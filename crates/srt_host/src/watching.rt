@@ -71,8 +71,9 @@ fn form_of(manner: Manner) -> LogForm
 
 /// Returns the facts that the log and the page show of a run's beginning.
 fn beginning(machine: &HostRuntime, served: BindAddress, workers: u32, manner: Manner) -> Start {
+    let ip = served.ip;
     Start {
-        ip: served.ip,
+        ip,
         port: served.port,
         workers,
         is_blocked: signals_are_blocked(machine),
