@@ -58,6 +58,9 @@ pub const MAX_SERVE_ROUNDS: u64 = 1_000_000_000;
 /// The maximum size of a configuration's file, in bytes.
 pub const MAX_CONFIG: u32 = 65_536;
 
+/// The maximum size of a configuration's file that has the table of defaults, in bytes.
+pub const MAX_CONFIG_WITH_DEFAULTS: u32 = 1_048_576;
+
 /// The maximum size of a tape's file, in bytes: 64 MiB.
 pub const MAX_TAPE: u32 = 67_108_864;
 
@@ -73,11 +76,17 @@ pub const MAX_REQUEST: usize = 4096;
 /// The maximum number of header fields of a request to the status page.
 pub const MAX_REQUEST_FIELDS: usize = 64;
 
+/// The maximum time for a request to the status page to arrive, and for its response to be sent, in microseconds.
+pub const REQUEST_TIMEOUT: u64 = 2_000_000;
+
 /// The maximum number of connections to the status page at once. Those beyond are closed as soon as they are accepted.
 pub const MAX_CONNECTIONS: usize = 16;
 
 /// The maximum length of a line of the log, in bytes, with its line feed.
 pub const MAX_LOG_LINE: usize = 1024;
 
-/// The maximum number of lines of the log in a second.
-pub const MAX_LOG_LINES: u64 = 50;
+/// The maximum number of lines of the log in a second about sessions, routes and changes of the configuration.
+pub const MAX_SESSION_LINES: u64 = 40;
+
+/// The maximum number of lines of the log in a second about refused callers.
+pub const MAX_REFUSAL_LINES: u64 = 10;
