@@ -7,10 +7,10 @@ use Rattle.std.specs.List.{range_with_len}
 use Rattle.std.proofs.lemmas.Bool.{eqb-true}
 use Rattle.std.proofs.lemmas.Nat.Bits.{bit_at-zero, bit_at_above}
 use Rattle.std.proofs.lemmas.List.{length-append, append-nil, take-append-drop}
-use lib.Bits.{xor_zero_r}
+use lib.Bits.{xor_assoc, xor_self, xor_zero_r}
 use lib.Lanes.{zip2}
 use Rattle.srt_aes.specs.Aes.{aes, cipher, schedule_of, rounds_of}
-use Rattle.srt_aes.specs.Counter.{nonce, counter_block, key_stream}
+use Rattle.srt_aes.specs.Counter.{nonce, counter_block, key_stream, counter_mode, CounterModeKeepsLengths, CounterModeIsItsOwnInverse}
 use Rattle.srt_aes.specs.inside.Planes.{byte_at, bits_at, number, block_in, place, slot, sums, nibble, counter_planes, numbered, numbered_stream}
 use Rattle.srt_aes.specs.inside.Planes.{AreNarrow, HoldsKey, HoldKeys, closed_words}
 use Rattle.srt_aes.proofs.AllBelow.{all_to, all_to-at, same_over_range}
@@ -126,6 +126,19 @@ eight_more key block n =
 pub four_equal : (s a b c d e f g h : List ℕ) → a ≡ e → b ≡ f → c ≡ g → d ≡ h → s ++ a ++ b ++ c ++ d ≡ s ++ e ++ f ++ g ++ h
 four_equal s a b c d e f g h p q r t = cc
 
+pub length-zip2 : (xs ys : List ℕ) → length xs ≤ length ys → length (zip2 bit_xor xs ys) ≡ length xs
+length-zip2 [] ys few = refl
+length-zip2 (x ∷ xs) [] few = absurd (omega arith)
+length-zip2 (x ∷ xs) (y ∷ ys) few = let rest = length-zip2 xs ys (omega arith) in omega arith
+
+-- what is added twice is gone
+zip2-twice : (xs ys : List ℕ) → length xs ≤ length ys → zip2 bit_xor (zip2 bit_xor xs ys) ys ≡ xs
+zip2-twice [] ys few = refl
+zip2-twice (x ∷ xs) [] few = absurd (omega arith)
+zip2-twice (x ∷ xs) (y ∷ ys) few =
+    let here : bit_xor (bit_xor x y) y ≡ x = xor_assoc x y y ∙ ap (bit_xor x) (xor_self y) ∙ xor_zero_r x in
+    let rest = zip2-twice xs ys (omega arith) in cc
+
 -- a key stream that is longer than the payload
 longer : (xs ys zs : List ℕ) → length xs ≤ length ys → zip2 bit_xor xs (ys ++ zs) ≡ zip2 bit_xor xs ys
 longer [] ys zs few = refl
@@ -176,3 +189,17 @@ applied key salt number payload stream batches made many =
     ap (zip2 bit_xor payload) (sym cut ∙ ap (λ (v : List ℕ). v ++ tail) front ∙
     append_assoc (key_stream key salt number n) begin.0 tail) ∙
     longer payload (key_stream key salt number n) (begin.0 ++ tail) (omega arith)
+
+enough : (key salt : List ℕ) (number : ℕ) (payload : List ℕ) → length payload ≤ length (key_stream key salt number (length payload / 16 + 1))
+enough key salt number payload = let long = long_stream key salt number (length payload / 16 + 1) in omega arith
+
+pub length-counter_mode : CounterModeKeepsLengths
+length-counter_mode key salt number payload =
+    length-zip2 payload (key_stream key salt number (length payload / 16 + 1)) (enough key salt number payload)
+
+pub counter_mode-twice : CounterModeIsItsOwnInverse
+counter_mode-twice key salt number payload =
+    let stream = λ (n : ℕ). key_stream key salt number (n / 16 + 1) in
+    let once = counter_mode key salt number payload in
+    ap (λ (n : ℕ). zip2 bit_xor once (stream n)) (length-counter_mode key salt number payload) ∙
+    zip2-twice payload (stream (length payload)) (enough key salt number payload)

@@ -1,5 +1,5 @@
 -- AES in counter mode, as SRT uses it (section 6.2.2 of draft-sharabayko-srt-01).
-use Rattle.std.specs.Prelude.{ℕ, zero, suc, ◌+◌, ◌*◌, ◌/◌, ◌%◌, List, [], ◌∷◌, ◌++◌, length, map, replicate, bit_xor, slice_index}
+use Rattle.std.specs.Prelude.{◌≡◌, ℕ, zero, suc, ◌+◌, ◌*◌, ◌/◌, ◌%◌, List, [], ◌∷◌, ◌++◌, length, map, replicate, bit_xor, slice_index}
 use Rattle.std.specs.List.{range_with_len}
 use Rattle.std.specs.Int.{w16, w32, to_be_bytes}
 use lib.Lanes.{zip2}
@@ -26,3 +26,12 @@ key_stream key salt number (suc blocks) =
 abbrev pub counter_mode : (key salt : List ℕ) → (number : ℕ) → (payload : List ℕ) → List ℕ
 counter_mode key salt number payload =
     zip2 bit_xor payload (key_stream key salt number (length payload / 16 + 1))
+
+-- a payload keeps its length
+abbrev pub CounterModeKeepsLengths : Type 0
+CounterModeKeepsLengths = (key salt : List ℕ) (number : ℕ) (payload : List ℕ) → length (counter_mode key salt number payload) ≡ length payload
+
+-- a payload that is encrypted is decrypted by the same key, salt and number
+abbrev pub CounterModeIsItsOwnInverse : Type 0
+CounterModeIsItsOwnInverse =
+    (key salt : List ℕ) (number : ℕ) (payload : List ℕ) → counter_mode key salt number (counter_mode key salt number payload) ≡ payload

@@ -1,3 +1,4 @@
 pub mod Circuit
 pub mod Planes
 pub mod Transposing
+pub mod Turns

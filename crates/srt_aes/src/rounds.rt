@@ -1,10 +1,12 @@
 //! The rounds of the cipher on eight planes of two words, so on eight blocks at once.
 
-ghost use Rattle.std.specs.Prelude.{◌≡◌, ◌<◌, ◌≤◌, ◌%◌, ◌+◌, ℕ, List};
+ghost use Rattle.std.specs.Prelude.{◌≡◌, ◌<◌, ◌%◌, ◌+◌, ℕ, List};
 ghost use Rattle.srt_aes.specs.inside.Circuit.{on_words, substituted};
-ghost use Rattle.srt_aes.specs.inside.Planes.{joined, sums, mix_sums, mix_words, turned_words, closed_words};
+ghost use Rattle.srt_aes.specs.inside.Planes.{joined, sums, mix_sums, mixed_by, mix_words, bent, closed_words};
+ghost use Rattle.srt_aes.specs.inside.Turns.{bend_of};
 
 use crate::circuit::substitute;
+use crate::turn::Turn;
 use std::simd::prelude::*;
 
 /// AddRoundKey() of the planes of a round key, to both words of each plane (FIPS 197).
@@ -41,19 +43,15 @@ fn added(state: [u64x2; 8], other: [u64x2; 8]) -> [u64x2; 8]
 }
 
 #[inline(always)]
-fn turned(s: [u64x2; 8], low: u64, high: u64, mask: u64) -> [u64x2; 8]
-    requires low { low < 64 }
-    requires some { 0 < low }
-    requires high { high < 64 }
-    requires more { 0 < high }
-    ensures { (a b : List ℕ) → s ≡ joined 8 a b → result ≡ joined 8 (turned_words low high mask a) (turned_words low high mask b) }
+fn turned(s: [u64x2; 8], by: Turn) -> [u64x2; 8]
+    ensures { (a b : List ℕ) → s ≡ joined 8 a b → result ≡ joined 8 (bent (bend_of by) a) (bent (bend_of by) b) }
 {
-    let m = u64x2::splat(mask);
-    let n = u64x2::splat(!mask);
-    let r = u64x2::splat(low);
-    let l = u64x2::splat(64 - low);
-    let q = u64x2::splat(high);
-    let k = u64x2::splat(64 - high);
+    let m = u64x2::splat(by.mask);
+    let n = u64x2::splat(!by.mask);
+    let r = u64x2::splat(by.low);
+    let l = u64x2::splat(64 - by.low);
+    let q = u64x2::splat(by.high);
+    let k = u64x2::splat(64 - by.high);
     [
         (((s[0] >> r) ^ (s[0] << l)) & m) ^ (((s[0] >> q) ^ (s[0] << k)) & n),
         (((s[1] >> r) ^ (s[1] << l)) & m) ^ (((s[1] >> q) ^ (s[1] << k)) & n),
@@ -83,58 +81,33 @@ fn mix_of(b: [u64x2; 8], c: [u64x2; 8], d: [u64x2; 8]) -> [u64x2; 8]
     ]
 }
 
+/// MixColumns() of a state, where a row's bytes are brought to the next row and two rows on so.
+#[inline(always)]
+fn mixed(state: [u64x2; 8], to_next: Turn, two_on: Turn) -> [u64x2; 8]
+    ensures { (a b : List ℕ) → state ≡ joined 8 a b →
+        result ≡ joined 8 (mixed_by (bend_of to_next) (bend_of two_on) a) (mixed_by (bend_of to_next) (bend_of two_on) b) }
+{
+    let next = turned(state, to_next);
+    let pairs = added(state, next);
+    let further = turned(pairs, two_on);
+    mix_of(next, pairs, further)
+}
+
 /// MixColumns() of a state whose rows are turned by `turn` times their number (FIPS 197).
 #[inline(always)]
+#[tactic(auto, unfolding(crate::specs::inside::Planes::mix_words))]
 fn mix_columns(state: [u64x2; 8], turn: usize) -> [u64x2; 8]
     requires { turn < 4 }
     ensures { (a b : List ℕ) → state ≡ joined 8 a b → result ≡ joined 8 (mix_words turn a) (mix_words turn b) }
 {
+    let even = Turn::new(32, 32, 0xffff_ffff_ffff_ffff);
+    let odd = Turn::new(40, 24, 0x00ff_00ff_00ff_00ff);
     match turn {
-        1 => mixed_1(state),
-        2 => mixed_2(state),
-        3 => mixed_3(state),
-        _ => mixed_0(state),
+        1 => mixed(state, Turn::new(20, 4, 0x0fff_0fff_0fff_0fff), odd),
+        2 => mixed(state, Turn::new(24, 8, 0x00ff_00ff_00ff_00ff), even),
+        3 => mixed(state, Turn::new(28, 12, 0x000f_000f_000f_000f), odd),
+        _ => mixed(state, Turn::new(16, 16, 0xffff_ffff_ffff_ffff), even),
     }
-}
-
-#[inline(always)]
-fn mixed_0(state: [u64x2; 8]) -> [u64x2; 8]
-    ensures { (a b : List ℕ) → state ≡ joined 8 a b → result ≡ joined 8 (mix_words 0 a) (mix_words 0 b) }
-{
-    let next = turned(state, 16, 16, 0xffff_ffff_ffff_ffff);
-    let pairs = added(state, next);
-    let further = turned(pairs, 32, 32, 0xffff_ffff_ffff_ffff);
-    mix_of(next, pairs, further)
-}
-
-#[inline(always)]
-fn mixed_1(state: [u64x2; 8]) -> [u64x2; 8]
-    ensures { (a b : List ℕ) → state ≡ joined 8 a b → result ≡ joined 8 (mix_words 1 a) (mix_words 1 b) }
-{
-    let next = turned(state, 20, 4, 0x0fff_0fff_0fff_0fff);
-    let pairs = added(state, next);
-    let further = turned(pairs, 40, 24, 0x00ff_00ff_00ff_00ff);
-    mix_of(next, pairs, further)
-}
-
-#[inline(always)]
-fn mixed_2(state: [u64x2; 8]) -> [u64x2; 8]
-    ensures { (a b : List ℕ) → state ≡ joined 8 a b → result ≡ joined 8 (mix_words 2 a) (mix_words 2 b) }
-{
-    let next = turned(state, 24, 8, 0x00ff_00ff_00ff_00ff);
-    let pairs = added(state, next);
-    let further = turned(pairs, 32, 32, 0xffff_ffff_ffff_ffff);
-    mix_of(next, pairs, further)
-}
-
-#[inline(always)]
-fn mixed_3(state: [u64x2; 8]) -> [u64x2; 8]
-    ensures { (a b : List ℕ) → state ≡ joined 8 a b → result ≡ joined 8 (mix_words 3 a) (mix_words 3 b) }
-{
-    let next = turned(state, 28, 12, 0x000f_000f_000f_000f);
-    let pairs = added(state, next);
-    let further = turned(pairs, 40, 24, 0x00ff_00ff_00ff_00ff);
-    mix_of(next, pairs, further)
 }
 
 /// The rounds of Cipher() on eight blocks, `last` of them (FIPS 197).

@@ -1,5 +1,5 @@
 -- The function that reads packets with key material messages agrees with their grammar, and what is written reads back.
-use Rattle.std.proofs.Common.{◌≡◌, ◌∙◌, ℕ, ◌<◌, ◌/◌, ◌^◌, List, Option, Some, None, IfSome, refl, sym, ap, arith}
+use Rattle.std.proofs.Common.{◌≡◌, ◌∙◌, ℕ, ◌<◌, ◌≤◌, ◌/◌, ◌^◌, List, ◌++◌, length, length-append, drop, Option, Some, None, IfSome, refl, sym, ap, arith}
 use Rattle.std.specs.Prelude.{IsSomeAnd}
 use Rattle.std.proofs.lemmas.Bool.Decides.{nat_tests}
 use Rattle.std.proofs.lemmas.Nat.{from_be_bytes-to_be_bytes_4}
@@ -8,9 +8,11 @@ use Rattle.srt_packet.specs.declared.key_packet.KeyPacketKind.{KeyPacketKind}
 use Rattle.srt_packet.specs.declared.key_packet.KeyPacketKind.TheVariants.{Request, Response}
 use Rattle.srt_packet.specs.declared.key_packet.KeyPacketRef.{KeyPacketRef}
 use Rattle.srt_packet.specs.Grammar.{UserDefined}
-use Rattle.srt_packet.specs.KeyPacket.{KeyPacket, SpellsKeyPacket, key_word0, key_kind_of, key_packet_with, key_packet_in, key_packet_text, key_packet_of}
-use Rattle.srt_packet.specs.KeyPacket.{key_packet_read, CanBeSentWithKeys, KeyPacketReadingIsSpelling, KeyPacketsReadBack, KeyPacketsAreUserDefined}
+use Rattle.srt_packet.specs.KeyPacket.{KeyPacket, SpellsKeyPacket, key_word0, key_kind_of, key_packet_with, key_packet_after}
+use Rattle.srt_packet.specs.KeyPacket.{key_packet_in, key_packet_text, key_packet_of, key_packet_read}
+use Rattle.srt_packet.specs.KeyPacket.{CanBeSentWithKeys, KeyPacketReadingIsSpelling, KeyPacketsReadBack, KeyPacketsAreUserDefined}
 use Rattle.srt_packet.proofs.Agreement.{packet_only}
+use Rattle.srt_packet.proofs.Parts.{after_head, word_of_head}
 
 pub key_packet_found : (bytes : List ℕ) → IfSome (key_packet_in bytes) (λ p. SpellsKeyPacket bytes p)
 key_packet_found bytes = grind (arith, nat_tests)
@@ -22,7 +24,7 @@ kind_only Response = refl
 pub key_packet_only : (bytes : List ℕ) (p : KeyPacket) → SpellsKeyPacket bytes p → key_packet_in bytes ≡ Some p
 key_packet_only bytes p s =
     let kind = ap key_kind_of s.kind ∙ kind_only p.kind in
-    let rest = ap (key_packet_with bytes) kind in
+    let rest = ap (key_packet_with bytes (drop 16 bytes)) kind in
     grind (arith, nat_tests, rest, s.header, s.limit, s.stamp, s.dest, s.info)
 
 pub found_by : (bytes : List ℕ) (r : Option KeyPacketRef) → key_packet_read r ≡ key_packet_in bytes →
@@ -34,6 +36,26 @@ pub only_by : (bytes : List ℕ) (r : Option KeyPacketRef) → key_packet_read r
     SpellsKeyPacket bytes packet → IsSomeAnd r (λ p. key_packet_of p ≡ packet)
 only_by bytes (Some p) e packet s = let k = e ∙ key_packet_only bytes packet s in cc
 only_by bytes None e packet s = let k = e ∙ key_packet_only bytes packet s in cc
+
+with_words : (head other rest : List ℕ) (kind : Option KeyPacketKind) → word_at other 8 ≡ word_at head 8 → word_at other 12 ≡ word_at head 12 →
+    key_packet_with head rest kind ≡ key_packet_with other rest kind
+with_words head other rest None stamp dest = refl
+with_words head other rest (Some kind) stamp dest = rw (stamp, dest) refl
+
+key_parts_are : (head body : List ℕ) → length head ≡ 16 → key_packet_after head body ≡ key_packet_after (head ++ body) (drop 16 (head ++ body))
+key_parts_are head body h =
+    let words =
+    with_words head (head ++ body) body (key_kind_of (word_at head 0)) (word_of_head head body 8 (omega (arith, h)))
+    (word_of_head head body 12 (omega (arith, h))) in
+    rw (after_head head body h, word_of_head head body 0 (omega (arith, h))) words
+
+whole_is : (bytes : List ℕ) → 16 ≤ length bytes → length bytes ≤ 1472 → key_packet_after bytes (drop 16 bytes) ≡ key_packet_in bytes
+whole_is bytes header limit = grind (arith, nat_tests)
+
+pub key_parts_by : (head body : List ℕ) (r : Option KeyPacket)
+    → length head ≡ 16 → length body ≤ 1456 → r ≡ key_packet_after head body → r ≡ key_packet_in (head ++ body)
+key_parts_by head body r h limit e =
+    e ∙ key_parts_are head body h ∙ whole_is (head ++ body) (omega (arith, length-append head body)) (omega (arith, length-append head body))
 
 word0_fits : (kind : KeyPacketKind) → key_word0 kind < 2 ^ 32
 word0_fits Request = omega arith

@@ -36,7 +36,7 @@ whole_by bytes r header limit e =
     let all = take_all (length bytes - 16) (drop 16 bytes) (omega (arith, length-drop 16 bytes)) in
     (rw all at e) ∙ whole_is bytes header limit
 
-word_of_head : (head body : List ℕ) (at : ℕ) → at + 4 ≤ length head → word_at (head ++ body) at ≡ word_at head at
+pub word_of_head : (head body : List ℕ) (at : ℕ) → at + 4 ≤ length head → word_at (head ++ body) at ≡ word_at head at
 word_of_head head body at h =
     rw (
       get_or_append_left head body 0 at (omega (arith, h)),
@@ -46,7 +46,7 @@ word_of_head head body at h =
     )
     refl
 
-after_head : (head body : List ℕ) → length head ≡ 16 → drop 16 (head ++ body) ≡ body
+pub after_head : (head body : List ℕ) → length head ≡ 16 → drop 16 (head ++ body) ≡ body
 after_head head body h = rw h at (drop-append_seam head body)
 
 parts_are : (head body : List ℕ) → length head ≡ 16 → packet_after head body ≡ packet_after (head ++ body) (drop 16 (head ++ body))

@@ -34,16 +34,19 @@ pub record SpellsKeyPacket (bytes : List ℕ) (packet : KeyPacket) : Type 0 wher
 abbrev pub key_kind_of : (word0 : ℕ) → Option KeyPacketKind
 key_kind_of word0 = if word0 == 0xffff_0003 then Some Request else if word0 == 0xffff_0004 then Some Response else None
 
--- a packet of this kind, with the fields of these bytes
-abbrev pub key_packet_with : List ℕ → Option KeyPacketKind → Option KeyPacket
-key_packet_with bytes None = None
-key_packet_with bytes (Some kind) = Some (record { stamp = word_at bytes 8; dest = word_at bytes 12; kind = kind; info = drop 16 bytes })
+-- a packet of this kind, with the fields of a header (the first 16 bytes of head) and the bytes after it
+abbrev pub key_packet_with : (head rest : List ℕ) → Option KeyPacketKind → Option KeyPacket
+key_packet_with head rest None = None
+key_packet_with head rest (Some kind) = Some (record { stamp = word_at head 8; dest = word_at head 12; kind = kind; info = rest })
+
+abbrev pub key_packet_after : (head rest : List ℕ) → Option KeyPacket
+key_packet_after head rest = key_packet_with head rest (key_kind_of (word_at head 0))
 
 -- the packet that the bytes encode, if they encode one that brings a message
 abbrev pub key_packet_in : List ℕ → Option KeyPacket
 key_packet_in bytes =
     if nat_lt (length bytes) 16 then None
-    else if nat_lt 1472 (length bytes) then None else key_packet_with bytes (key_kind_of (word_at bytes 0))
+    else if nat_lt 1472 (length bytes) then None else key_packet_after bytes (drop 16 bytes)
 
 -- the bytes of a packet
 abbrev pub key_packet_text : KeyPacket → List ℕ

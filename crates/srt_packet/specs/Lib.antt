@@ -6,3 +6,4 @@ pub mod Sent
 pub mod Held
 pub mod Encoded
 pub mod KeyPacket
+pub mod Encryption

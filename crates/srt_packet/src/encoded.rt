@@ -1,10 +1,14 @@
 //! The encoded bytes of a packet, kept until they are sent.
 
-ghost use Rattle.std.specs.Prelude.{◌≡◌, ◌≤◌, [], length, take, drop};
+ghost use Rattle.std.specs.Prelude.{◌≡◌, ◌<◌, ◌≤◌, [], length, take, drop};
 ghost use Rattle.srt_packet.specs.Held.{IsPacketOrNothing};
 ghost use Rattle.srt_packet.specs.Text.{text, IsWritable};
 
+use crate::encryption::encrypt_front;
+use crate::key_codec::encode_key_packet;
+use crate::key_packet::KeyPacketRef;
 use crate::writing::{Packet, encode};
+use srt_aes::RoundKeys;
 use srt_types::write_at;
 
 // An array with a separate length, so that a write touches only the bytes of the packet.
@@ -14,8 +18,8 @@ struct PacketArray {
 }
 
 /// The encoded bytes of a packet to be sent: 16 to 1472, or none before the first write. A packet is encoded in place
-/// and stays there until it is sent. So a payload is copied once, and the write of a packet without payload touches
-/// only its 16 to 84 bytes.
+/// and stays there until it is sent. So a payload is copied once, and encrypted where it is, and the write of a packet
+/// without payload touches only its bytes.
 #[derive(Drop)]
 pub struct EncodedPacket {
     len: usize,
@@ -25,7 +29,11 @@ pub struct EncodedPacket {
 }
 
 impl EncodedPacket {
+    ghost use Rattle.srt_aes.specs.Aes.{IsKeyLength};
+    ghost use Rattle.srt_aes.specs.Keys.{key_of};
     ghost use Rattle.srt_packet.specs.Encoded.{bytes_of, IsPacketText};
+    ghost use Rattle.srt_packet.specs.Encryption.{encrypted};
+    ghost use Rattle.srt_packet.specs.KeyPacket.{key_packet_of, key_packet_text};
 
     /// Returns a value without bytes. Doesn't allocate: the value has a fixed size.
     #[tactic(auto, unfolding(crate::specs::Held::is_packet_or_nothing))]
@@ -47,6 +55,28 @@ impl EncodedPacket {
         ensures packet { IsPacketText (bytes_of self.new) }
     {
         self.len = encode(packet, &mut self.array.bytes);
+    }
+
+    /// Encodes a packet that brings a key material message over the previous content. The message has at most 1456 bytes.
+    /// Copies it once; doesn't allocate.
+    #[tactic(auto, unfolding(crate::specs::Held::is_packet_or_nothing))]
+    pub fn write_key_packet(&mut self, packet: &KeyPacketRef<'_>)
+        requires { length packet.now.info.now ≤ 1456 }
+        ensures { bytes_of self.new ≡ key_packet_text (key_packet_of packet.now) }
+    {
+        self.len = encode_key_packet(packet, &mut self.array.bytes);
+    }
+
+    /// Encrypts the payload of a data packet in place. `encryption` is the field KK, 1 for the even key and 2 for the odd one
+    /// (section 3.1); the packet's sequence number and the salt determine the counter blocks. Other packets are unchanged, and
+    /// so are data packets that are encrypted. Doesn't allocate. Its time doesn't depend on key or payload.
+    #[tactic(auto, unfolding(crate::specs::Held::is_packet_or_nothing))]
+    pub fn encrypt(&mut self, encryption: u8, keys: &RoundKeys, salt: &[u8; 16])
+        requires named { encryption < 4 }
+        requires whole { IsKeyLength (length (key_of keys.now)) }
+        ensures { bytes_of self.new ≡ encrypted encryption (key_of keys.now) salt.now (bytes_of self.old) }
+    {
+        encrypt_front(&mut self.array.bytes, self.len, encryption, keys, salt);
     }
 
     /// Returns the bytes.

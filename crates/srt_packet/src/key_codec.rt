@@ -2,11 +2,11 @@
 
 ghost use Rattle.std.specs.Prelude.{◌≡◌, ℕ, ◌+◌, ◌≤◌, ◌++◌, length, take, drop, IfSome, IsSomeAnd, Some};
 ghost use Rattle.srt_types.specs.Words.{word};
-ghost use Rattle.srt_packet.specs.KeyPacket.{KeyPacket as ThePacket, SpellsKeyPacket, key_word0, key_kind_of, key_packet_in, key_packet_text};
-ghost use Rattle.srt_packet.specs.KeyPacket.{key_packet_of, key_packet_read};
+ghost use Rattle.srt_packet.specs.KeyPacket.{KeyPacket as ThePacket, SpellsKeyPacket, key_word0, key_kind_of, key_packet_after, key_packet_in};
+ghost use Rattle.srt_packet.specs.KeyPacket.{key_packet_of, key_packet_read, key_packet_text};
 
 use crate::key_packet::{KeyPacketKind, KeyPacketRef};
-use srt_types::protocol_limits::MAX_DATAGRAM;
+use srt_types::protocol_limits::{MAX_DATAGRAM, MAX_PAYLOAD};
 use srt_types::{read_word, write_at};
 
 fn kind_of(word0: u32) -> Option<KeyPacketKind>
@@ -16,6 +16,23 @@ fn kind_of(word0: u32) -> Option<KeyPacketKind>
         0xffff_0003 => Some(KeyPacketKind::Request),
         0xffff_0004 => Some(KeyPacketKind::Response),
         _ => None,
+    }
+}
+
+/// Returns the packet with the first 16 bytes of `head` as its header and the bytes `rest` after it. Bytes of `head` after
+/// the first 16 are ignored.
+fn packet_of_parts<'a>(head: &[u8], rest: &'a [u8]) -> Option<KeyPacketRef<'a>>
+    requires { 16 ≤ length head.now }
+    ensures { key_packet_read result ≡ key_packet_after head.now rest.now }
+{
+    match kind_of(read_word(head, 0)) {
+        None => None,
+        Some(kind) => Some(KeyPacketRef {
+            stamp: read_word(head, 8),
+            dest: read_word(head, 12),
+            kind,
+            info: rest,
+        }),
     }
 }
 
@@ -29,15 +46,17 @@ fn parse(bytes: &[u8]) -> Option<KeyPacketRef<'_>>
     if bytes.len() > MAX_DATAGRAM {
         return None;
     }
-    match kind_of(read_word(bytes, 0)) {
-        None => None,
-        Some(kind) => Some(KeyPacketRef {
-            stamp: read_word(bytes, 8),
-            dest: read_word(bytes, 12),
-            kind,
-            info: &bytes[16..],
-        }),
+    packet_of_parts(bytes, &bytes[16..])
+}
+
+/// The result of [`decode_key_parts`].
+fn parse_parts<'a>(head: &[u8; 16], body: &'a [u8]) -> Option<KeyPacketRef<'a>>
+    ensures { key_packet_read result ≡ key_packet_in (head.now ++ body.now) }
+{
+    if body.len() > MAX_PAYLOAD {
+        return None;
     }
+    packet_of_parts(head, body)
 }
 
 /// Reads the bytes of a datagram as a packet that brings a key material message: a KMREQ or a KMRSP. None if they are no
@@ -52,6 +71,19 @@ pub fn decode_key_packet(bytes: &[u8]) -> Option<KeyPacketRef<'_>>
     ensures only { (packet : ThePacket) → SpellsKeyPacket bytes.now packet → IsSomeAnd result (λ p. key_packet_of p ≡ packet) }
 {
     parse(bytes)
+}
+
+/// Reads the first 16 bytes of a datagram and the bytes after them as a packet that brings a key material message. The
+/// result is that of [`decode_key_packet`] for the concatenation. O(1).
+pub fn decode_key_parts<'a>(head: &[u8; 16], body: &'a [u8]) -> Option<KeyPacketRef<'a>>
+    // The result as a function of the bytes.
+    ensures value { key_packet_read result ≡ key_packet_in (head.now ++ body.now) }
+    // The bytes encode the returned packet.
+    ensures found { IfSome result (λ p. SpellsKeyPacket (head.now ++ body.now) (key_packet_of p)) }
+    // A packet that the bytes encode is returned.
+    ensures only { (packet : ThePacket) → SpellsKeyPacket (head.now ++ body.now) packet → IsSomeAnd result (λ p. key_packet_of p ≡ packet) }
+{
+    parse_parts(head, body)
 }
 
 fn word0(kind: KeyPacketKind) -> u32

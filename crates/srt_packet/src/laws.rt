@@ -3,6 +3,7 @@
 ghost use Rattle.std.specs.Prelude.{ℕ, List};
 ghost use Rattle.srt_packet.specs.Reading.{ReadsTheSpelled};
 ghost use Rattle.srt_packet.specs.Sent.{WhatIsSentIsSpelled, WhatIsSentIsRead};
+ghost use Rattle.srt_packet.specs.Encryption.{EncryptionKeepsLengths, EncryptedPacketsAreRead, EncryptedTextsAreWritten};
 ghost use Rattle.srt_packet.specs.KeyPacket.{KeyPacketReadingIsSpelling, KeyPacketsReadBack, KeyPacketsAreUserDefined};
 
 /// Reading returns the packet that the bytes encode. If it returns a fault, the bytes encode no packet, and the fault
@@ -23,4 +24,12 @@ pub fn key_packets()
     ensures spelled { KeyPacketReadingIsSpelling }
     ensures back { KeyPacketsReadBack }
     ensures others { KeyPacketsAreUserDefined }
+{}
+
+/// An encrypted data packet is as long as the one in clear, and is read as that with its field KK and the encrypted payload. Nothing
+/// else of its header changes.
+pub fn encryption()
+    ensures lengths { EncryptionKeepsLengths }
+    ensures read { EncryptedPacketsAreRead }
+    ensures written { EncryptedTextsAreWritten }
 {}

@@ -8,11 +8,12 @@
 //! Subtypes, and bytes after the end of a control packet's information, are ignored.
 //!
 //! Encoding, in `writing.rt`: fill a [`Packet`] with a [`Body`], and [`encode`] it. Each packet has exactly one
-//! encoding here. An [`EncodedPacket`], in `encoded.rt`, holds the bytes of a packet until they are sent.
+//! encoding here. An [`EncodedPacket`], in `encoded.rt`, holds the bytes of a packet until they are sent, and encrypts a data
+//! packet where it is (`encryption.rt`, `specs/Encryption.antt`).
 //!
 //! Packets that bring key material messages, KMREQ and KMRSP, are [`Kind::UserDefined`] for these functions. `key_codec.rt`
-//! reads and writes them: [`decode_key_packet`] and [`encode_key_packet`], with a [`KeyPacketRef`] (`key_packet.rt`);
-//! `specs/KeyPacket.antt` defines them.
+//! reads and writes them: [`decode_key_packet`], [`decode_key_parts`] and [`encode_key_packet`], with a [`KeyPacketRef`]
+//! (`key_packet.rt`); `specs/KeyPacket.antt` defines them.
 //!
 //! `specs/Grammar.antt` defines which bytes encode which packet, `specs/Reading.antt` the faults and their order, and
 //! `specs/Text.antt` the bytes that are written. `laws.rt` connects the three: what is written reads back as the same
@@ -20,6 +21,7 @@
 #![tactic(auto)]
 
 mod encoded;
+mod encryption;
 mod key_codec;
 mod key_packet;
 pub mod laws;
@@ -27,7 +29,7 @@ mod reading;
 mod writing;
 
 pub use encoded::EncodedPacket;
-pub use key_codec::{decode_key_packet, encode_key_packet};
+pub use key_codec::{decode_key_packet, decode_key_parts, encode_key_packet};
 pub use key_packet::{KeyPacketKind, KeyPacketRef};
 pub use reading::{Kind, PacketFault, PacketRef, decode, decode_parts};
 pub use writing::{Body, Packet, Rates, encode};

@@ -3,6 +3,7 @@
 ghost use Rattle.std.specs.Prelude.{◌≡◌};
 ghost use Rattle.srt_packet.specs.Text.{IsWritable};
 
+mod encryption;
 mod keys;
 
 use crate::{Body, EncodedPacket, Kind, Packet, PacketFault, Rates, decode, decode_parts, encode};
@@ -93,7 +94,7 @@ fn a_handshake_is_written(rt: HostRuntime) -> Result<(), Fail> {
         "80000000000000000000000000000001000000050000000100000005000005dc00000400ffffffff0010000000000000000000000000000000000000000000000002000300010500\
         0000003f00780078";
     let bytes = hex::decode(rt.alloc(), text)?;
-    let mut info: ArrayVec<u8, 84> = ArrayVec::new();
+    let mut info: ArrayVec<u8, 192> = ArrayVec::new();
     for byte in split(&bytes).ok_or("a header")?.1 {
         if !info.is_full() {
             info.push(*byte);

@@ -35,8 +35,8 @@ pub enum Body<'a> {
         /// The payload: 1 to 1456 bytes.
         payload: PayloadRef<'a>,
     },
-    /// A handshake: all bytes after the header, at most 84 (section 3.2.1).
-    Handshake(ArrayVec<u8, 84>),
+    /// A handshake: all bytes after the header, at most 192, those of an answer with keys (section 3.2.1).
+    Handshake(ArrayVec<u8, 192>),
     /// A keep-alive (section 3.2.3).
     KeepAlive,
     /// A Full ACK (section 3.2.4): seven words.

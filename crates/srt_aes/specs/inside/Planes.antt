@@ -86,12 +86,16 @@ two_rows_on turn =
 abbrev pub bent : Bend → List ℕ → List ℕ
 bent bend planes = turned_words bend.low bend.high bend.mask planes
 
--- MixColumns() of a state whose rows are turned this many times
-unfoldable pub mix_words : (turn : ℕ) → List ℕ → List ℕ
-mix_words turn planes =
-    let next = bent (to_next_row turn) planes in
+-- MixColumns() of a state, where these bring a row's bytes to the next row and two rows on
+abbrev pub mixed_by : (to_next two_on : Bend) → List ℕ → List ℕ
+mixed_by to_next two_on planes =
+    let next = bent to_next planes in
     let pairs = sums planes next in
-    mix_sums next pairs (bent (two_rows_on turn) pairs)
+    mix_sums next pairs (bent two_on pairs)
+
+-- the same of a state whose rows are turned this many times
+unfoldable pub mix_words : (turn : ℕ) → List ℕ → List ℕ
+mix_words turn planes = mixed_by (to_next_row turn) (two_rows_on turn) planes
 
 -- the planes of the round key of a round
 abbrev pub key_planes : List (List ℕ) → (round : ℕ) → List ℕ

@@ -6,12 +6,8 @@ use Rattle.std.proofs.lemmas.Simd.{get_or-zip2}
 use Rattle.std.proofs.lemmas.Bool.{cases_lt}
 use Rattle.std.proofs.Math.ListN.{set}
 use lib.Lanes.{zip2}
+use Rattle.srt_aes.proofs.Counting.{length-zip2}
 use Rattle.srt_aes.proofs.counter.add_bytes.Goals as goal
-
-length-zip2 : (xs ys : List ℕ) → length xs ≤ length ys → length (zip2 bit_xor xs ys) ≡ length xs
-length-zip2 [] ys few = refl
-length-zip2 (x ∷ xs) [] few = absurd (omega arith)
-length-zip2 (x ∷ xs) (y ∷ ys) few = let rest = length-zip2 xs ys (omega arith) in omega arith
 
 pub loop-i-preserved : goal.loop-i-preserved
 loop-i-preserved c =
