@@ -22,6 +22,7 @@ code_of codes.Peer = 1002
 code_of codes.Resource = 1003
 code_of codes.Rogue = 1004
 code_of codes.Version = 1008
+code_of codes.BadSecret = 1010
 code_of codes.Unsecure = 1011
 code_of codes.MessageApi = 1012
 code_of codes.Filter = 1014

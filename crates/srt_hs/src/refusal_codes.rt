@@ -29,6 +29,9 @@ pub enum RefusalCode {
     Rogue,
     /// 1008, `SRT_REJ_VERSION`: the version of the handshake isn't 5.
     Version,
+    /// 1010, `SRT_REJ_BADSECRET`: the requested role has a passphrase, and the keys of the KMREQ block can't be unwrapped with the
+    /// key that is derived from it: the caller has another passphrase.
+    BadSecret,
     /// 1011, `SRT_REJ_UNSECURE`: there is a KMREQ block, and the requested role has no passphrase. Or it has one, and the
     /// conclusion hasn't exactly one KMREQ block with a key material message of the required key length.
     Unsecure,
@@ -50,6 +53,7 @@ pub(crate) fn code(reason: RefusalCode) -> u32
         RefusalCode::Resource => 1003,
         RefusalCode::Rogue => 1004,
         RefusalCode::Version => 1008,
+        RefusalCode::BadSecret => 1010,
         RefusalCode::Unsecure => 1011,
         RefusalCode::MessageApi => 1012,
         RefusalCode::Filter => 1014,

@@ -357,6 +357,7 @@ fn reasons_have_their_codes(rt: HostRuntime) {
     assert_eq!(rt; code_of(RefusalCode::Resource), [0x03, 0xeb]);
     assert_eq!(rt; code_of(RefusalCode::Rogue), [0x03, 0xec]);
     assert_eq!(rt; code_of(RefusalCode::Version), [0x03, 0xf0]);
+    assert_eq!(rt; code_of(RefusalCode::BadSecret), [0x03, 0xf2]);
     assert_eq!(rt; code_of(RefusalCode::Unsecure), [0x03, 0xf3]);
     assert_eq!(rt; code_of(RefusalCode::MessageApi), [0x03, 0xf4]);
     assert_eq!(rt; code_of(RefusalCode::Filter), [0x03, 0xf6]);

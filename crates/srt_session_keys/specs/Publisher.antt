@@ -4,6 +4,7 @@ use Rattle.std.specs.Prelude.{◌≡◌, ℕ, ◌+◌, ◌-◌, ◌^◌, ◌==�
 use Rattle.std.specs.Prelude.{if◌then◌else◌, Result, Ok, Err}
 use Rattle.srt_aes.specs.Counter.{counter_mode}
 use Rattle.srt_aes.specs.Keys.{key_of, IsErased}
+use Rattle.srt_packet.specs.Grammar.{Body, Data, Packet}
 use Rattle.srt_hs.specs.KeyMessage.{KeyMessage}
 use Rattle.srt_hs.specs.declared.key_message.KeyFault.{KeyFault}
 use Rattle.srt_hs.specs.declared.key_message.SentKeys.TheVariants.{Even, Odd}
@@ -42,6 +43,19 @@ with_key (Some key) salt number payload = counter_mode key salt number payload
 -- the key that a data packet names by its encryption field: 1 the even one, 2 the odd one
 abbrev pub named_key : (field : ℕ) → StreamKeys → Option (List ℕ)
 named_key field keys = if field == 1 then keys.even else if field == 2 then keys.odd else None
+
+-- a data packet without encryption, if the session has the key that it names, and else one under a key that no session has;
+-- other packets are unchanged
+abbrev pub decrypted_data : Option (List ℕ) → (salt : List ℕ) → (number : ℕ) → (payload : List ℕ) → Body
+decrypted_data None salt number payload = Data number 3 payload
+decrypted_data (Some key) salt number payload = Data number 0 (counter_mode key salt number payload)
+
+abbrev pub decrypted_body : StreamKeys → (salt : List ℕ) → Body → Body
+decrypted_body keys salt (Data number encryption payload) = decrypted_data (named_key encryption keys) salt number payload
+decrypted_body keys salt body = body
+
+abbrev pub decrypted : StreamKeys → (salt : List ℕ) → Packet → Packet
+decrypted keys salt packet = record { stamp = packet.stamp; dest = packet.dest; body = decrypted_body keys salt packet.body }
 
 -- a key that was brought takes the place of the one with its name
 abbrev pub newer : (brought before : Option (List ℕ)) → Option (List ℕ)
@@ -105,6 +119,11 @@ undecrypted_of p = p.undecrypted
 -- the same after one more packet, of the key that it names
 abbrev pub undecrypted_with : Option (List ℕ) → (count : ℕ) → ℕ
 undecrypted_with key count = if is_some key then count else min (count + 1) (2 ^ 64 - 1)
+
+-- the same after a packet
+abbrev pub undecrypted_after : Body → StreamKeys → (count : ℕ) → ℕ
+undecrypted_after (Data number encryption payload) keys count = undecrypted_with (named_key encryption keys) count
+undecrypted_after body keys count = count
 
 -- no byte of a key or of the salt is left: there are no keys, and what stores them is zeros
 pub record PublisherIsErased (p : PublisherKeys) : Type 0 where

@@ -10,6 +10,8 @@ ghost use Rattle.srt_session_keys.specs.Publisher.{keys_of, keys_by, replaced};
 use crate::slot::KeySlot;
 use crate::wrapping_key::WrappingKey;
 use srt_hs::{KeyMessageRef, SentKeys, read_key_message};
+use srt_packet::{Kind, PacketRef};
+use srt_types::PayloadRef;
 
 /// The answer to a key material message that arrives during a session.
 #[derive(Clone, Copy, PartialEq, Eq)]
@@ -66,7 +68,8 @@ pub struct PublisherKeys {
 impl PublisherKeys {
     ghost use Rattle.std.specs.Prelude.{IfSome};
     ghost use Rattle.srt_session_keys.specs.Publisher.{publisher_of, named_key, with_key, answer_to, keys_after, opened_by, PublisherIsErased};
-    ghost use Rattle.srt_session_keys.specs.Publisher.{undecrypted_of, undecrypted_with};
+    ghost use Rattle.srt_session_keys.specs.Publisher.{undecrypted_of, undecrypted_with, undecrypted_after, decrypted, decrypted_data};
+    ghost use Rattle.srt_packet.specs.View.{body_of, packet_of};
 
     /// Returns the keys of a session that opens with this message. None if they can't be unwrapped: the passphrase is another.
     pub fn open(kek: WrappingKey, message: &KeyMessageRef<'_>) -> Option<PublisherKeys>
@@ -153,6 +156,64 @@ impl PublisherKeys {
             self.undecrypted = self.undecrypted.saturating_add(1);
         }
         is_held
+    }
+
+    /// Returns the packet as the session receives it: a data packet in clear, decrypted at the front of `place`, if the session has
+    /// the key that it names; else it has the encryption field 3, so that it isn't received, and is counted. Other packets are
+    /// unchanged. Copies a payload once.
+    pub fn decrypt_packet<'a>(
+        &mut self,
+        packet: PacketRef<'a>,
+        place: &'a mut [u8; 1456],
+    ) -> PacketRef<'a>
+        ensures packet { packet_of result ≡ decrypted (publisher_of self.old).keys (publisher_of self.old).salt (packet_of packet.entry) }
+        ensures count { undecrypted_of self.new ≡ undecrypted_after (packet_of packet.entry).body (publisher_of self.old).keys (undecrypted_of self.old) }
+        ensures keys { publisher_of self.new ≡ publisher_of self.old }
+    {
+        match packet.kind {
+            Kind::Data {
+                number,
+                encryption,
+                payload,
+            } => PacketRef {
+                stamp: packet.stamp,
+                dest: packet.dest,
+                kind: self.decrypt_data(number, encryption, payload, place),
+            },
+            _ => packet,
+        }
+    }
+
+    /// The same of a data packet.
+    fn decrypt_data<'a>(
+        &mut self,
+        number: u32,
+        encryption: u8,
+        payload: PayloadRef<'a>,
+        place: &'a mut [u8; 1456],
+    ) -> Kind<'a>
+        ensures kind { body_of result ≡
+            decrypted_data (named_key encryption (publisher_of self.old).keys) (publisher_of self.old).salt number payload.entry.bytes.now }
+        ensures count { undecrypted_of self.new ≡ undecrypted_with (named_key encryption (publisher_of self.old).keys) (undecrypted_of self.old) }
+        ensures keys { publisher_of self.new ≡ publisher_of self.old }
+    {
+        let len = payload.bytes.len();
+        place[..len].copy_from_slice(payload.bytes);
+        if self.decrypt(encryption, number, &mut place[..len]) {
+            Kind::Data {
+                number,
+                encryption: 0,
+                payload: PayloadRef {
+                    bytes: &place[..len],
+                },
+            }
+        } else {
+            Kind::Data {
+                number,
+                encryption: 3,
+                payload,
+            }
+        }
     }
 
     /// Decrypts a payload with the key that the encryption field names, and returns whether the session has it.

@@ -8,10 +8,10 @@ ghost use Rattle.srt_session_keys.specs.inside.Stored.{slot_of, AreStored, IsSto
 
 use crate::announcement::Announcement;
 use crate::pool::KeyPool;
-use crate::source::{KeySource, name_of};
+use crate::source::KeySource;
 use crate::wrapping_key::WrappingKey;
 use srt_aes::RoundKeys;
-use srt_hs::SentKeys;
+use srt_packet::EncodedPacket;
 use srt_types::Peer;
 
 /// A key is announced this many payloads before it is needed.
@@ -66,7 +66,9 @@ pub struct SubscriberKeys {
 
 impl SubscriberKeys {
     ghost use Rattle.std.specs.Prelude.{None, IfSome, if◌then◌else◌};
-    ghost use Rattle.srt_aes.specs.Counter.{counter_mode};
+    ghost use Rattle.srt_hs.specs.KeyMessage.{field_of};
+    ghost use Rattle.srt_packet.specs.Encoded.{bytes_of};
+    ghost use Rattle.srt_packet.specs.Encryption.{encrypted};
     ghost use Rattle.srt_session_keys.specs.Wrapping.{kek_of, salt_of};
     ghost use Rattle.srt_session_keys.specs.Source.{pool_of, pool_with, source_with, name_of};
     ghost use Rattle.srt_session_keys.specs.Announced.{is_given_up};
@@ -190,23 +192,19 @@ impl SubscriberKeys {
         }
     }
 
-    /// Encrypts a payload in place, that of the packet with this sequence number, and returns the name of its key. Its key is one of
+    /// Encrypts a data packet in place, of which this is the payload's index, and names the key in its field KK. The key is one of
     /// the last two that were made. Its time doesn't depend on keys or payloads.
-    pub fn encrypt(&self, payload: u64, number: u32, bytes: &mut [u8]) -> SentKeys
+    pub fn encrypt_packet(&self, payload: u64, packet: &mut EncodedPacket)
         requires made { index_of payload < made (subscriber_of self.now) }
         requires stored { made (subscriber_of self.now) ≤ index_of payload + 2 }
-        requires short { length bytes.old < 2032 }
-        ensures name { result ≡ name_of (index_of payload) }
-        ensures bytes { bytes.new ≡ counter_mode (own (subscriber_of self.now).source (index_of payload))
-            (subscriber_of self.now).source.salt number bytes.old }
+        ensures { bytes_of packet.new ≡ encrypted (field_of (name_of (index_of payload))) (own (subscriber_of self.now).source (index_of payload))
+            (subscriber_of self.now).source.salt (bytes_of packet.old) }
     {
-        let index = payload >> 24;
-        if index % 2 == 0 {
-            self.odd.apply(&self.source.kek.salt, number, bytes);
+        if (payload >> 24) % 2 == 0 {
+            packet.encrypt(2, &self.odd, &self.source.kek.salt);
         } else {
-            self.even.apply(&self.source.kek.salt, number, bytes);
+            packet.encrypt(1, &self.even, &self.source.kek.salt);
         }
-        name_of(index)
     }
 
     /// Overwrites all keys, their schedules, what they are made of and the stored message with zeros, when the session ends.

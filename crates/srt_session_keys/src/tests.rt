@@ -4,8 +4,9 @@ ghost use Rattle.std.specs.Prelude.{◌≤◌, ◌<◌, ◌+◌};
 ghost use Rattle.srt_session_keys.specs.Source.{pool_of};
 
 use crate::{DerivationLimiter, KeyAnswer, KeyPool, PublisherKeys, SubscriberKeys, WrappingKey};
-use srt_hs::{SentKeys, read_key_message};
-use srt_types::Peer;
+use srt_hs::read_key_message;
+use srt_packet::{Body, EncodedPacket, Kind, Packet, decode};
+use srt_types::{Msg26, PayloadRef, Peer, Seq31};
 use std::test::Fail;
 
 /// A message that brings the even key 00 01 .. 0f, with the salt 00 11 .. ff and the passphrase "correct horse battery".
@@ -115,6 +116,54 @@ fn packets_are_decrypted_with_the_key_that_they_name(rt: HostRuntime) -> Result<
     Ok(())
 }
 
+/// Whether the bytes of a data packet are received as these, with this encryption field.
+fn is_received(keys: &mut PublisherKeys, bytes: &[u8], encryption: u8, payload: &[u8]) -> bool {
+    let mut place = [0; 1456];
+    match decode(bytes) {
+        Err(_) => false,
+        Ok(packet) => {
+            let read = keys.decrypt_packet(packet, &mut place);
+            match read.kind {
+                Kind::Data {
+                    number: 5,
+                    encryption: field,
+                    payload: read,
+                } => field == encryption && read.bytes == payload,
+                _ => false,
+            }
+        }
+    }
+}
+
+#[test]
+fn packets_are_received_in_clear(rt: HostRuntime) -> Result<(), Fail> {
+    match opened(b"correct horse battery", &EVEN_MESSAGE) {
+        None => assert!(rt; false),
+        Some(mut keys) => {
+            let mut packet = [
+                0, 0, 0, 5, 0xe8, 0, 0, 1, 0, 0, 3, 0xe8, 0, 0x10, 0, 0, 0xad, 0x56,
+            ];
+            assert!(rt; is_received(&mut keys, &packet, 0, b"hi"));
+            assert!(rt; keys.undecrypted() == 0);
+            // in clear, and under a key that the session hasn't
+            packet[4] = 0xe0;
+            assert!(rt; is_received(&mut keys, &packet, 3, &[0xad, 0x56]));
+            packet[4] = 0xf0;
+            assert!(rt; is_received(&mut keys, &packet, 3, &[0xad, 0x56]));
+            packet[4] = 0xf8;
+            assert!(rt; is_received(&mut keys, &packet, 3, &[0xad, 0x56]));
+            assert!(rt; keys.undecrypted() == 3);
+            let mut place = [0; 1456];
+            let keep_alive = [0x80, 1, 0, 0, 0, 0, 0, 0, 0, 0, 3, 0xe8, 0, 0x10, 0, 0];
+            let packet = decode(&keep_alive).ok().ok_or("a packet")?;
+            let read = keys.decrypt_packet(packet, &mut place);
+            assert!(rt; matches!(read.kind, Kind::KeepAlive) && read.dest == 0x0010_0000);
+            assert!(rt; keys.undecrypted() == 3);
+        }
+    }
+    Ok(())
+}
+
 #[test]
 fn responses_are_those_of_libsrt(rt: HostRuntime) -> Result<(), Fail> {
     assert!(rt; KeyAnswer::Taken.response(&BOTH_MESSAGE) == &BOTH_MESSAGE[..]);
@@ -203,6 +252,35 @@ fn a_subscriber_confirms_its_keys(rt: HostRuntime) -> Result<(), Fail> {
     Ok(())
 }
 
+/// The player's first packet, the same sent again, and one of the second key.
+const FIRST_PACKET: [u8; 18] = [
+    0, 0, 0, 9, 0xf0, 0, 0, 1, 0, 1, 0xb1, 0x98, 0, 0, 0, 2, 0x89, 0x57,
+];
+
+const FIRST_PACKET_AGAIN: [u8; 18] = [
+    0, 0, 0, 9, 0xf4, 0, 0, 1, 0, 1, 0xb1, 0x98, 0, 0, 0, 2, 0x89, 0x57,
+];
+
+const PACKET_OF_THE_SECOND_KEY: [u8; 18] = [
+    1, 0, 0, 9, 0xe8, 0, 0, 1, 0, 1, 0xb1, 0x98, 0, 0, 0, 2, 0x62, 0x11,
+];
+
+/// The data packet to the player with message 1 and the payload "hi", in clear.
+fn media(number: u32, again: bool) -> Result<EncodedPacket, Fail> {
+    let mut packet = EncodedPacket::new();
+    packet.write(&Packet {
+        stamp: 0x0001_b198,
+        dest: 2,
+        body: Body::Media {
+            number: Seq31::new(number).ok_or("a number")?,
+            message: Msg26::first(),
+            again,
+            payload: PayloadRef { bytes: b"hi" },
+        },
+    });
+    Ok(packet)
+}
+
 #[test]
 fn a_subscriber_has_keys_of_its_own(rt: HostRuntime) -> Result<(), Fail> {
     let mut pool = KeyPool::new();
@@ -211,12 +289,15 @@ fn a_subscriber_has_keys_of_its_own(rt: HostRuntime) -> Result<(), Fail> {
         Some(mut keys) => {
             assert!(rt; keys.announce(0, 1_010_000));
             if keys.confirm(&FIRST_OWN_MESSAGE) && keys.announce(16_711_680, 9_000_000) {
-                let mut payload = *b"hi";
-                assert!(rt; keys.encrypt(0, 9, &mut payload) == SentKeys::Odd);
-                assert!(rt; payload == [0x89, 0x57]);
-                payload = *b"hi";
-                assert!(rt; keys.encrypt(16_777_216, 0x0100_0009, &mut payload) == SentKeys::Even);
-                assert!(rt; payload == [0x62, 0x11]);
+                let mut packet = media(9, false)?;
+                keys.encrypt_packet(0, &mut packet);
+                assert!(rt; packet.bytes() == &FIRST_PACKET[..]);
+                packet = media(9, true)?;
+                keys.encrypt_packet(0, &mut packet);
+                assert!(rt; packet.bytes() == &FIRST_PACKET_AGAIN[..]);
+                packet = media(0x0100_0009, false)?;
+                keys.encrypt_packet(16_777_216, &mut packet);
+                assert!(rt; packet.bytes() == &PACKET_OF_THE_SECOND_KEY[..]);
             }
         }
     }

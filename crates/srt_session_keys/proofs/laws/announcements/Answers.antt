@@ -1,8 +1,8 @@
-use Rattle.std.proofs.Common.{◌≡◌, ℕ, ◌+◌, ◌/◌, ◌%◌, ◌^◌, ◌≤◌, ◌<◌, ◌==◌, Bool, true, false, Option, Some, None, arith, refl, if◌then◌else◌, is_some}
+use Rattle.std.proofs.Common.{◌≡◌, ℕ, ◌+◌, ◌/◌, ◌%◌, ◌^◌, ◌≤◌, ◌==◌, Bool, true, false, Option, Some, None, arith, refl, is_some}
 use Rattle.std.proofs.lemmas.Bool.Decides.{nat_tests}
 use Rattle.srt_session_keys.specs.declared.announcement.Announcement.{Announcement}
 use Rattle.srt_session_keys.specs.Announced.{is_repeated}
-use Rattle.srt_session_keys.specs.Source.{Source, name_of}
+use Rattle.srt_session_keys.specs.Source.{name_of}
 use Rattle.srt_session_keys.specs.Subscriber.{Subscriber, is_due, may_send, index_of}
 use Rattle.srt_session_keys.proofs.laws.announcements.Goals as goal
 

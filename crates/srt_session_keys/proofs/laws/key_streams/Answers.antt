@@ -1,4 +1,4 @@
-use Rattle.std.proofs.Common.{◌≡◌, ℕ, List, [], ◌∷◌, ◌+◌, length, refl, ap, ◌∙◌, arith}
+use Rattle.std.proofs.Common.{◌≡◌, List, [], ◌∷◌, length, refl, arith}
 use Rattle.srt_session_keys.specs.Source.{Opening, pool_after}
 use Rattle.srt_session_keys.proofs.laws.key_streams.Goals as goal
 

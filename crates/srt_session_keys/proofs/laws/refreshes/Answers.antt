@@ -1,4 +1,4 @@
-use Rattle.std.proofs.Common.{◌≡◌, ℕ, List, Bool, true, false, Option, Some, None, option_map, Result, Ok, Err, refl, ap, arith}
+use Rattle.std.proofs.Common.{◌≡◌, ℕ, List, Bool, true, false, Option, Some, None, option_map, Result, Ok, Err, refl, ap}
 use Rattle.std.proofs.Common.{if◌then◌else◌, length}
 use Rattle.srt_hs.specs.KeyMessage.{KeyMessage}
 use Rattle.srt_hs.specs.declared.key_message.SentKeys.TheVariants.{Even, Odd}
@@ -6,7 +6,6 @@ use Rattle.srt_hs.specs.declared.key_message.KeyFault.{KeyFault}
 use Rattle.srt_keys.specs.Wrap.{unwrap}
 use Rattle.srt_session_keys.specs.Wrapping.{StreamKeys, fits, brings, keys_in_text}
 use Rattle.srt_session_keys.specs.Publisher.{Publisher, newer, replaced, answer_by, keys_by, answer_to, keys_after, with_message}
-use Rattle.srt_session_keys.specs.declared.publisher.KeyAnswer.{KeyAnswer}
 use Rattle.srt_session_keys.specs.declared.publisher.KeyAnswer.TheVariants.{Taken, NoSecret}
 use Rattle.srt_session_keys.proofs.laws.refreshes.Goals as goal
 
