@@ -6,3 +6,4 @@ pub mod Seats
 pub mod Kept
 pub mod Stored
 pub mod Publishers
+pub mod HeldKeys

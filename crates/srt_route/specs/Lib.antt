@@ -16,6 +16,9 @@ pub mod PublisherBuffers
 pub mod Seats
 pub mod Tables
 pub mod Admission
+pub mod RouteKeys
+pub mod SlotKeys
+pub mod StoredKeys
 pub mod Stages
 pub mod Stands
 pub mod Closed

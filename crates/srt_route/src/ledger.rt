@@ -209,6 +209,7 @@ impl Ledger {
             RefusalCode::Rogue => self.refusals.rogue,
             RefusalCode::MessageApi => self.refusals.message_api,
             RefusalCode::Version => 0,
+            RefusalCode::BadSecret => 0,
             RefusalCode::Unsecure => 0,
             RefusalCode::Filter => 0,
             RefusalCode::Group => 0,

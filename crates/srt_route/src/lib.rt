@@ -28,15 +28,17 @@
 //!
 //! Other modules: `resting.rt` opens a route that continues where another one rests; `files.rt` has the end of a file,
 //! and which subscribers have all of it; `standby.rt`, which of two publishers is active; `socket_ids.rt`, the socket
-//! IDs; `reply_queue.rt`, the waiting replies; `ledger.rt` and `totals.rt`, what is kept of ended sessions. The
-//! definition of a route is in `specs/Route.antt`, those of ends and counts in `specs/Ends.antt` and
-//! `specs/Tallies.antt`.
+//! IDs; `reply_queue.rt`, the waiting replies; `ledger.rt` and `totals.rt`, what is kept of ended sessions;
+//! `route_keys.rt`, `slot_keys.rt`, `brought_keys.rt` and `key_text.rt`, the keys of sessions. The definition of a route
+//! is in `specs/Route.antt`, those of ends and counts in `specs/Ends.antt` and `specs/Tallies.antt`, and those of keys in
+//! `specs/RouteKeys.antt`.
 #![tactic(auto)]
 
 mod admission;
 mod agreement;
 mod answer;
 mod arrival;
+mod brought_keys;
 mod closing;
 mod conclusion_reading;
 mod delivery;
@@ -45,6 +47,7 @@ mod draining;
 mod event;
 mod files;
 mod idle;
+mod key_text;
 pub mod laws;
 mod ledger;
 mod opening;
@@ -55,7 +58,9 @@ mod replies;
 mod reply_queue;
 mod resting;
 mod route;
+mod route_keys;
 mod seat;
+mod slot_keys;
 mod socket_ids;
 mod stage;
 mod standby;
@@ -76,6 +81,8 @@ pub use view::{SessionView, Traffic};
 mod clock_tests;
 #[cfg(test)]
 mod closing_tests;
+#[cfg(test)]
+mod key_tests;
 #[cfg(test)]
 mod ledger_tests;
 #[cfg(test)]

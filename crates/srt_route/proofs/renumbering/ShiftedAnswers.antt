@@ -52,6 +52,7 @@ code_read initial codes.Peer = refl
 code_read initial codes.Resource = refl
 code_read initial codes.Rogue = refl
 code_read initial codes.Version = refl
+code_read initial codes.BadSecret = refl
 code_read initial codes.Unsecure = refl
 code_read initial codes.MessageApi = refl
 code_read initial codes.Filter = refl

@@ -1,0 +1,149 @@
+//! The keys of a slot's session (draft-sharabayko-srt-01, section 3.2.2; what it leaves open is our choice).
+
+ghost use Rattle.std.specs.Prelude.{◌≡◌, ◌<◌, ◌^◌, ℕ, length, option_map, slice_index_or, IfOk, IfSome, IfNone};
+ghost use Rattle.srt_types.specs.declared.shared.Role.TheVariants.{Publish, Request};
+ghost use Rattle.srt_session_keys.specs.Source.{pool_of, Pool};
+ghost use Rattle.srt_session_keys.specs.Wrapping.{kek_of, salt_of};
+ghost use Rattle.srt_route.specs.RouteKeys.{Clear, keys_opened, pool_opened};
+ghost use Rattle.srt_route.specs.SlotKeys.{brought_of, slot_keys_of};
+ghost use Rattle.srt_route.specs.declared.slot_keys.KeyOpening.{KeyOpening as TheOpening};
+ghost use Rattle.srt_route.specs.declared.slot_keys.SlotKeys.{SlotKeys as TheKeys};
+
+use crate::brought_keys::text_of;
+use crate::key_text::{BroughtRef, KeyText};
+use srt_session_keys::{KeyPool, PublisherKeys, SubscriberKeys, WrappingKey};
+use srt_types::{Peer, Role};
+use std::alloc::{AllocError, Global};
+
+/// A session of a secured role that would open.
+#[derive(Clone, Copy)]
+pub(crate) struct KeyOpening {
+    /// The route's clock, in microseconds: below 2^62.
+    pub clock: u64,
+    /// The caller's address.
+    pub peer: Peer,
+    /// The cookie of its conclusion.
+    pub cookie: u32,
+    /// The role that it requests.
+    pub role: Role,
+    /// The session's own socket ID.
+    pub id: u32,
+    /// The session's slot, from 0.
+    pub slot: usize,
+}
+
+/// Whether a session opens with the keys that its caller brings.
+#[derive(Clone, Copy)]
+pub(crate) enum KeyVerdict {
+    /// It doesn't: too many keys were derived lately.
+    TooMany,
+    /// It doesn't: the keys can't be unwrapped.
+    WrongSecret,
+    /// It does.
+    Opened,
+}
+
+/// The keys of a slot's session, with the contents of its conclusion's KMREQ block.
+#[derive(Drop)]
+pub(crate) enum SlotKeys {
+    /// It has none, or no session is open.
+    Clear,
+    /// Those that a publisher brought.
+    Publisher {
+        /// The contents of the block.
+        request: KeyText,
+        /// The keys.
+        keys: PublisherKeys,
+    },
+    /// Those that the gateway makes for a subscriber.
+    Subscriber {
+        /// The contents of the block.
+        request: KeyText,
+        /// The keys.
+        keys: SubscriberKeys,
+    },
+}
+
+impl SlotKeys {
+    /// Removes the keys, after they were overwritten with zeros.
+    pub fn clear(&mut self)
+        ensures { slot_keys_of self.new ≡ Clear }
+    {
+        match self {
+            SlotKeys::Clear => {}
+            SlotKeys::Publisher { keys, .. } => keys.forget(),
+            SlotKeys::Subscriber { keys, .. } => keys.forget(),
+        }
+        *self = SlotKeys::Clear;
+    }
+}
+
+/// The keys of a publisher's session that opens. None if those that it brings can't be unwrapped.
+fn publisher_keys(kek: WrappingKey, brought: &BroughtRef<'_>) -> Option<SlotKeys>
+    requires { salt_of kek ≡ brought.now.message.salt }
+    ensures { (o : TheOpening) (pool : Pool) → option_map slot_keys_of result ≡ keys_opened Publish (kek_of kek) (brought_of brought.now) o pool }
+{
+    match PublisherKeys::open(kek, &brought.message) {
+        Some(keys) => Some(SlotKeys::Publisher {
+            request: text_of(brought),
+            keys,
+        }),
+        None => None,
+    }
+}
+
+/// The keys of a subscriber's session that opens, which is counted in the pool. None if those that it brings can't be
+/// unwrapped.
+fn subscriber_keys(
+    kek: WrappingKey,
+    opening: KeyOpening,
+    brought: &BroughtRef<'_>,
+    pool: &mut KeyPool,
+) -> Option<SlotKeys>
+    requires salt { salt_of kek ≡ brought.now.message.salt }
+    requires few { (pool_of pool.old).count < 2 ^ 62 }
+    ensures keys { option_map slot_keys_of result ≡ keys_opened Request (kek_of kek) (brought_of brought.now) opening (pool_of pool.old) }
+    ensures pool { IfSome result (λ keys. pool_of pool.new ≡ pool_opened Request opening (pool_of pool.old)) }
+    ensures none { IfNone result (pool_of pool.new ≡ pool_of pool.old) }
+{
+    if !kek.unwraps(&brought.message) {
+        return None;
+    }
+    let keys = SubscriberKeys::open(kek, opening.id, pool, opening.cookie, opening.peer);
+    Some(SlotKeys::Subscriber {
+        request: text_of(brought),
+        keys,
+    })
+}
+
+/// The keys of a session that opens with this key encrypting key; a subscriber's is counted in the pool. None if those
+/// that it brings can't be unwrapped.
+pub(crate) fn session_keys(
+    kek: WrappingKey,
+    opening: KeyOpening,
+    brought: &BroughtRef<'_>,
+    pool: &mut KeyPool,
+) -> Option<SlotKeys>
+    requires salt { salt_of kek ≡ brought.now.message.salt }
+    requires few { (pool_of pool.old).count < 2 ^ 62 }
+    ensures keys { option_map slot_keys_of result ≡ keys_opened opening.role (kek_of kek) (brought_of brought.now) opening (pool_of pool.old) }
+    ensures pool { IfSome result (λ keys. pool_of pool.new ≡ pool_opened opening.role opening (pool_of pool.old)) }
+    ensures none { IfNone result (pool_of pool.new ≡ pool_of pool.old) }
+{
+    match opening.role {
+        Role::Publish => publisher_keys(kek, brought),
+        Role::Request => subscriber_keys(kek, opening, brought, pool),
+    }
+}
+
+/// Allocates this number of slots without keys.
+pub(crate) fn clear_slots(alloc: Global, count: usize) -> Result<Vec<SlotKeys>, AllocError>
+    ensures count { IfOk result (λ slots. length slots.items ≡ count) }
+    ensures clear { IfOk result (λ slots. (slot : ℕ) (d : TheKeys) → slot < count → slot_keys_of (slice_index_or slots.items slot d) ≡ Clear) }
+{
+    let mut slots = Vec::with_capacity(alloc, count)?;
+    while slots.len() < count {
+        slots.push(SlotKeys::Clear)?;
+    }
+    Ok(slots)
+}
