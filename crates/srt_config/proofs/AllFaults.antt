@@ -10,12 +10,12 @@ use Rattle.toml.specs.Data.{Data, Members, no_members, member, Items, no_items, 
 use Rattle.srt_types.specs.Entries.{is_between, is_name}
 use Rattle.srt_types.specs.Terms.{Terms}
 use Rattle.srt_lobby.specs.Opening.{is_taken}
-use Rattle.srt_config.specs.declared.config.table.Key.{Key}
+use Rattle.srt_config.specs.declared.config.keys.Key.{Key}
 use Rattle.srt_config.specs.declared.config.placed.Place.{Place}
 use Rattle.srt_config.specs.declared.config.placed.Place.TheVariants as place
-use Rattle.srt_config.specs.declared.config.table.Key.TheVariants.{Bind, Workers, Status, Defaults, Route, Name, Mode, LatencyMs, Buffer, Sessions}
-use Rattle.srt_config.specs.declared.config.table.Key.TheVariants.{Inbox, Outbox, OpenRound, CloseRound, Callers, PublishFrom, RequestFrom, PublishKey}
-use Rattle.srt_config.specs.declared.config.table.Key.TheVariants.{RequestKey, Reserved, SessionsPerAddress, TakeoverMs, ResendPercent}
+use Rattle.srt_config.specs.declared.config.keys.Key.TheVariants.{Bind, Workers, Status, Defaults, Route, Name, Mode, LatencyMs, Buffer, Sessions}
+use Rattle.srt_config.specs.declared.config.keys.Key.TheVariants.{Inbox, Outbox, OpenRound, CloseRound, Callers, PublishFrom, RequestFrom, PublishKey}
+use Rattle.srt_config.specs.declared.config.keys.Key.TheVariants.{RequestKey, Reserved, SessionsPerAddress, TakeoverMs, ResendPercent}
 use Rattle.srt_config.specs.KeyTable.{key_name}
 use Rattle.srt_config.specs.FirstFault.{Fault, UnknownKey, Missing, WrongKind, OutOfRange, BadName, RepeatedName, ◌>>=◌}
 use Rattle.srt_config.specs.Keys.{is_key, lesser, least_unknown, none_unknown, known, present, of_kind, value_at, text_at, number_at, optional}

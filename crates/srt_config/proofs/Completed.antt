@@ -13,7 +13,7 @@ use Rattle.toml.specs.Data.{Data, array, Items, item, Members, no_members, membe
 use Rattle.toml.specs.View.{view, items_of, items_view, members_view}
 use Rattle.toml.specs.declared.value.Value.{Value}
 use Rattle.toml.proofs.Views.{Entry, view-lookup}
-use Rattle.srt_config.specs.declared.config.table.Key.TheVariants.{Defaults, Route}
+use Rattle.srt_config.specs.declared.config.keys.Key.TheVariants.{Defaults, Route}
 use Rattle.srt_config.specs.KeyTable.{key_name}
 use Rattle.srt_config.specs.Config.{settings_at}
 use Rattle.srt_config.specs.Defaults.{set_member, with_missing, completed, completed_if, completed_items, table_at, items_at, completed_by}

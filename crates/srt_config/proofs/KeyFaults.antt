@@ -13,11 +13,11 @@ use Rattle.srt_types.specs.declared.shared.Mode.TheVariants as mode
 use Rattle.srt_types.specs.declared.shared.Callers.{Callers as TheCallers}
 use Rattle.srt_types.specs.declared.shared.Callers.TheVariants as callers
 use Rattle.srt_lobby.specs.Opening.{is_taken}
-use Rattle.srt_config.specs.declared.config.table.Key.{Key}
-use Rattle.srt_config.specs.declared.config.table.Key.TheVariants.{Secret, Bind, Workers, Status, Defaults, Route, Name, Mode, LatencyMs, Buffer}
-use Rattle.srt_config.specs.declared.config.table.Key.TheVariants.{Sessions, Inbox, Outbox, OpenRound, CloseRound, Callers}
-use Rattle.srt_config.specs.declared.config.table.Key.TheVariants.{PublishFrom, RequestFrom, PublishKey, RequestKey, Reserved}
-use Rattle.srt_config.specs.declared.config.table.Key.TheVariants.{SessionsPerAddress, TakeoverMs, ResendPercent}
+use Rattle.srt_config.specs.declared.config.keys.Key.{Key}
+use Rattle.srt_config.specs.declared.config.keys.Key.TheVariants.{Secret, Bind, Workers, Status, Defaults, Route, Name, Mode, LatencyMs, Buffer}
+use Rattle.srt_config.specs.declared.config.keys.Key.TheVariants.{Sessions, Inbox, Outbox, OpenRound, CloseRound, Callers}
+use Rattle.srt_config.specs.declared.config.keys.Key.TheVariants.{PublishFrom, RequestFrom, PublishKey, RequestKey, Reserved}
+use Rattle.srt_config.specs.declared.config.keys.Key.TheVariants.{SessionsPerAddress, TakeoverMs, ResendPercent}
 use Rattle.srt_config.specs.Access.{network_in, are_texts, member_count, networked, networks_from, list_in, list_value, list_at}
 use Rattle.srt_config.specs.Access.{is_key_text, key_in, key_value, key_at, callers_of, access_at}
 use Rattle.srt_config.specs.Rules.{callers_in, callers_value, callers_at, draft_if_none, most_reserved, rules_with, rules_at}

@@ -15,7 +15,7 @@ use Rattle.std.proofs.lemmas.List.{at_drop_more, at_drop_all}
 use Rattle.toml.specs.Data.{Members, Items, as_table}
 use Rattle.toml.specs.View.{view, items_view, members_view}
 use Rattle.toml.specs.declared.value.Value.{Value}
-use Rattle.srt_config.specs.declared.config.table.Key.{Key}
+use Rattle.srt_config.specs.declared.config.keys.Key.{Key}
 use Rattle.srt_config.specs.declared.config.placed.Place.{Place}
 use Rattle.srt_config.specs.declared.config.placed.PlacedFault.{PlacedFault}
 use Rattle.srt_config.specs.declared.config.faults.ConfigFault.{ConfigFault}

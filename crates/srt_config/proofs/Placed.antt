@@ -5,10 +5,10 @@ use Rattle.std.proofs.lemmas.Bool.{and_parts, false≢true}
 use Rattle.toml.specs.Data.{Data, Members, Items, no_items, item, get_member, as_array, as_table}
 use Rattle.srt_types.specs.Entries.{is_between}
 use Rattle.srt_types.specs.Terms.{Terms}
-use Rattle.srt_config.specs.declared.config.table.Key.{Key}
+use Rattle.srt_config.specs.declared.config.keys.Key.{Key}
 use Rattle.srt_config.specs.declared.config.placed.Place.{Place}
 use Rattle.srt_config.specs.declared.config.placed.Place.TheVariants as place
-use Rattle.srt_config.specs.declared.config.table.Key.TheVariants.{Bind, Workers, Status, Defaults, Route}
+use Rattle.srt_config.specs.declared.config.keys.Key.TheVariants.{Bind, Workers, Status, Defaults, Route}
 use Rattle.srt_config.specs.KeyTable.{key_name}
 use Rattle.srt_config.specs.FirstFault.{Fault, WrongKind, OutOfRange, ◌>>=◌}
 use Rattle.srt_config.specs.Keys.{known, present, of_kind, value_at, number_at, optional}

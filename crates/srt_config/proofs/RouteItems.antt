@@ -4,7 +4,7 @@ use Rattle.toml.specs.Data.{item, as_table}
 use Rattle.toml.specs.View.{view, items_view}
 use Rattle.toml.specs.declared.value.Value.{Value}
 use Rattle.srt_config.specs.Access.{member_count}
-use Rattle.srt_config.specs.declared.config.table.Key.TheVariants.{Route}
+use Rattle.srt_config.specs.declared.config.keys.Key.TheVariants.{Route}
 use Rattle.srt_config.specs.FirstFault.{Fault, ◌>>=◌}
 use Rattle.srt_config.specs.Keys.{of_kind}
 use Rattle.srt_config.specs.Routes.{count, route_at, Routes, with_route, routes_and, routes_from}

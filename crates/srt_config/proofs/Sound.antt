@@ -15,9 +15,9 @@ use Rattle.srt_types.specs.declared.shared.Schedule.{Schedule}
 use Rattle.srt_types.specs.Terms.{Terms, terms_of}
 use Rattle.srt_types.specs.Entries.{is_between, is_between_if, is_name, are_rules, in_limits}
 use Rattle.srt_lobby.specs.Opening.{is_taken, is_fresh, are_names, fault_of}
-use Rattle.srt_config.specs.declared.config.table.Key.{Key}
-use Rattle.srt_config.specs.declared.config.table.Key.TheVariants.{Route, Name, LatencyMs, Buffer, Sessions, Inbox, Outbox, OpenRound, CloseRound}
-use Rattle.srt_config.specs.declared.config.table.Key.TheVariants.{Reserved, SessionsPerAddress, TakeoverMs, ResendPercent}
+use Rattle.srt_config.specs.declared.config.keys.Key.{Key}
+use Rattle.srt_config.specs.declared.config.keys.Key.TheVariants.{Route, Name, LatencyMs, Buffer, Sessions, Inbox, Outbox, OpenRound, CloseRound}
+use Rattle.srt_config.specs.declared.config.keys.Key.TheVariants.{Reserved, SessionsPerAddress, TakeoverMs, ResendPercent}
 use Rattle.srt_config.specs.declared.config.placed.Place.{Place}
 use Rattle.srt_config.specs.declared.config.placed.PlacedFault.{PlacedFault}
 use Rattle.srt_config.specs.declared.config.routes.ReadRoutes.{ReadRoutes}

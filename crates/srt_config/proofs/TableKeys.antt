@@ -10,7 +10,7 @@ use Rattle.std.specs.String.{string_cmp}
 use Rattle.std.proofs.lemmas.Cmp.{nat_list_cmp_total}
 use Rattle.toml.specs.View.{members_view}
 use Rattle.toml.specs.declared.value.Value.{Value}
-use Rattle.srt_config.specs.declared.config.table.Key.{Key}
+use Rattle.srt_config.specs.declared.config.keys.Key.{Key}
 use Rattle.srt_config.specs.Keys.{is_key, lesser, least_unknown}
 
 -- the first of these texts that is none of these keys

@@ -7,8 +7,8 @@ use Rattle.toml.specs.Data.{Data, Items, no_items, item, Members, get_member, as
 use Rattle.srt_types.specs.declared.shared.Network.{Network}
 use Rattle.srt_types.specs.Access.{AccessTerms, ip_number, network_of, ipv6_network_of}
 use Rattle.srt_types.specs.Entries.{is_between}
-use Rattle.srt_config.specs.declared.config.table.Key.{Key}
-use Rattle.srt_config.specs.declared.config.table.Key.TheVariants.{PublishFrom, RequestFrom, PublishKey, RequestKey}
+use Rattle.srt_config.specs.declared.config.keys.Key.{Key}
+use Rattle.srt_config.specs.declared.config.keys.Key.TheVariants.{PublishFrom, RequestFrom, PublishKey, RequestKey}
 use Rattle.srt_config.specs.Address.{parted, octet_to, has_byte, ipv6_in}
 use Rattle.srt_config.specs.KeyTable.{key_name, limits_of}
 use Rattle.srt_config.specs.FirstFault.{Fault, WrongKind, OutOfRange, BadAddress, ◌>>=◌}

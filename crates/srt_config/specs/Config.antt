@@ -7,8 +7,8 @@ use Rattle.srt_cookie.specs.Cookie.{secret_bytes}
 use Rattle.srt_types.specs.Terms.{Terms, terms_of}
 use Rattle.srt_types.specs.declared.shared.Schedule.{Schedule}
 use Rattle.srt_config.specs.declared.config.Config.{Config}
-use Rattle.srt_config.specs.declared.config.table.Key.{Key}
-use Rattle.srt_config.specs.declared.config.table.Key.TheVariants.{Secret, Bind, Workers, Status, Defaults, Route}
+use Rattle.srt_config.specs.declared.config.keys.Key.{Key}
+use Rattle.srt_config.specs.declared.config.keys.Key.TheVariants.{Secret, Bind, Workers, Status, Defaults, Route}
 use Rattle.srt_config.specs.Address.{Address, address_in}
 use Rattle.srt_config.specs.AddressParts.{address_of}
 use Rattle.srt_config.specs.KeyTable.{key_name}

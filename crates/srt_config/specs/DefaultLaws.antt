@@ -1,7 +1,7 @@
 -- What defaults mean for the routes and for the rest of a configuration.
 use Rattle.std.specs.Prelude.{◌≡◌, ℕ, true, List, Option, None, Some, is_some}
 use Rattle.toml.specs.Data.{Data, Members, get_member}
-use Rattle.srt_config.specs.declared.config.table.Key.TheVariants.{Defaults}
+use Rattle.srt_config.specs.declared.config.keys.Key.TheVariants.{Defaults}
 use Rattle.srt_config.specs.KeyTable.{key_name}
 use Rattle.srt_config.specs.Config.{settings_at, config_in}
 use Rattle.srt_config.specs.Defaults.{completed, with_defaults}

@@ -4,10 +4,10 @@ use Rattle.std.specs.Ordering.{nat_cmp, match_ordering}
 use Rattle.std.specs.Cmp.Lexicographic.{slice_cmp}
 use Rattle.toml.specs.Data.{Data, table, array, Items, no_items, item, Members, no_members, member, get_member, as_array, as_table}
 use Rattle.srt_types.specs.declared.shared.Mode.{Mode as TheMode}
-use Rattle.srt_config.specs.declared.config.table.Key.{Key}
-use Rattle.srt_config.specs.declared.config.table.Key.TheVariants.{Defaults, Route, Mode, LatencyMs, Buffer, Sessions, Inbox, Outbox}
-use Rattle.srt_config.specs.declared.config.table.Key.TheVariants.{OpenRound, CloseRound, Callers, PublishFrom, RequestFrom, PublishKey}
-use Rattle.srt_config.specs.declared.config.table.Key.TheVariants.{RequestKey, Reserved, SessionsPerAddress, TakeoverMs, ResendPercent}
+use Rattle.srt_config.specs.declared.config.keys.Key.{Key}
+use Rattle.srt_config.specs.declared.config.keys.Key.TheVariants.{Defaults, Route, Mode, LatencyMs, Buffer, Sessions, Inbox, Outbox}
+use Rattle.srt_config.specs.declared.config.keys.Key.TheVariants.{OpenRound, CloseRound, Callers, PublishFrom, RequestFrom, PublishKey}
+use Rattle.srt_config.specs.declared.config.keys.Key.TheVariants.{RequestKey, Reserved, SessionsPerAddress, TakeoverMs, ResendPercent}
 use Rattle.srt_config.specs.KeyTable.{key_name}
 use Rattle.srt_config.specs.FirstFault.{Fault, ◌>>=◌}
 use Rattle.srt_config.specs.Keys.{known, optional, text_value, of_kind, optional_key_number_at}

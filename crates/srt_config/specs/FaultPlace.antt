@@ -7,7 +7,7 @@ use Rattle.srt_config.specs.declared.config.faults.ConfigFault.TheVariants as co
 use Rattle.srt_config.specs.declared.config.placed.Place.{Place}
 use Rattle.srt_config.specs.declared.config.placed.Place.TheVariants as place
 use Rattle.srt_config.specs.declared.config.placed.PlacedFault.{PlacedFault}
-use Rattle.srt_config.specs.declared.config.table.Key.TheVariants.{Bind, Workers, Status, Route}
+use Rattle.srt_config.specs.declared.config.keys.Key.TheVariants.{Bind, Workers, Status, Route}
 use Rattle.srt_config.specs.KeyTable.{limits_of}
 use Rattle.srt_config.specs.FirstFault.{Fault, seen}
 use Rattle.srt_config.specs.Keys.{known, value_at, key_number_at, of_kind}

@@ -1,6 +1,6 @@
 -- Reading in steps: the first step that fails yields the fault.
 use Rattle.std.specs.Prelude.{◌≡◌, ℕ, ◌⊎◌, List, string_bytes, Result, Ok, Err}
-use Rattle.srt_config.specs.declared.config.table.Key.{Key}
+use Rattle.srt_config.specs.declared.config.keys.Key.{Key}
 use Rattle.srt_config.specs.declared.config.faults.ConfigFault.{ConfigFault}
 use Rattle.srt_config.specs.declared.config.faults.ConfigFault.TheVariants as code
 

@@ -7,11 +7,11 @@ use Rattle.hex.specs.Hex.{decode_sized}
 use Rattle.srt_types.specs.Entries.{is_between, is_name}
 use Rattle.srt_types.specs.Terms.{Terms}
 use Rattle.srt_lobby.specs.Opening.{is_taken}
-use Rattle.srt_config.specs.declared.config.table.Key.{Key}
-use Rattle.srt_config.specs.declared.config.table.Key.TheVariants.{Secret, Bind, Workers, Status, Defaults, Route, Name, Mode, LatencyMs, Buffer}
-use Rattle.srt_config.specs.declared.config.table.Key.TheVariants.{Sessions, Inbox, Outbox, OpenRound, CloseRound, Callers}
-use Rattle.srt_config.specs.declared.config.table.Key.TheVariants.{PublishFrom, RequestFrom, PublishKey, RequestKey, Reserved}
-use Rattle.srt_config.specs.declared.config.table.Key.TheVariants.{SessionsPerAddress, TakeoverMs, ResendPercent}
+use Rattle.srt_config.specs.declared.config.keys.Key.{Key}
+use Rattle.srt_config.specs.declared.config.keys.Key.TheVariants.{Secret, Bind, Workers, Status, Defaults, Route, Name, Mode, LatencyMs, Buffer}
+use Rattle.srt_config.specs.declared.config.keys.Key.TheVariants.{Sessions, Inbox, Outbox, OpenRound, CloseRound, Callers}
+use Rattle.srt_config.specs.declared.config.keys.Key.TheVariants.{PublishFrom, RequestFrom, PublishKey, RequestKey, Reserved}
+use Rattle.srt_config.specs.declared.config.keys.Key.TheVariants.{SessionsPerAddress, TakeoverMs, ResendPercent}
 use Rattle.srt_config.specs.Access.{network_in, are_texts, member_count, is_key_text}
 use Rattle.srt_config.specs.Rules.{most_reserved}
 use Rattle.srt_config.specs.KeyTable.{key_name}

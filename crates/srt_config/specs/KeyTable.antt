@@ -1,14 +1,14 @@
 -- The table of keys: how each key of a configuration is written, and which values it may have (our choice).
 use Rattle.std.specs.Prelude.{ℕ, Bool, true, false, List, Option, None, Some, codes}
-use Rattle.srt_config.specs.declared.config.table.Key.{Key}
-use Rattle.srt_config.specs.declared.config.table.Key.TheVariants.{Secret, Bind, Workers, Status, Defaults, Route, Name, Mode, LatencyMs, Buffer}
-use Rattle.srt_config.specs.declared.config.table.Key.TheVariants.{Sessions, Inbox, Outbox, OpenRound, CloseRound, Callers, PublishFrom, RequestFrom}
-use Rattle.srt_config.specs.declared.config.table.Key.TheVariants.{PublishKey, RequestKey, Reserved, SessionsPerAddress, TakeoverMs}
-use Rattle.srt_config.specs.declared.config.table.Key.TheVariants.{ResendPercent}
-use Rattle.srt_config.specs.declared.config.table.ValueKind.{ValueKind}
-use Rattle.srt_config.specs.declared.config.table.ValueKind.TheVariants.{Text, Number, Networks, Table, Tables}
-use Rattle.srt_config.specs.declared.config.table.Limits.{Limits}
-use Rattle.srt_config.specs.declared.config.table.Choices.{Choices}
+use Rattle.srt_config.specs.declared.config.keys.Key.{Key}
+use Rattle.srt_config.specs.declared.config.keys.Key.TheVariants.{Secret, Bind, Workers, Status, Defaults, Route, Name, Mode, LatencyMs, Buffer}
+use Rattle.srt_config.specs.declared.config.keys.Key.TheVariants.{Sessions, Inbox, Outbox, OpenRound, CloseRound, Callers, PublishFrom, RequestFrom}
+use Rattle.srt_config.specs.declared.config.keys.Key.TheVariants.{PublishKey, RequestKey, Reserved, SessionsPerAddress, TakeoverMs}
+use Rattle.srt_config.specs.declared.config.keys.Key.TheVariants.{ResendPercent}
+use Rattle.srt_config.specs.declared.config.keys.ValueKind.{ValueKind}
+use Rattle.srt_config.specs.declared.config.keys.ValueKind.TheVariants.{Text, Number, Networks, Table, Tables}
+use Rattle.srt_config.specs.declared.config.keys.Limits.{Limits}
+use Rattle.srt_config.specs.declared.config.keys.Choices.{Choices}
 
 abbrev pub key_name : Key → List ℕ
 key_name Secret = codes "secret"

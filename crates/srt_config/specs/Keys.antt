@@ -9,7 +9,7 @@ use Rattle.toml.specs.Data.{Data, Members, no_members, member, get_member, as_st
 use Rattle.toml.specs.View.{view}
 use Rattle.toml.specs.declared.value.Value.{Value}
 use Rattle.srt_types.specs.Entries.{is_between}
-use Rattle.srt_config.specs.declared.config.table.Key.{Key}
+use Rattle.srt_config.specs.declared.config.keys.Key.{Key}
 use Rattle.srt_config.specs.KeyTable.{key_name, limits_of}
 use Rattle.srt_config.specs.FirstFault.{Fault, UnknownKey, Missing, WrongKind, OutOfRange, ◌>>=◌}
 

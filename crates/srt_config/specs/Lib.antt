@@ -10,6 +10,7 @@ pub mod Access
 pub mod Rules
 pub mod Routes
 pub mod Defaults
+pub mod Size
 pub mod RouteNumbers
 pub mod Config
 pub mod DefaultLaws

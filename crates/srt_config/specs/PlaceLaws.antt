@@ -3,7 +3,7 @@ use Rattle.std.specs.Prelude.{◌≡◌, ℕ, suc, ◌⊎◌, List, [], ◌∷�
 use Rattle.toml.specs.Data.{Data, Members, Items, no_items, item, get_member, as_array, as_table}
 use Rattle.srt_types.specs.Terms.{Terms}
 use Rattle.srt_config.specs.declared.config.placed.Place.TheVariants as place
-use Rattle.srt_config.specs.declared.config.table.Key.TheVariants.{Defaults, Route}
+use Rattle.srt_config.specs.declared.config.keys.Key.TheVariants.{Defaults, Route}
 use Rattle.srt_config.specs.KeyTable.{key_name}
 use Rattle.srt_config.specs.FirstFault.{Fault}
 use Rattle.srt_config.specs.Routes.{Planned, route_at}

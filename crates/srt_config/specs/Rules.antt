@@ -5,7 +5,7 @@ use Rattle.toml.specs.Data.{Data, Members, get_member}
 use Rattle.srt_types.specs.declared.shared.Callers.{Callers as TheCallers}
 use Rattle.srt_types.specs.declared.shared.Callers.TheVariants as callers
 use Rattle.srt_types.specs.declared.shared.Rules.{Rules}
-use Rattle.srt_config.specs.declared.config.table.Key.TheVariants.{Callers, Reserved, SessionsPerAddress, TakeoverMs, ResendPercent}
+use Rattle.srt_config.specs.declared.config.keys.Key.TheVariants.{Callers, Reserved, SessionsPerAddress, TakeoverMs, ResendPercent}
 use Rattle.srt_config.specs.KeyTable.{key_name, limits_of}
 use Rattle.srt_config.specs.FirstFault.{Fault, OutOfRange, ◌>>=◌}
 use Rattle.srt_config.specs.Keys.{optional, text_value, optional_number_at, optional_key_number_at, given_or_0}

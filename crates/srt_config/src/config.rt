@@ -17,20 +17,20 @@ mod placed;
 mod reading;
 mod routes;
 mod rules;
-mod table;
+mod typed_values;
 mod values;
 
 pub use access::{is_key_text, read_network};
 pub use address::BindAddress;
-pub use defaults::{has_defaults, with_defaults};
+pub use defaults::with_defaults;
 pub use faults::ConfigFault;
+pub use keys::{Choices, DEFAULT_KEYS, Key, Limits, ROUTE_KEYS, TOP_KEYS, ValueKind};
 pub use listing::all_faults;
 pub use placed::{Place, PlacedFault};
-pub use reading::{read_config, read_table};
+pub use reading::{is_within_limits, read_config, read_table};
 pub use routes::RouteNumbers;
 use srt_cookie::Secret;
 use srt_types::{Entry, Schedule};
-pub use table::{Choices, DEFAULT_KEYS, Key, Limits, ROUTE_KEYS, TOP_KEYS, ValueKind};
 
 /// A configuration of a gateway.
 #[derive(Drop)]

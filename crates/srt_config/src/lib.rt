@@ -6,13 +6,14 @@
 //! its `Key`, and `PlacedFault`, with its `Place`; `ValueKind`, `Limits` and `Choices`, what a key allows; `Changes`, what a
 //! changed configuration requests; `RouteNumbers`, the numbers of a route; `Parts`, a text split at a byte.
 //!
-//! Calls: `read_config` on the text of a configuration, or `read_table` on its table after `with_defaults`, and `all_faults` for what
-//! else is wrong with it; `changes_between` two of them; `read_number` and `parted` on other texts that have decimal digits, or one byte between their parts.
+//! Calls: `is_within_limits` on the bytes of a configuration's file; `read_config` on its text, or `read_table` on its table
+//! after `with_defaults`, and `all_faults` for what else is wrong with it; `changes_between` two of them; `read_number` and
+//! `parted` on other texts that have decimal digits, or one byte between their parts.
 //!
-//! Files: `config/table.rt` is the table of keys (docs/CONFIGURATION.md), and the others of `config/` read a configuration
-//! by it; `changes.rt` compares two configurations, by the keys in `same_keys.rt`; `numbers.rt` reads numbers;
-//! `splitting.rt` splits a text. `laws.rt` states which fault is a configuration's, which route has it, and what the
-//! comparison of two configurations means.
+//! Files: `config/keys.rt` has the keys with their kinds and limits (docs/CONFIGURATION.md), `config/typed_values.rt` reads the
+//! value of a key, and the others of `config/` read a configuration by them; `changes.rt` compares two configurations, by the
+//! keys in `same_keys.rt`; `numbers.rt` reads numbers; `splitting.rt` splits a text. `laws.rt` states which fault is a
+//! configuration's, which route has it, and what the comparison of two configurations means.
 #![tactic(auto)]
 
 mod changes;
@@ -25,7 +26,7 @@ mod splitting;
 pub use changes::{Changes, FixedKeys, RouteChange, changes_between};
 pub use config::{
     BindAddress, Choices, Config, ConfigFault, DEFAULT_KEYS, Key, Limits, Place, PlacedFault,
-    ROUTE_KEYS, RouteNumbers, TOP_KEYS, ValueKind, all_faults, has_defaults, is_key_text,
+    ROUTE_KEYS, RouteNumbers, TOP_KEYS, ValueKind, all_faults, is_key_text, is_within_limits,
     read_config, read_network, read_table, with_defaults,
 };
 pub use numbers::read_number;

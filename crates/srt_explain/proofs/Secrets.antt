@@ -5,8 +5,8 @@ use Rattle.std.proofs.lemmas.Option.{slice_get-map}
 use Rattle.toml.specs.Data.{Members}
 use Rattle.srt_types.specs.Terms.{Terms}
 use Rattle.srt_config.specs.declared.config.address.BindAddress.{BindAddress}
-use Rattle.srt_config.specs.declared.config.table.Key.{Key}
-use Rattle.srt_config.specs.declared.config.table.Key.TheVariants.{Callers, Reserved, TakeoverMs, ResendPercent}
+use Rattle.srt_config.specs.declared.config.keys.Key.{Key}
+use Rattle.srt_config.specs.declared.config.keys.Key.TheVariants.{Callers, Reserved, TakeoverMs, ResendPercent}
 use Rattle.srt_explain.specs.declared.warnings.Warning.{Warning}
 use Rattle.srt_explain.specs.declared.warnings.Warning.TheVariants.{ExampleSecret, NoCallers, NoTakeover, NoResendLimit}
 use Rattle.srt_explain.specs.Warnings.{given, value_warnings, lacks, reserved_warning, if_live, route_warnings, routes_warnings, route_table}

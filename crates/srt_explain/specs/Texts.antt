@@ -8,8 +8,8 @@ use Rattle.srt_types.specs.declared.shared.Role.TheVariants.{Publish, Request}
 use Rattle.srt_types.specs.Access.{is_mapped}
 use Rattle.srt_types.specs.Terms.{Terms}
 use Rattle.srt_config.specs.declared.config.address.BindAddress.{BindAddress}
-use Rattle.srt_config.specs.declared.config.table.Key.{Key}
-use Rattle.srt_config.specs.declared.config.table.Key.TheVariants.{PublishFrom, RequestFrom, PublishKey, RequestKey}
+use Rattle.srt_config.specs.declared.config.keys.Key.{Key}
+use Rattle.srt_config.specs.declared.config.keys.Key.TheVariants.{PublishFrom, RequestFrom, PublishKey, RequestKey}
 use Rattle.srt_config.specs.KeyTable.{key_name}
 use Rattle.srt_explain.specs.declared.warnings.Warning.{Warning}
 use Rattle.srt_explain.specs.declared.warnings.Warning.TheVariants as warnings

@@ -13,8 +13,8 @@ use Rattle.srt_explain.specs.declared.warnings.Warning.{Warning}
 use Rattle.srt_explain.specs.declared.warnings.Warning.TheVariants.{ExampleSecret, ExposedStatus, SmallOutbox, SmallWindow, OneSession, OpenKey}
 use Rattle.srt_explain.specs.declared.warnings.Warning.TheVariants.{UnusedTakeover, UnusedAddressLimit, OneUnreserved}
 use Rattle.srt_explain.specs.declared.warnings.Warning.TheVariants.{NoCallers, NoReserved, NoTakeover, NoResendLimit}
-use Rattle.srt_config.specs.declared.config.table.Key.{Key}
-use Rattle.srt_config.specs.declared.config.table.Key.TheVariants.{Callers, Reserved, TakeoverMs, ResendPercent}
+use Rattle.srt_config.specs.declared.config.keys.Key.{Key}
+use Rattle.srt_config.specs.declared.config.keys.Key.TheVariants.{Callers, Reserved, TakeoverMs, ResendPercent}
 use Rattle.srt_config.specs.KeyTable.{key_name}
 use Rattle.srt_config.specs.Keys.{given_or_0}
 

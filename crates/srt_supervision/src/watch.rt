@@ -37,27 +37,53 @@ pub trait Answers {
 
 /// The watcher of a run, in a thread of its own.
 pub trait Watch: Answers {
+    ghost use Rattle.std.specs.Prelude.{ℕ, Bool};
+    ghost use Rattle.srt_route.specs.declared.route.Route.{Route as TheRoute};
     ghost use Rattle.srt_supervision.specs.Answers.{Answer, IsOrdered};
+    ghost use Rattle.srt_supervision.specs.declared.order.Order.{Order as TheOrder};
+    ghost use Rattle.srt_supervision.specs.declared.refusal.Refusal.{Refusal as TheRefusal};
+    ghost use Rattle.srt_supervision.specs.declared.watch.RunStatus.{RunStatus as TheStatus};
+
+    /// What is known once it was given this status and returned this order. This and the next four may be nothing, but only
+    /// by the call can a run show them.
+    ghost rested: { TheStatus → TheOrder → Type 0 } = { λ _ _. Unit {0} };
+
+    /// What is known once it answered whether it wants the routes.
+    ghost wanted: { Bool → Type 0 } = { λ _. Unit {0} };
+
+    /// What is known once a route with this index was shown.
+    ghost shown: { (index : ℕ) → TheRoute → Type 0 } = { λ _ _. Unit {0} };
+
+    /// What is known once a refusal was reported.
+    ghost told: { TheRefusal → Type 0 } = { λ _. Unit {0} };
+
+    /// What is known once it was let change the routes.
+    ghost changed: { Type 0 } = { Unit {0} };
 
     /// Rests for some milliseconds, and returns the order that the poller has from then on. `End` is final: whatever a
     /// later call returns, the run ends. A run doesn't end before this call returns.
     fn next(&mut self, status: RunStatus) -> Order
-        ensures { IsOrdered Self.answered result };
+        ensures answered { IsOrdered Self.answered result }
+        ensures rested { Self.rested status result };
 
     /// Whether the routes are to be shown now. Called after each rest.
-    fn wants_routes(&mut self) -> bool;
+    fn wants_routes(&mut self) -> bool
+        ensures { Self.wanted result };
 
     /// Shows a route, at most once after each `wants_routes`. Workers can't serve it meanwhile. A route that another
     /// thread is serving is left out; after the run each route is shown once more.
-    fn show_route(&mut self, index: usize, route: &Route);
+    fn show_route(&mut self, index: usize, route: &Route)
+        ensures { Self.shown index route.now };
 
     /// Reports a conclusion that was refused.
-    fn refused(&mut self, refusal: &Refusal);
+    fn refused(&mut self, refusal: &Refusal)
+        ensures { Self.told refusal.now };
 
     /// Lets the watcher open and close routes. Called after each rest, but not once the poller's order is to close all or
     /// to end.
     fn change_routes<C: ChangeRoutes>(&mut self, run: &mut C)
-        requires { (a : Answer) → Self.answered a → C.requires_of a };
+        requires { (a : Answer) → Self.answered a → C.requires_of a }
+        ensures { Self.changed };
 }
 
 /// A watcher that changes nothing and observes nothing, for runs that aren't watched.

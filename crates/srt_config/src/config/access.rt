@@ -13,8 +13,8 @@ ghost use Rattle.srt_config.specs.Access.{is_key_byte, is_key_text, key_in, key_
 
 use super::address::{has_byte, ipv6_in, octet_to};
 use super::faults::ConfigFault;
-use super::keys::{found_at, text_value};
-use super::table::Key;
+use super::keys::Key;
+use super::typed_values::{found_at, text_value};
 use crate::numbers::read_number;
 use crate::splitting::parted;
 use srt_types::{Access, Network, RoleAccess, is_between};

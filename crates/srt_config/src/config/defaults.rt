@@ -3,7 +3,7 @@
 ghost use Rattle.std.specs.Prelude.{◌≡◌, is_some, option_map, string_bytes, IfOk, OnOk};
 ghost use Rattle.toml.specs.Data.{as_table, get_member};
 ghost use Rattle.toml.specs.View.{view, table_view, items_view, array_view};
-ghost use Rattle.srt_config.specs.declared.config.table.Key.TheVariants.{Defaults, Route};
+ghost use Rattle.srt_config.specs.declared.config.keys.Key.TheVariants.{Defaults, Route};
 ghost use Rattle.srt_config.specs.KeyTable.{key_name};
 ghost use Rattle.srt_config.specs.FirstFault.{seen, Gives};
 ghost use Rattle.srt_config.specs.Defaults.{with_missing, completed, completed_if, completed_items, table_at, items_at, completed_by};
@@ -11,10 +11,10 @@ ghost use Rattle.srt_config.specs.Defaults.{with_defaults, mode_value, optional_
 
 use super::access::access_at;
 use super::faults::ConfigFault;
-use super::keys::{found_at, only_known, optional_number_at, text_value};
+use super::keys::{DEFAULT_KEYS, Key};
 use super::routes::read_mode;
 use super::rules::callers_at;
-use super::table::{DEFAULT_KEYS, Key};
+use super::typed_values::{found_at, only_known, optional_number_at, text_value};
 use srt_types::Mode;
 use std::alloc::{AllocError, Global};
 use toml::{Table, Value};
@@ -69,7 +69,7 @@ fn completed_values(
 }
 
 /// Whether a configuration's table has defaults, of whatever kind.
-pub fn has_defaults(table: &Table) -> bool
+pub(crate) fn table_has_defaults(table: &Table) -> bool
     ensures { result ≡ is_some (get_member (key_name Defaults) (table_view table.now)) }
 {
     found_at(table, Key::Defaults).is_some()

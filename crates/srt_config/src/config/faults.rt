@@ -3,7 +3,7 @@
 ghost use Rattle.std.specs.Prelude.{◌≡◌};
 ghost use Rattle.srt_config.specs.Faults.{key_text, number_of};
 
-use super::table::Key;
+use super::keys::Key;
 use std::error::Error;
 use std::fmt;
 

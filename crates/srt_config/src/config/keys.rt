@@ -1,144 +1,289 @@
-//! The keys of a table and their values.
+//! The table of keys: how each key of a configuration is written, and which values it may have.
 
-ghost use Rattle.std.specs.Prelude.{◌≡◌, ◌<◌, ◌^◌, option_map, true, Some, IfOk, IfSome};
-ghost use Rattle.toml.specs.Data.{get_member};
-ghost use Rattle.toml.specs.View.{view, table_view};
-ghost use Rattle.srt_types.specs.Entries.{is_between};
-ghost use Rattle.srt_config.specs.KeyTable.{key_name, limits_of};
-ghost use Rattle.srt_config.specs.FirstFault.{seen, Gives};
-ghost use Rattle.srt_config.specs.Keys.{is_key, least_unknown, known, value_at, value_seen, text_value, text_at, within, number_value};
-ghost use Rattle.srt_config.specs.Keys.{key_number_at, optional_number_at, optional_key_number_at};
+ghost use Rattle.std.specs.Prelude.{◌≡◌, ◌^◌, ◌<◌, option_map};
+ghost use Rattle.srt_config.specs.KeyTable.{key_name, kind_of, limits_of, both_texts, choices_of, is_private};
 
-use super::faults::ConfigFault;
-use super::table::{Key, Limits};
-use srt_types::is_between;
-use std::alloc::Global;
-use toml::{Table, Value};
+use srt_types::product_limits::{
+    MAX_KEY, MAX_LATENCY_MS, MAX_NAME, MAX_NETWORKS, MAX_QUEUE, MAX_RESEND_PERCENT, MAX_RESERVED,
+    MAX_ROUND, MAX_ROUTES, MAX_SESSIONS, MAX_TAKEOVER_MS, MAX_WORKERS, MIN_LATENCY_MS, MIN_QUEUE,
+    MIN_RESEND_PERCENT, MIN_TAKEOVER_MS, SECRET_DIGITS,
+};
+use srt_types::protocol_limits::{MAX_WINDOW, MIN_WINDOW};
 
-pub(crate) fn is_key(keys: &[Key], text: &str) -> bool
-    ensures { result ≡ is_key keys.now text.now }
-{
-    keys.iter().any(|key| key.name() == text)
+/// The mode of a route for live streams.
+pub(crate) const LIVE: &str = "live";
+
+/// The mode of a route for files.
+pub(crate) const BUFFER: &str = "buffer";
+
+/// Sessions follow the draft's rules.
+pub(crate) const DRAFT: &str = "draft";
+
+/// Sessions follow libsrt's rules where these differ from the draft's.
+pub(crate) const LIBSRT: &str = "libsrt";
+
+/// The keys of the table.
+pub const TOP_KEYS: [Key; 6] = [
+    Key::Secret,
+    Key::Bind,
+    Key::Workers,
+    Key::Status,
+    Key::Defaults,
+    Key::Route,
+];
+
+/// The keys of a route.
+pub const ROUTE_KEYS: [Key; 18] = [
+    Key::Name,
+    Key::Mode,
+    Key::LatencyMs,
+    Key::Buffer,
+    Key::Sessions,
+    Key::Inbox,
+    Key::Outbox,
+    Key::OpenRound,
+    Key::CloseRound,
+    Key::Callers,
+    Key::PublishFrom,
+    Key::RequestFrom,
+    Key::PublishKey,
+    Key::RequestKey,
+    Key::Reserved,
+    Key::SessionsPerAddress,
+    Key::TakeoverMs,
+    Key::ResendPercent,
+];
+
+/// The keys of the table of defaults: those of a route but its name.
+pub const DEFAULT_KEYS: [Key; 17] = [
+    Key::Mode,
+    Key::LatencyMs,
+    Key::Buffer,
+    Key::Sessions,
+    Key::Inbox,
+    Key::Outbox,
+    Key::OpenRound,
+    Key::CloseRound,
+    Key::Callers,
+    Key::PublishFrom,
+    Key::RequestFrom,
+    Key::PublishKey,
+    Key::RequestKey,
+    Key::Reserved,
+    Key::SessionsPerAddress,
+    Key::TakeoverMs,
+    Key::ResendPercent,
+];
+
+/// A key of the table or of a route in it.
+#[derive(Clone, Copy, Debug, PartialEq, Eq)]
+pub enum Key {
+    /// `secret`: 64 hexadecimal digits.
+    Secret,
+    /// `bind`: an IPv4 address and a UDP port.
+    Bind,
+    /// `workers`: the number of threads that serve routes, 1 to 16.
+    Workers,
+    /// `status`: the IPv4 address and TCP port of the status page; there is none if it is missing.
+    Status,
+    /// `defaults`: the table of the keys that a route has if its own table lacks them; there are none if it is missing.
+    Defaults,
+    /// `route`: the tables of the routes, 1 to 511.
+    Route,
+    /// `name`: a route's name, 1 to 64 bytes.
+    Name,
+    /// `mode`: `live` or `buffer`.
+    Mode,
+    /// `latency_ms`: the least delay of a live session in milliseconds, 20 to 8000.
+    LatencyMs,
+    /// `buffer`: the size of a session's window in packets, 32 to 8192.
+    Buffer,
+    /// `sessions`: the greatest number of sessions at a time, 1 to 17.
+    Sessions,
+    /// `inbox`: the greatest number of events that wait to be processed, 16 to 4096.
+    Inbox,
+    /// `outbox`: the greatest number of replies that wait to be sent, 16 to 4096.
+    Outbox,
+    /// `open_round`: the poller's round in which the route opens, 0 to 1,000,000,000; 0 if it is missing.
+    OpenRound,
+    /// `close_round`: the poller's round in which the route closes, after `open_round` and at most 1,000,000,000; it
+    /// stays open if it is missing.
+    CloseRound,
+    /// `callers`: which rules the sessions of a route follow, `draft` or `libsrt`; the draft's if it is missing.
+    Callers,
+    /// `publish_from`: the networks that publishers may call from, 1 to 16; from anywhere if it is missing.
+    PublishFrom,
+    /// `request_from`: the networks that subscribers may call from, 1 to 16; from anywhere if it is missing.
+    RequestFrom,
+    /// `publish_key`: the key that a publisher's Stream ID must have, 1 to 64 bytes; none if it is missing.
+    PublishKey,
+    /// `request_key`: the key that a subscriber's Stream ID must have, 1 to 64 bytes; none if it is missing.
+    RequestKey,
+    /// `reserved`: the number of slots that are kept for publishers, 0 to 2 and below `sessions`; 0 if it is missing.
+    Reserved,
+    /// `sessions_per_address`: the greatest number of sessions of one IP address, 1 to 17; no such limit if it is
+    /// missing.
+    SessionsPerAddress,
+    /// `takeover_ms`: the time without a data packet of the active publisher after which the standby takes over, 100 to
+    /// 5000 ms; if it is missing, the standby takes over only once the active one's session has ended.
+    TakeoverMs,
+    /// `resend_percent`: the greatest share of a subscriber's new packets that is sent again, in percent, 5 to 1000; no
+    /// limit if it is missing.
+    ResendPercent,
 }
 
-#[tactic(auto, using(crate::proofs::TableKeys::view_keys))]
-fn least_unknown<'a>(keys: &[Key], table: &'a Table) -> Option<&'a str>
-    ensures { option_map (λ t. t.now) result ≡ least_unknown keys.now (table_view table.now) }
-{
-    for key in table.keys() {
-        if !is_key(keys, key.as_str()) {
-            return Some(key.as_str());
+/// The kind of a key's value.
+#[derive(Clone, Copy)]
+pub enum ValueKind {
+    /// A text.
+    Text,
+    /// A whole number.
+    Number,
+    /// A list of networks, in texts.
+    Networks,
+    /// A table.
+    Table,
+    /// A list of tables.
+    Tables,
+}
+
+/// The limits of a key's value: of a number its value, of a text its bytes, of a list its members.
+#[derive(Clone, Copy)]
+pub struct Limits {
+    /// The least one.
+    pub least: usize,
+    /// The greatest one.
+    pub most: usize,
+}
+
+/// The two texts that a key allows.
+#[derive(Clone, Copy)]
+pub struct Choices {
+    /// The first one.
+    pub first: &'static str,
+    /// The other one.
+    pub second: &'static str,
+}
+
+impl Key {
+    /// Returns the key as it is written in the configuration.
+    pub fn name(self) -> &'static str
+        ensures { result.now ≡ key_name self }
+    {
+        match self {
+            Key::Secret => "secret",
+            Key::Bind => "bind",
+            Key::Workers => "workers",
+            Key::Status => "status",
+            Key::Defaults => "defaults",
+            Key::Route => "route",
+            Key::Name => "name",
+            Key::Mode => "mode",
+            Key::LatencyMs => "latency_ms",
+            Key::Buffer => "buffer",
+            Key::Sessions => "sessions",
+            Key::Inbox => "inbox",
+            Key::Outbox => "outbox",
+            Key::OpenRound => "open_round",
+            Key::CloseRound => "close_round",
+            Key::Callers => "callers",
+            Key::PublishFrom => "publish_from",
+            Key::RequestFrom => "request_from",
+            Key::PublishKey => "publish_key",
+            Key::RequestKey => "request_key",
+            Key::Reserved => "reserved",
+            Key::SessionsPerAddress => "sessions_per_address",
+            Key::TakeoverMs => "takeover_ms",
+            Key::ResendPercent => "resend_percent",
         }
     }
-    None
-}
 
-/// Checks that a table has no key but these. The error is `UnknownKey` with the first other key in the order of bytes;
-/// allocates its name alone.
-#[tactic(auto, unfolding(crate::specs::Keys::known))]
-pub(crate) fn only_known(alloc: Global, keys: &[Key], table: &Table) -> Result<(), ConfigFault>
-    ensures { Gives (λ u. u) result (known keys.now (table_view table.now)) }
-{
-    let Some(key) = least_unknown(keys, table) else {
-        return Ok(());
-    };
-    match String::from_str(alloc, key) {
-        Ok(key) => Err(ConfigFault::UnknownKey(key)),
-        Err(_) => Err(ConfigFault::OutOfMemory),
+    /// Returns the kind of its value.
+    pub fn kind(self) -> ValueKind
+        ensures { result ≡ kind_of self }
+    {
+        match self {
+            Key::Secret
+            | Key::Bind
+            | Key::Status
+            | Key::Name
+            | Key::Mode
+            | Key::Callers
+            | Key::PublishKey
+            | Key::RequestKey => ValueKind::Text,
+            Key::Workers
+            | Key::LatencyMs
+            | Key::Buffer
+            | Key::Sessions
+            | Key::Inbox
+            | Key::Outbox
+            | Key::OpenRound
+            | Key::CloseRound
+            | Key::Reserved
+            | Key::SessionsPerAddress
+            | Key::TakeoverMs
+            | Key::ResendPercent => ValueKind::Number,
+            Key::PublishFrom | Key::RequestFrom => ValueKind::Networks,
+            Key::Defaults => ValueKind::Table,
+            Key::Route => ValueKind::Tables,
+        }
     }
-}
 
-/// Returns the value at a key, if there is one.
-pub(crate) fn found_at(table: &Table, key: Key) -> Option<&Value>
-    ensures { option_map value_seen result ≡ get_member (key_name key) (table_view table.now) }
-{
-    table.get(key.name())
-}
-
-/// Returns the value at a key, or `Missing`.
-#[tactic(auto, unfolding(crate::specs::Keys::value_at))]
-pub(crate) fn value_at(table: &Table, key: Key) -> Result<&Value, ConfigFault>
-    ensures { seen value_seen result ≡ value_at key (table_view table.now) }
-{
-    match found_at(table, key) {
-        Some(value) => Ok(value),
-        None => Err(ConfigFault::Missing(key)),
+    /// Returns the limits of its value. A route's `open_round` and `sessions` narrow those of `close_round` and `reserved`. A
+    /// text whose form decides, an address or one of two texts, has any length up to 2^32 - 1 here, and the table of defaults
+    /// as many keys.
+    pub fn limits(self) -> Limits
+        ensures value { result ≡ limits_of self }
+        ensures few { result.most < 2 ^ 32 }
+    {
+        let (least, most) = match self {
+            Key::Secret => (SECRET_DIGITS, SECRET_DIGITS),
+            Key::Workers => (1, MAX_WORKERS),
+            Key::Route => (1, MAX_ROUTES),
+            Key::Name => (1, MAX_NAME),
+            Key::LatencyMs => (MIN_LATENCY_MS, MAX_LATENCY_MS),
+            Key::Buffer => (MIN_WINDOW, MAX_WINDOW),
+            Key::Sessions | Key::SessionsPerAddress => (1, MAX_SESSIONS),
+            Key::Inbox | Key::Outbox => (MIN_QUEUE, MAX_QUEUE),
+            Key::OpenRound => (0, MAX_ROUND),
+            Key::CloseRound => (1, MAX_ROUND),
+            Key::PublishFrom | Key::RequestFrom => (1, MAX_NETWORKS),
+            Key::PublishKey | Key::RequestKey => (1, MAX_KEY),
+            Key::Reserved => (0, MAX_RESERVED),
+            Key::TakeoverMs => (MIN_TAKEOVER_MS, MAX_TAKEOVER_MS),
+            Key::ResendPercent => (MIN_RESEND_PERCENT, MAX_RESEND_PERCENT),
+            Key::Bind | Key::Status | Key::Defaults | Key::Mode | Key::Callers => {
+                (0, u32::MAX as usize)
+            }
+        };
+        Limits { least, most }
     }
-}
 
-/// Returns the text that the value of a key is, or `WrongKind`.
-#[tactic(auto, unfolding(crate::specs::Keys::text_value))]
-pub(crate) fn text_value(key: Key, value: &Value) -> Result<&str, ConfigFault>
-    ensures { seen (λ t. t.now) result ≡ text_value key (view value.now) }
-{
-    match value.as_str() {
-        Some(text) => Ok(text),
-        None => Err(ConfigFault::WrongKind(key)),
+    /// Returns the two texts that it allows; None if it allows others.
+    pub fn choices(self) -> Option<Choices>
+        ensures { option_map both_texts result ≡ choices_of self }
+    {
+        match self {
+            Key::Mode => Some(Choices {
+                first: LIVE,
+                second: BUFFER,
+            }),
+            Key::Callers => Some(Choices {
+                first: DRAFT,
+                second: LIBSRT,
+            }),
+            _ => None,
+        }
     }
-}
 
-/// Returns the text at a key, or `Missing` or `WrongKind`.
-#[tactic(auto, unfolding(crate::specs::Keys::text_at))]
-pub(crate) fn text_at(table: &Table, key: Key) -> Result<&str, ConfigFault>
-    ensures { seen (λ t. t.now) result ≡ text_at key (table_view table.now) }
-{
-    text_value(key, value_at(table, key)?)
-}
-
-fn within(key: Key, limits: Limits, number: i64) -> Result<u32, ConfigFault>
-    requires { limits.most < 2 ^ 32 }
-    ensures value { seen (λ n. n) result ≡ within key limits.least limits.most number }
-    ensures inside { IfOk result (λ n. is_between limits.least limits.most n ≡ true) }
-{
-    match u32::try_from(number) {
-        Ok(number) if is_between(limits.least, limits.most, number as usize) => Ok(number),
-        _ => Err(ConfigFault::OutOfRange(key)),
+    /// Whether its value is to be printed nowhere: that of the secret, those of the keys of roles, and the defaults, which may
+    /// have such keys.
+    pub fn is_private(self) -> bool
+        ensures { result ≡ is_private self }
+    {
+        match self {
+            Key::Secret | Key::Defaults | Key::PublishKey | Key::RequestKey => true,
+            _ => false,
+        }
     }
-}
-
-/// Returns the number that the value of a key is, within these limits, or `WrongKind` or `OutOfRange`.
-#[tactic(auto, unfolding(crate::specs::Keys::number_value))]
-fn number_value(key: Key, limits: Limits, value: &Value) -> Result<u32, ConfigFault>
-    requires { limits.most < 2 ^ 32 }
-    ensures value { seen (λ n. n) result ≡ number_value key limits.least limits.most (view value.now) }
-    ensures inside { IfOk result (λ n. is_between limits.least limits.most n ≡ true) }
-{
-    match value.as_integer() {
-        Some(number) => within(key, limits, number),
-        None => Err(ConfigFault::WrongKind(key)),
-    }
-}
-
-/// Returns the number at a key, within the key's limits, or `Missing`, `WrongKind` or `OutOfRange`.
-#[tactic(auto, unfolding(crate::specs::Keys::number_at))]
-pub(crate) fn number_at(table: &Table, key: Key) -> Result<u32, ConfigFault>
-    ensures value { seen (λ n. n) result ≡ key_number_at key (table_view table.now) }
-    ensures inside { IfOk result (λ n. is_between (limits_of key).least (limits_of key).most n ≡ true) }
-{
-    number_value(key, key.limits(), value_at(table, key)?)
-}
-
-/// Returns the number at a key that may be missing, within these limits, or `WrongKind` or `OutOfRange`.
-#[tactic(auto, unfolding(crate::specs::Keys::optional_number_at))]
-pub(crate) fn optional_number_within(
-    table: &Table,
-    key: Key,
-    limits: Limits,
-) -> Result<Option<u32>, ConfigFault>
-    requires { limits.most < 2 ^ 32 }
-    ensures value { seen (λ n. n) result ≡ optional_number_at key limits.least limits.most (table_view table.now) }
-    ensures inside { IfOk result (λ found. IfSome found (λ n. is_between limits.least limits.most n ≡ true)) }
-{
-    match found_at(table, key) {
-        Some(value) => Ok(Some(number_value(key, limits, value)?)),
-        None => Ok(None),
-    }
-}
-
-/// Returns the number at a key that may be missing, within the key's limits, or `WrongKind` or `OutOfRange`.
-pub(crate) fn optional_number_at(table: &Table, key: Key) -> Result<Option<u32>, ConfigFault>
-    ensures value { seen (λ n. n) result ≡ optional_key_number_at key (table_view table.now) }
-    ensures inside { IfOk result (λ found. IfSome found (λ n. is_between (limits_of key).least (limits_of key).most n ≡ true)) }
-{
-    optional_number_within(table, key, key.limits())
 }

@@ -9,7 +9,7 @@ ghost use Rattle.toml.specs.View.{view, table_view, items_view};
 ghost use Rattle.srt_config.specs.FirstFault.{seen};
 ghost use Rattle.srt_config.specs.Keys.{value_seen};
 ghost use Rattle.srt_config.specs.Defaults.{table_at, items_at};
-ghost use Rattle.srt_config.specs.declared.config.table.Key.TheVariants.{Defaults, Route};
+ghost use Rattle.srt_config.specs.declared.config.keys.Key.TheVariants.{Defaults, Route};
 ghost use Rattle.srt_config.specs.AllFaults.{fault_if, told, each, name_among, new_name_at, after_opening, close_round_at, most_kept, reserved_at};
 ghost use Rattle.srt_config.specs.AllFaults.{place_of, routes_right, routes_checked, top_fault, default_fault, route_fault};
 ghost use Rattle.srt_config.specs.AllFaults.{has_fault_at, own_fault, part_fault};
@@ -20,13 +20,13 @@ ghost use Rattle.srt_config.specs.inside.Sections.{IsFaultOf, fault_seen, member
 use super::access::{key_at, list_at};
 use super::defaults::{defaults_at, items_at, optional_mode_at, table_at};
 use super::faults::ConfigFault;
-use super::keys::{
-    is_key, number_at, optional_number_at, optional_number_within, text_at, value_at,
-};
+use super::keys::{DEFAULT_KEYS, Key, Limits, ROUTE_KEYS, TOP_KEYS};
 use super::placed::{Place, PlacedFault};
 use super::routes::{are_tables, is_count, mode_at};
 use super::rules::{callers_at, most_reserved};
-use super::table::{DEFAULT_KEYS, Key, Limits, ROUTE_KEYS, TOP_KEYS};
+use super::typed_values::{
+    is_key, number_at, optional_number_at, optional_number_within, text_at, value_at,
+};
 use super::values::{address_at, optional_address_at, secret_at};
 use srt_types::is_name;
 use std::alloc::{AllocError, Global};

@@ -17,12 +17,12 @@ ghost use Rattle.srt_config.specs.inside.RouteParts.{route_seen, routes_seen, ro
 
 use super::access::access_at;
 use super::faults::ConfigFault;
-use super::keys::{
-    number_at, only_known, optional_number_at, optional_number_within, text_at, value_at,
-};
+use super::keys::{BUFFER, Key, LIVE, Limits, ROUTE_KEYS};
 use super::placed::{Place, PlacedFault};
 use super::rules::{callers_at, rules_at};
-use super::table::{BUFFER, Key, LIVE, Limits, ROUTE_KEYS};
+use super::typed_values::{
+    number_at, only_known, optional_number_at, optional_number_within, text_at, value_at,
+};
 use srt_lobby::is_taken;
 use srt_types::{Access, Callers, Entry, Mode, Rules, Schedule, is_between, is_name};
 use std::alloc::Global;

@@ -6,8 +6,8 @@ ghost use Rattle.srt_config.specs.FirstFault.{seen};
 ghost use Rattle.srt_config.specs.Rules.{callers_in, callers_value, callers_at, most_reserved, rules_at};
 
 use super::faults::ConfigFault;
-use super::keys::{found_at, optional_number_at, optional_number_within, text_value};
-use super::table::{DRAFT, Key, LIBSRT, Limits};
+use super::keys::{DRAFT, Key, LIBSRT, Limits};
+use super::typed_values::{found_at, optional_number_at, optional_number_within, text_value};
 use srt_types::{Callers, Rules};
 use toml::{Table, Value};
 

@@ -9,8 +9,8 @@ ghost use Rattle.srt_config.specs.Config.{secret_in, secret_at, address_value, a
 
 use super::address::{BindAddress, read_address};
 use super::faults::ConfigFault;
-use super::keys::{found_at, text_at, text_value, value_at};
-use super::table::Key;
+use super::keys::Key;
+use super::typed_values::{found_at, text_at, text_value, value_at};
 use srt_cookie::Secret;
 use toml::{Table, Value};
 

@@ -1,6 +1,6 @@
 use Rattle.std.proofs.Common.{refl}
 use Rattle.toml.specs.View.{table_view}
-use Rattle.srt_config.specs.declared.config.table.Key.TheVariants.{Callers}
+use Rattle.srt_config.specs.declared.config.keys.Key.TheVariants.{Callers}
 use Rattle.srt_types.specs.Terms.{terms_of}
 use Rattle.srt_explain.specs.declared.warnings.Warning.TheVariants.{NoCallers}
 use Rattle.srt_explain.specs.Warnings.{route_table, lacks, lacks_reserved, reserved_warning}

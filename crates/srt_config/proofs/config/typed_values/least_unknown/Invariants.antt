@@ -2,7 +2,7 @@ use Rattle.std.proofs.Common.{◌≡◌}
 use Rattle.toml.specs.View.{table_view}
 use Rattle.srt_config.specs.Keys.{least_unknown}
 use Rattle.srt_config.proofs.TableKeys.{unknown_of}
-use Rattle.srt_config.proofs.config.keys.least_unknown.Given as goal
+use Rattle.srt_config.proofs.config.typed_values.least_unknown.Given as goal
 
 abbrev pub invariant-loop-key : goal.invariant-loop-key
 invariant-loop-key l =

@@ -1,5 +1,5 @@
 use Rattle.toml.proofs.Views.{table_get}
-use Rattle.srt_config.proofs.config.keys.found_at.Goals as goal
+use Rattle.srt_config.proofs.config.typed_values.found_at.Goals as goal
 
 pub returns : goal.returns
 returns c = rw c.name.ensures at (table_get c.get.result c.name.result.now c.args.table.now.entries c.get.ensures.value)
