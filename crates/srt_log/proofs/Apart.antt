@@ -1,8 +1,8 @@
 -- That shares are apart, and how many lines of each are written.
 use Rattle.std.proofs.Common.{◌≡◌, ℕ, ◌+◌, ◌-◌, ◌^◌, ◌≤◌, Bool, true, false, ◌&&◌, nat_le, cond, List, [], ◌∷◌, ◌++◌, min, refl, ap, arith, ◌∙◌}
 use Rattle.std.proofs.lemmas.Bool.Decides.{nat_tests}
-use Rattle.srt_log.specs.declared.shares.LineKind.{LineKind}
-use Rattle.srt_log.specs.declared.shares.LineKind.TheVariants.{Session, Refusal}
+use Rattle.srt_log.specs.declared.line_limits.LineKind.{LineKind}
+use Rattle.srt_log.specs.declared.line_limits.LineKind.TheVariants.{Session, Refusal}
 use Rattle.srt_log.specs.LineLimit.{LimitCall, begins, counted, lines_in, more_if, is_within, omitted_within, written_within}
 use Rattle.srt_log.specs.LineShares.{SharedCall, share_of, calls_of, AreOthers, KeepsApart, KeepsShares}
 
@@ -36,7 +36,8 @@ written_is most [] few = omega arith
 written_is most (a ∷ calls) few =
     call_more (begins calls a.moment) a.is_line most (lines_in calls) (written_within most calls) few (written_is most calls few)
 
-few_of : (kind : LineKind) → share_of kind ≤ 50
+-- a share is at most 50
+pub few_of : (kind : LineKind) → share_of kind ≤ 50
 few_of Session = omega arith
 few_of Refusal = omega arith
 

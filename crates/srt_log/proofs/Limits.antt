@@ -1,29 +1,10 @@
--- How many lines of a second are written, and that none is left out untold.
+-- That no line of a second is left out untold.
 use Rattle.std.proofs.Common.{◌≡◌, ℕ, ◌+◌, ◌-◌, ◌^◌, ◌≤◌, Bool, true, false, ◌&&◌, nat_le, cond, List, [], ◌∷◌, min, refl, arith}
 use Rattle.std.proofs.lemmas.Bool.Decides.{nat_tests}
-use Rattle.srt_log.specs.LineLimit.{LimitCall, begins, counted, lines_in, more_if, written_in}
-use Rattle.srt_log.specs.LineLimit.{KeepsTheLimit, all_lines, all_written, all_omitted, CountsEachLine}
-
--- a line more in a second of n lines, w of which are written
-line_more : (n w : ℕ) (t : Bool) → nat_le (min (n + 1) (2 ^ 64 - 1)) 50 ≡ t → w ≡ min n 50
-    → more_if t w ≡ min (min (n + 1) (2 ^ 64 - 1)) 50
-line_more n w true h e = grind (arith, nat_tests, h, e)
-line_more n w false h e = grind (arith, nat_tests, h, e)
-
--- a call more: whether a second begins, and whether it is a line
-call_more : (begins line : Bool) (n w : ℕ) → w ≡ min n 50
-    → more_if (line && nat_le (counted true (cond begins 0 n)) 50) (cond begins 0 w) ≡ min (counted line (cond begins 0 n)) 50
-call_more true true n w e = line_more 0 0 _ refl refl
-call_more true false n w e = refl
-call_more false true n w e = line_more n w _ refl e
-call_more false false n w e = e
-
-written_is : (calls : List LimitCall) → written_in calls ≡ min (lines_in calls) 50
-written_is [] = refl
-written_is (a ∷ calls) = call_more (begins calls a.moment) a.is_line (lines_in calls) (written_in calls) (written_is calls)
-
-pub keeps_the_limit : (calls : List LimitCall) → KeepsTheLimit calls
-keeps_the_limit calls = record { first_ones = written_is calls; most = omega (arith, written_is calls) }
+use Rattle.srt_log.specs.declared.line_limits.LineKind.{LineKind}
+use Rattle.srt_log.specs.LineLimit.{LimitCall, begins, counted, lines_in, more_if, all_lines, all_written, all_omitted}
+use Rattle.srt_log.specs.LineShares.{share_of, calls_of, CountsEachLine}
+use Rattle.srt_log.proofs.Apart.{few_of}
 
 -- a second has no more lines than there are in all
 counted_more : (begins line : Bool) (n all : ℕ) → n ≤ all → counted line (cond begins 0 n) ≤ more_if line all
@@ -41,23 +22,34 @@ fewer_before true all h = omega (arith, h)
 fewer_before false all h = h
 
 -- the numbers after a line more in a second of n lines
-line_told : (n all written omitted : ℕ) (t : Bool) → nat_le (min (n + 1) (2 ^ 64 - 1)) 50 ≡ t → all + 1 ≤ 2 ^ 64 - 1 → n ≤ all
-    → all ≡ written + omitted + (n - 50) → all + 1 ≡ more_if t written + omitted + (min (n + 1) (2 ^ 64 - 1) - 50)
-line_told n all written omitted true h few some e = grind (arith, nat_tests, h, few, some, e)
-line_told n all written omitted false h few some e = grind (arith, nat_tests, h, few, some, e)
+line_told : (most n all written omitted : ℕ) (t : Bool) → most ≤ 50 → nat_le (min (n + 1) (2 ^ 64 - 1)) most ≡ t → all + 1 ≤ 2 ^ 64 - 1
+    → n ≤ all → all ≡ written + omitted + (n - most)
+    → all + 1 ≡ more_if t written + omitted + (min (n + 1) (2 ^ 64 - 1) - most)
+line_told most n all written omitted true small h few some e = grind (arith, nat_tests, small, h, few, some, e)
+line_told most n all written omitted false small h few some e = grind (arith, nat_tests, small, h, few, some, e)
 
-call_told : (begins line : Bool) (n all written omitted : ℕ) → more_if line all ≤ 2 ^ 64 - 1 → n ≤ all
-    → all ≡ written + omitted + (n - 50)
-    → more_if line all ≡ more_if (line && nat_le (counted true (cond begins 0 n)) 50) written + (omitted + cond begins (n - 50) 0)
-    + (counted line (cond begins 0 n) - 50)
-call_told true true n all written omitted few some e = omega (arith, e)
-call_told true false n all written omitted few some e = omega (arith, e)
-call_told false true n all written omitted few some e =
-    let told = line_told n all written omitted _ refl few some e in omega (arith, told)
-call_told false false n all written omitted few some e = omega (arith, e)
+-- the first line of a second
+first_told : (most n all written omitted : ℕ) (t : Bool) → most ≤ 50 → nat_le 1 most ≡ t → all ≡ written + omitted + (n - most)
+    → all + 1 ≡ more_if t written + (omitted + (n - most)) + (1 - most)
+first_told most n all written omitted true small h e = grind (arith, nat_tests, small, h, e)
+first_told most n all written omitted false small h e = grind (arith, nat_tests, small, h, e)
 
-pub counts_each_line : CountsEachLine
-counts_each_line [] few = refl
-counts_each_line (a ∷ calls) few =
-    call_told (begins calls a.moment) a.is_line (lines_in calls) (all_lines calls) (all_written calls) (all_omitted calls) few
-    (some_lines calls) (counts_each_line calls (fewer_before a.is_line (all_lines calls) few))
+call_told : (begins line : Bool) (most n all written omitted : ℕ) → most ≤ 50 → more_if line all ≤ 2 ^ 64 - 1 → n ≤ all
+    → all ≡ written + omitted + (n - most)
+    → more_if line all ≡ more_if (line && nat_le (counted true (cond begins 0 n)) most) written + (omitted + cond begins (n - most) 0)
+    + (counted line (cond begins 0 n) - most)
+call_told true true most n all written omitted small few some e = first_told most n all written omitted _ small refl e
+call_told true false most n all written omitted small few some e = omega (arith, e)
+call_told false true most n all written omitted small few some e =
+    let told = line_told most n all written omitted _ small refl few some e in omega (arith, told)
+call_told false false most n all written omitted small few some e = omega (arith, e)
+
+counted_within : (most : ℕ) (calls : List LimitCall) → most ≤ 50 → all_lines calls ≤ 2 ^ 64 - 1
+    → all_lines calls ≡ all_written most calls + all_omitted most calls + (lines_in calls - most)
+counted_within most [] small few = omega arith
+counted_within most (a ∷ calls) small few =
+    call_told (begins calls a.moment) a.is_line most (lines_in calls) (all_lines calls) (all_written most calls) (all_omitted most calls)
+    small few (some_lines calls) (counted_within most calls small (fewer_before a.is_line (all_lines calls) few))
+
+pub counts_each_line : (kind : LineKind) → CountsEachLine kind
+counts_each_line kind calls few = counted_within (share_of kind) (calls_of kind calls) (few_of kind) few

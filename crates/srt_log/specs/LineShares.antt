@@ -1,9 +1,9 @@
 -- The shares of a second's lines: those about sessions have one, refusals another. By all calls so far, the newest first.
 use Rattle.std.specs.Prelude.{◌≡◌, ℕ, ◌+◌, ◌-◌, ◌^◌, ◌≤◌, Bool, true, false, List, [], ◌∷◌, ◌++◌, min, if◌then◌else◌}
-use Rattle.srt_log.specs.declared.shares.LineKind.{LineKind}
-use Rattle.srt_log.specs.declared.shares.LineKind.TheVariants.{Session, Refusal}
-use Rattle.srt_log.specs.declared.shares.LineShares.{LineShares}
-use Rattle.srt_log.specs.LineLimit.{LimitCall, lines_in, is_within, omitted_within, written_within, StandsFor}
+use Rattle.srt_log.specs.declared.line_limits.LineKind.{LineKind}
+use Rattle.srt_log.specs.declared.line_limits.LineKind.TheVariants.{Session, Refusal}
+use Rattle.srt_log.specs.declared.line_limits.LineShares.{LineShares}
+use Rattle.srt_log.specs.LineLimit.{LimitCall, lines_in, is_within, omitted_within, written_within, StandsFor, all_lines, all_written, all_omitted}
 
 -- how many lines of a second are of a kind at most
 abbrev pub share_of : LineKind → ℕ
@@ -78,3 +78,9 @@ written_of kind calls = written_within (share_of kind) (calls_of kind calls)
 pub record KeepsShares (calls : List SharedCall) : Type 0 where
   pub first_ones : (kind : LineKind) → written_of kind calls ≡ min (lines_in (calls_of kind calls)) (share_of kind)
   pub most : written_of Session calls + written_of Refusal calls ≤ 50
+
+-- each line of a kind is written, was counted as left out, or is left out in the latest second
+abbrev pub CountsEachLine : LineKind → Type 0
+CountsEachLine kind = (calls : List SharedCall) → all_lines (calls_of kind calls) ≤ 2 ^ 64 - 1
+    → all_lines (calls_of kind calls)
+    ≡ all_written (share_of kind) (calls_of kind calls) + all_omitted (share_of kind) (calls_of kind calls) + beyond_of calls kind

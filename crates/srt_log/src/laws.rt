@@ -2,24 +2,18 @@
 
 ghost use Rattle.std.specs.Prelude.{ℕ, List};
 ghost use Rattle.srt_log.specs.Changes.{NothingBetweenEqual};
-ghost use Rattle.srt_log.specs.LineShares.{SharedCall, AreOthers, KeepsApart, KeepsShares};
-ghost use Rattle.srt_log.specs.declared.shares.LineKind.{LineKind};
-ghost use Rattle.srt_log.specs.LineLimit.{LimitCall, KeepsTheLimit, CountsEachLine};
+ghost use Rattle.srt_log.specs.LineShares.{SharedCall, AreOthers, KeepsApart, KeepsShares, CountsEachLine};
+ghost use Rattle.srt_log.specs.declared.line_limits.LineKind.{LineKind};
 
 /// Two equal snapshots have nothing between them.
 pub fn equal_snapshots()
     ensures { NothingBetweenEqual }
 {}
 
-/// Of the lines of a second the first 50 are written, and no more, whatever the times of the calls are.
-pub fn most_lines()
-    ensures { (calls : List LimitCall) → KeepsTheLimit calls }
-{}
-
-/// Each line is written, or its number was returned among those left out, or it is left out in the latest second: none is left
-/// out untold. For up to 2^64 - 1 lines.
+/// Each line of a kind is written, or its number was returned among those left out, or it is left out in the latest second: none
+/// is left out untold. For up to 2^64 - 1 lines.
 pub fn each_line_is_counted()
-    ensures { CountsEachLine }
+    ensures { (kind : LineKind) → CountsEachLine kind }
 {}
 
 /// A flood of lines of one kind never costs a line of the other kind, whatever the times of the calls are.

@@ -6,12 +6,12 @@
 //! mix. Only a JSON object allocates.
 //!
 //! Types: [`LogEvent`] (`events.rt`) is the content of a line, [`ConfigEvent`] (`config_events.rt`) that of a line about a
-//! changed configuration. [`LineLimit`] (`limit.rt`) is the limit of lines in a second, [`LineShares`] (`shares.rt`) one with
+//! changed configuration. [`LineShares`] (`line_limits.rt`) is the limit of lines in a second, with
 //! a share for each kind. [`RouteSnapshot`] (`snapshots.rt`) has the sessions of a route at one time, each with its
 //! `srt_route::SessionView`. [`Change`] (`changes.rt`) is what changed between two snapshots.
 //!
-//! Calls: [`write_line`] (`writing.rt`, `config_lines.rt`) writes an event's line, [`put_object`] (`objects.rt`,
-//! `config_objects.rt`) puts it as a JSON object, [`LineLimit::line`] returns whether a line may be written,
+//! Calls: [`write_line`] (`writing.rt`, `config_lines.rt`) writes an event's line, [`event_line`] returns it, [`put_object`] (`objects.rt`,
+//! `config_objects.rt`) puts it as a JSON object, [`LineShares::line`] returns whether a line may be written,
 //! [`change_at`] compares two snapshots, step by step, and [`event_of`] (`telling.rt`) returns the event of a change.
 //! [`utc_text`] (`times.rt`) is the text of a time. `srt_watch` makes these calls.
 #![tactic(auto)]
@@ -23,12 +23,11 @@ mod config_objects;
 mod dates;
 mod events;
 pub mod laws;
-mod limit;
 mod line;
+mod line_limits;
 mod members;
 mod objects;
 mod peers;
-mod shares;
 mod snapshots;
 mod telling;
 mod times;
@@ -37,13 +36,12 @@ mod writing;
 pub use changes::{Change, STEPS, change_at};
 pub use config_events::{ChangeSummary, CloseCause, ConfigEvent};
 pub use events::{Caller, ClockDrift, EndReason, LogEvent, SessionCounts, StopCause, Trouble};
-pub use limit::{LineAllowance, LineLimit};
+pub use line_limits::{LineAllowance, LineKind, LineShares};
 pub use objects::put_object;
-pub use shares::{LineKind, LineShares};
 pub use snapshots::{RouteSnapshot, SlotSession, slot_of};
 pub use telling::event_of;
 pub use times::utc_text;
-pub use writing::write_line;
+pub use writing::{event_line, write_line};
 
 #[cfg(test)]
 mod object_tests;

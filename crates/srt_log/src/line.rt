@@ -138,6 +138,13 @@ impl Line {
         }
     }
 
+    /// The line without a line feed.
+    pub(crate) fn bare(self) -> ArrayVec<u8, MAX_LOG_LINE>
+        ensures { result.items ≡ self.text.items }
+    {
+        self.text
+    }
+
     /// The line with its line feed.
     pub(crate) fn ended(self) -> ArrayVec<u8, MAX_LOG_LINE>
         ensures { result.items ≡ self.text.items ++ 10 ∷ [] }

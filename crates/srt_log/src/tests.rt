@@ -1,9 +1,9 @@
 //! Lines as a person reads them, the limit over moments, and what comes between looks.
 
 use crate::{
-    Caller, Change, ChangeSummary, CloseCause, ConfigEvent, EndReason, LineKind, LineLimit,
-    LineShares, LogEvent, RouteSnapshot, STEPS, SessionCounts, SlotSession, StopCause, Trouble,
-    change_at, event_of, slot_of, write_line,
+    Caller, Change, ChangeSummary, CloseCause, ConfigEvent, EndReason, LineKind, LineShares,
+    LogEvent, RouteSnapshot, STEPS, SessionCounts, SlotSession, StopCause, Trouble, change_at,
+    event_of, slot_of, write_line,
 };
 use srt_config::FixedKeys;
 use srt_route::{EndCause, EndedSession, SessionView, Traffic};
@@ -569,30 +569,19 @@ fn a_writer_that_is_full_is_an_error(rt: HostRuntime) {
 }
 
 #[test]
-fn fifty_lines_of_a_second(rt: HostRuntime) {
-    let mut limit = LineLimit::new();
-    for _ in 0..50u32 {
-        assert!(rt; limit.line(5_999_999).written);
+fn forty_lines_of_a_second_about_sessions(rt: HostRuntime) {
+    let mut shares = LineShares::new();
+    for _ in 0..40u32 {
+        assert!(rt; shares.line(LineKind::Session, 5_999_999).written);
     }
-    assert!(rt; !limit.line(5_000_000).written);
-    assert!(rt; !limit.line(4_000_000).written);
-    assert_eq!(rt; limit.left_out(), 2);
-    assert_eq!(rt; limit.poll(5_999_999), 0);
-    let next = limit.line(6_000_000);
+    assert!(rt; !shares.line(LineKind::Session, 5_000_000).written);
+    assert!(rt; !shares.line(LineKind::Session, 4_000_000).written);
+    assert_eq!(rt; shares.left_out(), 2);
+    assert_eq!(rt; shares.poll(5_999_999), 0);
+    let next = shares.line(LineKind::Session, 6_000_000);
     assert!(rt; next.written);
     assert_eq!(rt; next.left_out, 2);
-    assert_eq!(rt; limit.poll(7_000_000), 0);
-}
-
-#[test]
-fn lines_left_out_are_reported_by_a_look(rt: HostRuntime) {
-    let mut limit = LineLimit::new();
-    for _ in 0..60u32 {
-        let _ = limit.line(0);
-    }
-    assert_eq!(rt; limit.poll(1_000_000), 10);
-    assert_eq!(rt; limit.poll(2_000_000), 0);
-    assert_eq!(rt; limit.left_out(), 0);
+    assert_eq!(rt; shares.poll(7_000_000), 0);
 }
 
 /// What a publisher's session counts whose window was full this often, and of whose packets as many were late as given up.

@@ -12,6 +12,8 @@ use crate::config_lines::put_config;
 use crate::events::{Caller, ClockDrift, EndReason, LogEvent, SessionCounts, StopCause, Trouble};
 use crate::line::Line;
 use crate::peers::{put_peer, put_socket};
+use arrayvec::ArrayVec;
+use srt_types::product_limits::MAX_LOG_LINE;
 use srt_types::{NotAdmitted, Peer, Role};
 use std::io::{self, Write};
 
@@ -399,6 +401,13 @@ fn line_of(time: Option<[u8; 24]>, event: LogEvent<'_>) -> Line
     put_time(&mut line, time);
     put_event(&mut line, event);
     line
+}
+
+/// Returns the line of an event without its time and its line feed, as [`write_line`] writes it. Doesn't allocate.
+pub fn event_line(event: LogEvent<'_>) -> ArrayVec<u8, MAX_LOG_LINE>
+    ensures { result.items ≡ put [] (event_text event.entry) }
+{
+    line_of(None, event).bare()
 }
 
 /// Writes the line of an event, with its line feed, by one call of `write_all`: at its front the text of its time, if
