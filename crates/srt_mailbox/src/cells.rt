@@ -198,28 +198,6 @@ impl RouteCell {
         }
     }
 
-    /// Makes a batch of at most `most` steps of the route, if no other call has it, until a step finds no work or a
-    /// full outbox, or the gate refuses one; the gate is queried before each. The route is claimed once for the batch,
-    /// since a claim and its return are four locked operations. Doesn't allocate and doesn't wait for the route.
-    pub fn visit<R: Wait, G: Gate>(&self, rt: &R, gate: &mut G, most: u32) -> Visit
-        ensures most { result.turns ≤ most }
-        ensures moved { result.moved ≤ result.turns }
-        ensures all { result.end ≡ None → result.turns ≡ most }
-        ensures held { result.end ≡ Some GateRefused → Grew (G.held gate.old) (G.held gate.new) }
-        ensures passed { result.end ≢ Some GateRefused → G.held gate.new ≡ G.held gate.old }
-        ensures busy { result.end ≡ Some ClaimedElsewhere → (result.turns ≡ 0) × (gate.new ≡ gate.old) }
-        ensures requested { G.requested gate.new ≡ option_map (queried_in (identity_in self.now).index result) (G.requested gate.old) }
-    {
-        match self.visit_claimed(rt, gate, most) {
-            Ok((visit, _)) => visit,
-            Err(_) => Visit {
-                turns: 0,
-                moved: 0,
-                end: Some(Served::ClaimedElsewhere),
-            },
-        }
-    }
-
     /// Shows the route once to `look`, if no other call has it. False if another call has it; then nothing was shown.
     /// Makes no step: the route is returned unchanged. Doesn't allocate and doesn't wait for the route.
     pub fn show<R: Wait, L: Observer>(&self, rt: &R, look: &mut L) -> bool
@@ -236,7 +214,8 @@ impl RouteCell {
 /// A route that can be served, as `RouteCell` is by workers. Code that passes cells to threads is generic over this
 /// trait, so that it can require `Sync` by a bound.
 pub trait Serve {
-    /// Makes a batch of steps of the route, as `RouteCell::visit` does.
+    /// Makes a batch of at most `most` steps of the route, if no other call has it, until a step finds no work or a full
+    /// outbox, or the gate refuses one.
     fn visit<R: Wait, G: Gate>(&self, rt: &R, gate: &mut G, most: u32) -> Visit
         ensures most { result.turns ≤ most }
         ensures moved { result.moved ≤ result.turns }
@@ -256,8 +235,29 @@ pub trait Serve {
 }
 
 impl Serve for RouteCell {
-    fn visit<R: Wait, G: Gate>(&self, rt: &R, gate: &mut G, most: u32) -> Visit {
-        RouteCell::visit(self, rt, gate, most)
+    ghost use Rattle.srt_mailbox.specs.Identities.{identity_in};
+    ghost use Rattle.srt_mailbox.specs.Visits.{queried_in};
+
+    /// Makes a batch of at most `most` steps of the route, if no other call has it, until a step finds no work or a
+    /// full outbox, or the gate refuses one; the gate is queried before each. The route is claimed once for the batch,
+    /// since a claim and its return are four locked operations. Doesn't allocate and doesn't wait for the route.
+    fn visit<R: Wait, G: Gate>(&self, rt: &R, gate: &mut G, most: u32) -> Visit
+        ensures most { result.turns ≤ most }
+        ensures moved { result.moved ≤ result.turns }
+        ensures all { result.end ≡ None → result.turns ≡ most }
+        ensures held { result.end ≡ Some GateRefused → Grew (G.held gate.old) (G.held gate.new) }
+        ensures passed { result.end ≢ Some GateRefused → G.held gate.new ≡ G.held gate.old }
+        ensures busy { result.end ≡ Some ClaimedElsewhere → (result.turns ≡ 0) × (gate.new ≡ gate.old) }
+        ensures requested { G.requested gate.new ≡ option_map (queried_in (identity_in self.now).index result) (G.requested gate.old) }
+    {
+        match self.visit_claimed(rt, gate, most) {
+            Ok((visit, _)) => visit,
+            Err(_) => Visit {
+                turns: 0,
+                moved: 0,
+                end: Some(Served::ClaimedElsewhere),
+            },
+        }
     }
 
     fn serve<R: Wait, G: Gate>(&self, rt: &R, gate: &mut G) -> Served {

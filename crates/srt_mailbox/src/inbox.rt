@@ -4,7 +4,7 @@ ghost use Rattle.std.specs.Prelude.{◌≡◌, ◌<◌, ◌^◌, [], ◌∷◌, 
 ghost use Rattle.std.specs.Arc.{arc_value};
 ghost use Rattle.crossbeam_queue.specs.Fifo.{Held};
 ghost use Rattle.srt_types.specs.Items.{input_of, moment_of};
-ghost use Rattle.srt_types.specs.declared.shared.Item.TheVariants.{Datagram};
+ghost use Rattle.srt_types.specs.declared.shared.Item.TheVariants.{Datagram, Close};
 ghost use Rattle.srt_mailbox.specs.Ends.{producer, consumer, AreNew, AreLeft};
 ghost use Rattle.srt_mailbox.specs.Inbox.{StoodAsPolled, StoodAsTicked, StoodAsTaken};
 
@@ -131,6 +131,21 @@ impl Ingress {
     {
         let entry = InboxEntry::datagram(true, peer, moment, head, body);
         match push::<PollsDatagram, _, _, _, R>(&self.queue, rt, &mut self.pass, entry) {
+            Ok(()) => Ok(()),
+            Err((_, full)) => Err(InboxFull::new(full)),
+        }
+    }
+
+    /// Appends Close to the inbox, as `offer` does with its message. The error is evidence that the inbox was full at some time
+    /// during the call; then nothing changed. `moment` is in microseconds, below 2^62. Doesn't allocate.
+    pub fn offer_close<R: Wait>(&mut self, rt: &R, moment: u64) -> Result<(), InboxFull>
+        requires timely { moment < 2 ^ 62 }
+        ensures accepted { OnOk result (self.new ≡ producer self.old.queue self.old.capacity (self.old.offered ++ Close moment ∷ [])) }
+        ensures full { IfErr result (λ _. (self.new ≡ self.old) × Held self.old.capacity (StoodAsPolled self.old.offered)) }
+        ensures evidence { IfErr result (λ full. (full.queue ≡ self.old.queue) × (full.polled ≡ self.old.offered)) }
+    {
+        let close = InboxEntry::new(self.alloc, true, Item::Close { moment });
+        match push::<Polls, _, _, _, R>(&self.queue, rt, &mut self.pass, close) {
             Ok(()) => Ok(()),
             Err((_, full)) => Err(InboxFull::new(full)),
         }

@@ -8,6 +8,7 @@ ghost use Rattle.srt_mailbox.specs.Seats.{IsNewPoller, IsNewClock};
 
 use crate::places::Place;
 use crate::seats::{Attachment, ClockHand, PollerEnds, Seat};
+use crate::slots::take_out;
 use std::alloc::{AllocError, Global};
 use std::sync::OnceToken;
 
@@ -82,7 +83,7 @@ impl<'a, X: Attachment + Drop> SeatReader<'a, X> {
         ensures places { places_of self.new ≡ places_of self.old }
     {
         let (seat, token) = self.coming()?;
-        let Ok(ends) = seat.take_poller() else {
+        let Ok(ends) = take_out(&seat.poller) else {
             return None;
         };
         self.pass(token);
@@ -97,7 +98,7 @@ impl<'a, X: Attachment + Drop> SeatReader<'a, X> {
         ensures places { places_of self.new ≡ places_of self.old }
     {
         let (seat, token) = self.coming()?;
-        let Ok(hand) = seat.take_clock() else {
+        let Ok(hand) = take_out(&seat.clock) else {
             return None;
         };
         self.pass(token);

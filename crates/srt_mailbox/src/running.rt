@@ -1,6 +1,6 @@
 //! A route with its ends of both queues, which a worker has while it has claimed the route, and one step of it.
 
-ghost use Rattle.std.specs.Prelude.{◌≡◌, ◌≢◌, ◌<◌, ◌≤◌, ◌+◌, ℕ, List, [], ◌∷◌, Some, None, length, option_map, true, false};
+ghost use Rattle.std.specs.Prelude.{◌≡◌, ◌≢◌, ◌⊎◌, ◌<◌, ◌≤◌, ◌+◌, ℕ, List, [], ◌∷◌, Some, None, IfSome, length, vec_capacity, option_map, true, false};
 ghost use Rattle.srt_types.specs.Terms.{Terms, terms_of};
 ghost use Rattle.srt_types.specs.Items.{Item as TheItem};
 ghost use Rattle.srt_route.specs.Route.{after};
@@ -90,18 +90,22 @@ pub const BUFFER_ROOM: usize = MAX_PAYLOAD;
 
 // Keeps the body of a processed message, if it has room for the body of any packet. It returns to the thread that
 // allocated it: memory that one thread allocates and another one frees costs both of them a lock of the allocator.
-fn keep_buffer(kept: &mut Option<Vec<u8>>, item: Item) {
-    if let Item::Datagram {
+fn keep_buffer(kept: &mut Option<Vec<u8>>, item: Item)
+    ensures { (kept.new ≡ kept.old) ⊎ IfSome kept.new (λ buffer. 1456 ≤ vec_capacity buffer) }
+{
+    let Item::Datagram {
         peer: _,
         moment: _,
         head: _,
         body,
     } = item
-    {
-        if body.capacity() >= BUFFER_ROOM {
-            *kept = Some(body);
-        }
+    else {
+        return;
+    };
+    if body.capacity() < BUFFER_ROOM {
+        return;
     }
+    *kept = Some(body);
 }
 
 // Returns the oldest waiting reply, in its box. There must be one.

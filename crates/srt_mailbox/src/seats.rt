@@ -1,7 +1,7 @@
 //! Seats: each has one route added at run time, with its ends until their owners take them. The thread that opens a
 //! route has no access to the owners' threads; it leaves the ends here, and each owner takes its own.
 
-ghost use Rattle.std.specs.Prelude.{◌≡◌, ℕ, Some, None, Err, IfSome, IfOk, IfErr};
+ghost use Rattle.std.specs.Prelude.{◌≡◌, ℕ, Some, None, Err, IfOk, IfErr};
 ghost use Rattle.srt_types.specs.declared.shared.OpenFault.{OpenFault as TheFault};
 ghost use Rattle.srt_types.specs.Terms.{Terms, terms_of};
 ghost use Rattle.srt_route.specs.Opening.{fault_of};
@@ -15,7 +15,7 @@ use crate::cells::RouteCell;
 use crate::inbox::{ClockEnd, Ingress};
 use crate::openings::open_route;
 use crate::outbox::Drain;
-use crate::slots::{TakenElsewhere, take_out};
+use crate::slots::TakenElsewhere;
 use counted_slot::{Counted, Fits};
 use srt_types::{Entry, OpenFault};
 use std::alloc::Global;
@@ -80,8 +80,9 @@ pub struct Seat<X: Attachment + Drop> {
     /// The route, which workers serve. It is the first field, so that a worker that finds the place empty or claimed
     /// has read one cache line.
     pub cell: RouteCell,
-    poller: Counted<Option<PollerEnds<X>>>,
-    clock: Counted<Option<ClockHand>>,
+    // each is there until its owner takes it out
+    pub(crate) poller: Counted<Option<PollerEnds<X>>>,
+    pub(crate) clock: Counted<Option<ClockHand>>,
     ghost for_poller: { poller ≡ identity_in cell },
     ghost for_clock: { clock ≡ identity_in cell },
 }
@@ -120,25 +121,10 @@ pub fn open_seat<X: Attachment + Drop>(
 }
 
 impl<X: Attachment + Drop> Seat<X> {
-    /// Takes the poller's ends and what was put there with them. The error is evidence that they were taken before. One
-    /// compare-exchange; never waits.
-    pub fn take_poller(&self) -> Result<PollerEnds<X>, TakenElsewhere>
-        ensures new { IfOk result (λ e. IsNewPoller (identity_in self.now.cell) e.ingress e.drain) }
-        ensures belongs { IfOk result (λ e. X.belongs (identity_in self.now.cell).terms (identity_in self.now.cell).index e.companion) }
-    {
-        take_out(&self.poller)
-    }
-
-    /// Takes the clock's end. The error is evidence that it was taken before. One compare-exchange; never waits.
-    pub fn take_clock(&self) -> Result<ClockHand, TakenElsewhere>
-        ensures { IfOk result (λ h. IsNewClock (identity_in self.now.cell) h.end) }
-    {
-        take_out(&self.clock)
-    }
-
-    // As `settle`, with evidence that another call has the route, or that it was settled before.
-    #[inline(always)]
-    fn settle_taken<R: Wait>(
+    /// Ends the route and returns its account, as `settle` does; the three ends must be of this seat's route. The error is
+    /// evidence that another call has the route, or that it was settled before. What is left in the queues is counted and
+    /// discarded; the ends are gone in both cases. Doesn't allocate.
+    pub fn settle<R: Wait>(
         &self,
         rt: &R,
         ingress: Ingress,
@@ -152,21 +138,5 @@ impl<X: Attachment + Drop> Seat<X> {
             Ok(running) => Ok(running.settle(rt, ingress, clock, drain)),
             Err(elsewhere) => Err(elsewhere),
         }
-    }
-
-    /// Ends the route and returns its account, as `settle` does; the three ends must be of this seat's route. `None` if
-    /// another call has the route, or it was settled before. What is left in the queues is counted and discarded; the
-    /// ends are gone in both cases. Doesn't allocate.
-    pub fn settle<R: Wait>(
-        &self,
-        rt: &R,
-        ingress: Ingress,
-        clock: ClockEnd,
-        drain: Drain,
-    ) -> Option<Account>
-        requires { AreEndsOf (identity_in self.now.cell) ingress clock drain }
-        ensures { IfSome result (λ a. Settles a (identity_in self.now.cell) ingress clock drain) }
-    {
-        self.settle_taken(rt, ingress, clock, drain).ok()
     }
 }

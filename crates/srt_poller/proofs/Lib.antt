@@ -1,5 +1,6 @@
 pub mod Joined
 pub mod Steps
+pub mod ReadCounts
 pub mod Origins
 pub mod Sums
 pub mod Growing

@@ -12,7 +12,7 @@ use Rattle.std.proofs.lemmas.List.Folds.{list_any-append}
 use Rattle.std.proofs.lemmas.Option.{slice_get-get_or, slice_get_within, slice_get_past}
 use Rattle.srt_types.specs.declared.shared.Schedule.{Schedule}
 use Rattle.srt_lobby.specs.Names.{RouteName}
-use Rattle.srt_lobby.specs.Changing.{shown_at, AreHidden}
+use Rattle.srt_lobby.specs.Changing.{shown_at, IsUnused, AreHidden}
 use Rattle.srt_poller.specs.declared.plans.Plan.{Plan}
 use Rattle.srt_poller.specs.Schedules.{has_come, opened}
 use Rattle.srt_poller.specs.Beginnings.{all_shown, NoneMayOpen}
@@ -22,7 +22,7 @@ use Rattle.srt_poller.specs.Plans.{never, schedule_of, texts_of, is_requested, I
 use Rattle.srt_poller.specs.Plans.{Settled, waiting}
 use Rattle.srt_poller.specs.Starts.{RoundStart, round_start, IsNameUsed, IsUsedIn, ClosesAllIn, IsKeptIn}
 use Rattle.srt_poller.specs.Plans.{sooner, closed_from, may_open, update_at, with_open_round}
-use Rattle.srt_poller.specs.Changes.{OpensOne, Opens}
+use Rattle.srt_poller.specs.Changes.{Opens}
 use Rattle.srt_poller.proofs.ShownInRound.{no_schedule, opened_step, texts_opened, as_many}
 use Rattle.srt_poller.proofs.Starting.{Grow, kept_grows, grow_none, grow_left, used_last, closes_last, grow_last, starts_more, grow_more, used_shown, is_used}
 
@@ -812,6 +812,12 @@ pub looked_known : {k i : ℕ} {ps ps' : List Schedule} {ns ns' : List RouteName
     length ps' ≡ length ns'
 looked_known {k} {i} {ps} {ps'} {ns} {ns'} known h =
     h.as_many ∙ known ∙ sym (as_many ns' ns (ap all_shown h.named ∙ texts_opened k (take i ps') ns))
+
+-- a route becomes visible in this round; or another visible route has its name, and it waits
+abbrev pub OpensOne : (round r : ℕ) → (plans plans' : List Schedule) → (names names' : List RouteName) → Type 0
+OpensOne round r plans plans' names names' =
+    ((plans' ≡ update_at (with_open_round round) plans r) × (names' ≡ shown_at r names))
+    ⊎ ((IsUnused r names → ⊥) × (plans' ≡ update_at (with_open_round never) plans r) × (names' ≡ names))
 
 -- the next route may become visible
 pub looked_opens : (k i : ℕ) (ps middle ps' : List Schedule) (ns ns' ns'' : List RouteName) (t : Schedule) → k < never → length ps ≡ length ns →

@@ -21,7 +21,7 @@ use Rattle.srt_poller.specs.Pollers.{RoundState, IsUpTo, Replies, ClosedAs}
 use Rattle.srt_poller.specs.declared.poller.KeptReply.{KeptReply}
 use Rattle.srt_poller.specs.declared.poller.Left.{Left}
 use Rattle.srt_poller.specs.declared.poller.Left.TheVariants as left
-use Rattle.srt_poller.specs.inside.Visits.{IsKeptAfter, is_kept}
+use Rattle.srt_poller.specs.inside.Visits.{IsKeptAfter, is_kept, is_open}
 use Rattle.srt_poller.specs.Schedules.{CloseOffer, offered}
 use Rattle.srt_poller.specs.History.{Event, State, Fits, Follow, state_by, state_after, Begins, closing_by, closings, given_by}
 use Rattle.srt_poller.specs.History.{given, calls_by, calls, attempts_by, attempts, Phase, Reading, Sending, reading, sent_on, IsOver}
@@ -467,6 +467,13 @@ none_kept left.Resting k h is = h
 none_kept (left.Empty empty) k h is = h
 none_kept left.Many k h is = h
 none_kept left.Kept k h is = absurd (true≢false is)
+
+-- a drain that kept a reply stopped before its outbox was found empty
+pub kept_open : (l : Left) → is_kept l ≡ true → is_open l ≡ true
+kept_open left.Resting is = absurd (true≢false (sym is))
+kept_open (left.Empty empty) is = absurd (true≢false (sym is))
+kept_open left.Many is = absurd (true≢false (sym is))
+kept_open left.Kept is = refl
 
 pub unchanged_here : (es : List Ends) (k : ℕ) (d : Ends) (z : Drained)
     → z ≡ (slice_index_or es k d).drain → slice_set es k (record { ingress = (slice_index_or es k d).ingress; drain = z }) ≡ es

@@ -28,7 +28,7 @@ took_all_quietly facts routes old new records known = (
 -- there were changes
 pub took_all_changes : (facts : OpeningsFacts) (first last : ℕ) (old new : Recorded) (added : List NewRoute) (requested : List ℕ) →
     new ≡ recorded_after old (taking true added requested ∷ []) → last ≡ first + length added →
-    facts.no_more new ⊎ (511 ≤ last) → facts.none_to_close new ⊎ (511 ≤ length requested) → TookAll facts first last old new
+    facts.no_more new ⊎ (511 ≤ last) → facts.none_to_close new last ⊎ (511 ≤ length requested) → TookAll facts first last old new
 took_all_changes facts first last old new added requested records many no_more none_to_close = (
   taking true added requested,
   record {
@@ -39,9 +39,9 @@ took_all_changes facts first last old new added requested records many no_more n
 )
 
 -- all changes were taken, after which openings are these
-pub took_all_of : {A : Type 0} (last : A) (unchanged no_more none_to_close : A → Type 0) (records : A → Recorded) (before after : ℕ) (old : Recorded)
-    (added : List NewRoute) → after ≡ before + length added → no_more last ⊎ (511 ≤ after) →
-    (none_to_close last × (requested : List ℕ) × (records last ≡ recorded_after old (taking true added requested ∷ [])))
+pub took_all_of : {A : Type 0} (last : A) (unchanged no_more : A → Type 0) (none_to_close : A → (routes : ℕ) → Type 0) (records : A → Recorded)
+    (before after : ℕ) (old : Recorded) (added : List NewRoute) → after ≡ before + length added → no_more last ⊎ (511 ≤ after) →
+    (none_to_close last after × (requested : List ℕ) × (records last ≡ recorded_after old (taking true added requested ∷ [])))
     ⊎ ((requested : List ℕ) × (records last ≡ recorded_after old (taking true added requested ∷ [])) × (511 ≤ length requested)) →
     TookAll (facts_of records unchanged no_more none_to_close) before after old (records last)
 took_all_of {A} last unchanged no_more none_to_close records before after old added many none closings = by closings
@@ -50,7 +50,7 @@ took_all_of {A} last unchanged no_more none_to_close records before after old ad
     no_more_known (inl h) = inl (last, refl, h)
     no_more_known (inr full) = inr full
 
-    by : (none_to_close last × (requested : List ℕ) × (records last ≡ recorded_after old (taking true added requested ∷ [])))
+    by : (none_to_close last after × (requested : List ℕ) × (records last ≡ recorded_after old (taking true added requested ∷ [])))
         ⊎ ((requested : List ℕ) × (records last ≡ recorded_after old (taking true added requested ∷ [])) × (511 ≤ length requested)) →
         TookAll (facts_of records unchanged no_more none_to_close) before after old (records last)
     by (inl h) =

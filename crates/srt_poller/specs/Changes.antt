@@ -3,7 +3,7 @@ use Rattle.std.specs.Prelude.{◌≡◌, ◌⊎◌, ℕ, suc, ◌+◌, ◌<◌, 
 use Rattle.std.specs.List.{fold}
 use Rattle.srt_types.specs.declared.shared.Schedule.{Schedule}
 use Rattle.srt_lobby.specs.Names.{RouteName, AreDistinct}
-use Rattle.srt_lobby.specs.Changing.{shown_at, IsUnused, AreHidden}
+use Rattle.srt_lobby.specs.Changing.{AreHidden}
 use Rattle.srt_poller.specs.declared.ends.Ends.{Ends}
 use Rattle.srt_poller.specs.declared.changing.Plans.{Plans}
 use Rattle.srt_poller.specs.Devices.{joined}
@@ -13,12 +13,13 @@ use Rattle.srt_poller.specs.Rounds.{World}
 use Rattle.srt_poller.specs.Reports.{nothing}
 use Rattle.srt_poller.specs.Told.{Observer, Setting, AreTold}
 use Rattle.srt_poller.specs.Pollers.{Rounds, RoundState, RoundMade}
-use Rattle.srt_poller.specs.Beginnings.{all_shown, AreClosed, Began}
+use Rattle.srt_poller.specs.Beginnings.{all_shown, AreClosed, Began, RestBetween}
 use Rattle.srt_poller.specs.Beforehand.{AgreeBefore}
 use Rattle.srt_poller.specs.Openings.{NewRoute, ReportedRoute, reported_route, names_in, ends_in, RouteReports, route_reports_more}
-use Rattle.srt_poller.specs.Plans.{never, schedule_of, texts_of, is_requested, waiting, closed_from, with_open_round, update_at, AreTimely}
+use Rattle.srt_poller.specs.Plans.{schedule_of, texts_of, is_requested, waiting, closed_from, update_at, AreTimely}
 use Rattle.srt_poller.specs.Plans.{ArePlans, Replanned, Settled}
 use Rattle.srt_poller.specs.Starts.{RoundStart, round_start, starts_in}
+use Rattle.srt_poller.specs.Takings.{Recorded, OpeningsFacts, TookAll}
 use Rattle.srt_poller.specs.Pumped.{Before, After, before, PumpedUnder}
 
 -- the plans of all routes, in the order of their indexes
@@ -65,12 +66,6 @@ TookChanges round reported reported' plans plans' names names' ends ends' =
     (added : List NewRoute) × (requested : List ℕ) × (reported' ≡ route_reports_more reported added requested)
     × Took round added requested plans plans' names names' ends ends'
 
--- a route becomes visible in this round; or another visible route has its name, and it waits
-abbrev pub OpensOne : (round r : ℕ) → (plans plans' : List Schedule) → (names names' : List RouteName) → Type 0
-OpensOne round r plans plans' names names' =
-    ((plans' ≡ update_at (with_open_round round) plans r) × (names' ≡ shown_at r names))
-    ⊎ ((IsUnused r names → ⊥) × (plans' ≡ update_at (with_open_round never) plans r) × (names' ≡ names))
-
 -- the routes became visible that open in this round by the plans that they have then; each one that waited opened, unless another visible route has its name
 pub record Opens (round : ℕ) (plans plans' : List Schedule) (names names' : List RouteName) : Type 0 where
   pub as_many : length plans' ≡ length plans
@@ -93,6 +88,19 @@ abbrev pub RoundWent : Setting → (closes_all : Bool) → (round due : ℕ) →
 RoundWent setting closes_all round due plans plans' names names' ends begun old new before after =
     (middle : List Ends) × Started closes_all round due before plans plans' names names' ends middle
     × RoundMade setting names' (length middle) begun (old middle) new before after
+
+-- Before a round all changes were taken, and then it was made to its end. `due` was then the first round in which there may be something to do
+pub record ChangedRound (setting : Setting) (facts : OpeningsFacts) (closes_all : Bool) (round : ℕ) (records records' : Recorded) (plans plans' : List Schedule)
+    (names names' : List RouteName) (ends : List Ends) (begun : Phase) (old : List Ends → RoundState → Phase → World) (new : RoundState → Phase → World)
+    (before after : ℕ) : Type 0 where
+  pub due : ℕ
+  pub between : List Schedule
+  pub these : List RouteName
+  pub those : List Ends
+  pub took : TookChanges round records.reports records'.reports plans between names these ends those
+  pub taken : TookAll facts (length names) (length these) records records'
+  pub rests : RestBetween round due between these
+  pub went : RoundWent setting closes_all round due between plans' these names' those begun old new before after
 
 -- this round began, after these routes were added and these were requested to close
 pub record BeganWith (observer : Observer) (closes_all : Bool) (round latest : ℕ) (added : List NewRoute) (requested : List ℕ) (plans plans' : List Schedule)

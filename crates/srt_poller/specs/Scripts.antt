@@ -1,5 +1,5 @@
 -- What devices in memory do and record.
-use Rattle.std.specs.Prelude.{ℕ, ◌+◌, ◌-◌, ◌^◌, min, Option, None, Some, List, [], ◌∷◌, length, take, slice_get, slice_index}
+use Rattle.std.specs.Prelude.{ℕ, ◌+◌, ◌-◌, ◌^◌, min, nat_lt, if◌then◌else◌, Option, None, Some, List, [], ◌∷◌, length, take, slice_get, slice_index}
 use Rattle.std.specs.List.{flat_map}
 use Rattle.srt_types.specs.Items.{Datagram as TheDatagram}
 use Rattle.srt_poller.specs.declared.devices.Polled.{Polled}
@@ -82,6 +82,10 @@ answer_at None = Taken
 -- the time that a clock in memory gives at this place of its script
 abbrev pub moment_at : (moments : List ℕ) → (at : ℕ) → ℕ
 moment_at moments at = moment_given (slice_index moments at)
+
+-- the place of the moment after this one, if there are this many; the last one is given again and again
+abbrev pub moment_after : (moments : ℕ) → (at : ℕ) → ℕ
+moment_after moments at = if nat_lt (at + 1) moments then at + 1 else at
 
 abbrev pub steps_of : SourceScript → List SourceStep
 steps_of s = s.steps.items

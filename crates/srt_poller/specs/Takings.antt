@@ -17,27 +17,28 @@ pub record Recorded : Type 0 where
 abbrev pub recorded : Option (List Bool) → RouteReports → Recorded
 recorded answers reports = record { answers = answers; reports = reports }
 
--- what is known of openings that have recorded this: that nothing has changed; that they have no more added route; that none is to close any more
+-- what is known of openings that have recorded this: that nothing has changed; that they have no more added route; that none of this many routes is to close
+-- any more
 pub record OpeningsFacts : Type 1 where
   pub unchanged : Recorded → Type 0
   pub no_more : Recorded → Type 0
-  pub none_to_close : Recorded → Type 0
+  pub none_to_close : Recorded → (routes : ℕ) → Type 0
 
 -- of openings that have recorded this, one of which it is known
 abbrev pub KnownOf : {A : Type 0} → (records : A → Recorded) → (known : A → Type 0) → Recorded → Type 0
 KnownOf {A} records known r = (openings : A) × (records openings ≡ r) × known openings
 
-abbrev pub facts_of : {A : Type 0} → (records : A → Recorded) → (unchanged no_more none_to_close : A → Type 0) → OpeningsFacts
+abbrev pub facts_of : {A : Type 0} → (records : A → Recorded) → (unchanged no_more : A → Type 0) → (none_to_close : A → (routes : ℕ) → Type 0) → OpeningsFacts
 facts_of records unchanged no_more none_to_close =
     record {
       unchanged = KnownOf records unchanged;
       no_more = KnownOf records no_more;
-      none_to_close = KnownOf records none_to_close;
+      none_to_close = λ r routes. KnownOf records (λ o. none_to_close o routes) r;
     }
 
 -- of routes that never change
 abbrev pub no_facts : OpeningsFacts
-no_facts = record { unchanged = λ r. Unit {0}; no_more = λ r. Unit {0}; none_to_close = λ r. Unit {0} }
+no_facts = record { unchanged = λ r. Unit {0}; no_more = λ r. Unit {0}; none_to_close = λ r routes. Unit {0} }
 
 -- all answers, all added routes and all requests of some takings, the newest of which is first
 abbrev pub answers_in : List Taking → List Bool
@@ -62,7 +63,7 @@ recorded_after r takings =
 pub record IsAllTaken (facts : OpeningsFacts) (routes : ℕ) (r : Recorded) (t : Taking) : Type 0 where
   pub unchanged : t.has_changes ≡ false → facts.unchanged r × (t.added ≡ []) × (t.requested ≡ [])
   pub added : t.has_changes ≡ true → facts.no_more r ⊎ (511 ≤ routes)
-  pub requested : t.has_changes ≡ true → facts.none_to_close r ⊎ (511 ≤ length t.requested)
+  pub requested : t.has_changes ≡ true → facts.none_to_close r routes ⊎ (511 ≤ length t.requested)
 
 -- the same of each taking, the newest of which is first; before them openings had recorded this, and there were so many routes
 abbrev pub AreAllTaken : OpeningsFacts → (routes : ℕ) → Recorded → List Taking → Type 0

@@ -8,7 +8,7 @@ use crate::context::PollerTask;
 use crate::ends::Ends;
 use crate::latest::Latest;
 use crate::openings::{AddedRoute, Openings};
-use crate::plans::{Closing, NEVER, Plan, close, next_due};
+use crate::plans::{NEVER, Plan, close_one, next_due};
 use crate::signals::Hints;
 use arrayvec::ArrayVec;
 use srt_lobby::Names;
@@ -31,8 +31,8 @@ impl Plans {
     ghost use Rattle.std.specs.Prelude.{Some, slice_get, slice_set};
     ghost use Rattle.srt_poller.specs.Beginnings.{RestBetween, AreClosed};
     ghost use Rattle.srt_poller.specs.Openings.{route_reports};
-    ghost use Rattle.srt_poller.specs.Plans.{never, waiting, closed_from, update_at, AreTimely};
-    ghost use Rattle.srt_poller.specs.Changes.{plans_in, TookAddedRoutes, TookClosings, TookMany, TookChanges, OpensOne, Opens, Started};
+    ghost use Rattle.srt_poller.specs.Plans.{never, waiting, AreTimely};
+    ghost use Rattle.srt_poller.specs.Changes.{plans_in, TookAddedRoutes, TookClosings, TookMany, TookChanges, Opens, Started};
     ghost use Rattle.srt_poller.specs.Takings.{recorded, facts_of, TookAll};
 
     /// Returns the plans of routes with these names and schedules, before the first round.
@@ -122,30 +122,22 @@ impl Plans {
         }
     }
 
-    // The route is closed from this round on, which hasn't begun. If it hasn't opened yet, it never does.
-    fn close_from(&mut self, route: usize, round: u64)
-        requires { route < length (plans_in self.old) }
-        ensures plans { plans_in self.new ≡ update_at (closed_from round) (plans_in self.old) route }
-        ensures latest { self.new.latest ≡ self.old.latest }
-    {
-        let plan = self.plan(route).closed_from(round);
-        self.set(route, plan);
-    }
-
-    // Closes the routes that are requested to close, at most 511, from this round on, which hasn't begun.
+    // Closes the routes that are requested to close, at most 511, from this round on, which hasn't begun. One that hasn't
+    // opened yet never does.
     fn take_closings<O: Openings>(&mut self, openings: &mut O, round: u64)
         ensures requested { TookClosings round (O.requested openings.old) (O.requested openings.new) (plans_in self.old) (plans_in self.new) }
         ensures added { O.added openings.new ≡ O.added openings.old }
         ensures answered { O.answers openings.new ≡ O.answers openings.old }
         ensures no_more { O.no_more openings.old → O.no_more openings.new }
-        ensures all { O.none_to_close openings.new ⊎ TookMany (O.requested openings.old) (O.requested openings.new) }
+        ensures all { O.none_to_close openings.new (length (plans_in self.old)) ⊎ TookMany (O.requested openings.old) (O.requested openings.new) }
         ensures latest { self.new.latest ≡ self.old.latest }
     {
         for _ in 0..MAX_ROUTES {
             let Some(route) = openings.next_close(self.plans.len()) else {
                 return;
             };
-            self.close_from(route, round);
+            let plan = self.plan(route).closed_from(round);
+            self.set(route, plan);
         }
     }
 
@@ -183,24 +175,6 @@ impl Plans {
         self.due = round;
     }
 
-    // Makes a route visible in this round if no other visible route has its name; otherwise it waits.
-    fn open_one(&mut self, names: &mut Names, route: usize, round: u64)
-        requires known { length (plans_in self.old) ≡ length (names_of names.old) }
-        requires route { route < length (plans_in self.old) }
-        ensures opens { OpensOne round route (plans_in self.old) (plans_in self.new) (names_of names.old) (names_of names.new) }
-        ensures latest { self.new.latest ≡ self.old.latest }
-    {
-        let mut plan = self.plan(route);
-        if names.is_unused(route) {
-            names.show(route);
-            plan.open_round = round;
-            self.set(route, plan);
-        } else {
-            plan.open_round = NEVER;
-            self.set(route, plan);
-        }
-    }
-
     // Makes the routes visible that open in this round, and those that wait, in the order of their indexes. One whose
     // name another visible route has waits.
     fn open(&mut self, names: &mut Names, round: u64)
@@ -210,13 +184,22 @@ impl Plans {
         ensures latest { self.new.latest ≡ self.old.latest }
     {
         for route in 0..self.plans.len() {
-            if self.plan(route).may_open(round) {
-                self.open_one(names, route, round);
+            let mut plan = self.plan(route);
+            if plan.may_open(round) {
+                if names.is_unused(route) {
+                    names.show(route);
+                    plan.open_round = round;
+                    self.set(route, plan);
+                } else {
+                    plan.open_round = NEVER;
+                    self.set(route, plan);
+                }
             }
         }
     }
 
-    // Closes the routes that are to close in this round.
+    // Offers Close to each visible route that is due, or to each visible one, in the order of their indexes, and notes the next
+    // round in which a route may open or close.
     fn close<R: Wait, G: Hints>(
         &mut self,
         task: &PollerTask<R, G>,
@@ -234,12 +217,13 @@ impl Plans {
         ensures latest { self.new.latest ≡ self.old.latest }
     {
         let plans = self.plans.as_slice();
-        let closing = Closing {
-            round,
-            closes_all,
-            latest: self.latest,
-        };
-        close(task, plans, closing, names, ends);
+        let mut route = 0;
+        for plan in plans {
+            if plan.is_over(round, closes_all) && names.shows(route) {
+                let _ = close_one(task, self.latest, names, ends, route);
+            }
+            route += 1;
+        }
         self.due = next_due(plans, names, round);
     }
 

@@ -1,6 +1,6 @@
 //! The inputs of a poller and of a round, apart from the devices, the names and the ends of the routes.
 
-ghost use Rattle.std.specs.Prelude.{◌≡◌, ◌<◌, ◌≤◌, ℕ, true, false};
+ghost use Rattle.std.specs.Prelude.{◌<◌, ◌≤◌, ℕ};
 
 use crate::signals::Hints;
 use srt_cookie::Secret;
@@ -54,8 +54,8 @@ pub(crate) struct RoundContext<'a, 'b, R, G> {
     pub(crate) lobby: Classifier<'a, 'b>,
     /// The hints.
     pub(crate) signals: &'a G,
-    /// The round checks all outboxes, whatever their hints are.
-    pub(crate) all: bool,
+    /// The number of the round.
+    pub(crate) round: u64,
 }
 
 impl<R, G: Hints> RoundContext<'_, '_, R, G> {
@@ -66,19 +66,5 @@ impl<R, G: Hints> RoundContext<'_, '_, R, G> {
         ensures rest { (r : ℕ) → route ≤ r → r < result → G.rests self.now.signals.now r }
     {
         self.signals.next_outbox_ready(route).max(route)
-    }
-
-    /// Returns the first route from this one on to take replies from: this one if the round checks all, otherwise the
-    /// first one with a hint.
-    #[inline(always)]
-    pub(crate) fn next_route(&self, route: usize) -> usize
-        ensures later { route ≤ result }
-        ensures all { self.now.all ≡ true → result ≡ route }
-        ensures rest { (r : ℕ) → route ≤ r → r < result → (self.now.all ≡ false) × G.rests self.now.signals.now r }
-    {
-        if self.all {
-            return route;
-        }
-        self.next_hinted(route)
     }
 }

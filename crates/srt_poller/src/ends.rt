@@ -1,13 +1,12 @@
 //! The poller's ends of a route's queues.
 
-ghost use Rattle.std.specs.Prelude.{◌≡◌, ◌<◌, ◌≤◌, ◌^◌, true, false, OnOk, IfErr, drop, length};
+ghost use Rattle.std.specs.Prelude.{◌≡◌, ◌<◌, ◌≤◌, ◌^◌, drop, length};
 
 use crate::buffers::Buffers;
 use crate::context::RoundContext;
-use crate::latest::Latest;
 use crate::memory::MemoryRefused;
 use srt_mailbox::{Drain, InboxFull, Ingress};
-use srt_types::{Item, Peer};
+use srt_types::Peer;
 use std::sync::Wait;
 
 /// The poller's ends of the queues of one route.
@@ -32,7 +31,7 @@ pub(crate) enum Offered {
 
 impl Ends {
     ghost use Rattle.srt_poller.specs.Devices.{arrival};
-    ghost use Rattle.srt_poller.specs.Pollers.{OfferedAs, ClosedAs, IsOf};
+    ghost use Rattle.srt_poller.specs.Pollers.{OfferedAs};
 
     /// Offers a copy of a datagram of 16 bytes or more to the route. Its timestamp is in microseconds. The bytes after the
     /// first 16 are copied into a body that was returned, or into a new one, which is all that a poller allocates.
@@ -62,21 +61,6 @@ impl Ends {
         {
             Ok(()) => Offered::Accepted,
             Err(full) => Offered::Full(full),
-        }
-    }
-
-    /// Offers Close to the route. An error is evidence that the inbox was full; then nothing changed. Doesn't allocate.
-    pub(crate) fn offer_close<R: Wait>(&mut self, rt: &R, latest: Latest) -> Result<(), InboxFull>
-        ensures ok { OnOk result (ClosedAs true latest.moment self.old.ingress self.new.ingress) }
-        ensures full { IfErr result (λ full. ClosedAs false latest.moment self.old.ingress self.new.ingress × IsOf self.old.ingress full) }
-        ensures drain { self.new.drain ≡ self.old.drain }
-    {
-        let item = Item::Close {
-            moment: latest.moment,
-        };
-        match self.ingress.offer(rt, item) {
-            Ok(()) => Ok(()),
-            Err(full) => Err(full.evidence),
         }
     }
 }

@@ -37,8 +37,8 @@ pub trait Openings {
     /// What is known of openings that have returned no added route when they were asked for the next one. By default nothing.
     ghost no_more: { Self → Type 0 } = { λ _. Unit {0} };
 
-    /// The same, when they were asked for the next one that is to close.
-    ghost none_to_close: { Self → Type 0 } = { λ _. Unit {0} };
+    /// The same, when they were asked for the next one that is to close, of this many routes.
+    ghost none_to_close: { Self → (routes : ℕ) → Type 0 } = { λ _ _. Unit {0} };
 
     /// Whether there may be a route that is added or is to close. Polled before each round, so it should cost no more than
     /// a load or two. If it is wrong, changes are made in a later round.
@@ -63,7 +63,7 @@ pub trait Openings {
         ensures requested { requested self.new ≡ joined (requested self.old) (closings result) }
         ensures answered { answers self.new ≡ answers self.old }
         ensures no_more { no_more self.old → no_more self.new }
-        ensures all { IfNone result (none_to_close self.new) };
+        ensures all { IfNone result (none_to_close self.new routes) };
 }
 
 /// No route is added, and none is requested to close.

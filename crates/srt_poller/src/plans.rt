@@ -4,7 +4,7 @@ ghost use Rattle.std.specs.Prelude.{◌≡◌, ◌<◌, ◌≤◌, ◌+◌, ◌^
 ghost use Rattle.srt_lobby.specs.Names.{names_of};
 ghost use Rattle.srt_poller.specs.Schedules.{offered, is_due};
 ghost use Rattle.srt_poller.specs.Plans.{schedule_of};
-ghost use Rattle.srt_poller.specs.Beginnings.{RouteRests, RestBetween, Closes, AreClosed};
+ghost use Rattle.srt_poller.specs.Beginnings.{RouteRests, RestBetween, Closes};
 
 use crate::context::PollerTask;
 use crate::ends::Ends;
@@ -24,17 +24,6 @@ pub(crate) struct Plan {
     pub(crate) open_round: u64,
     /// The round from which it is closed, if there is one.
     pub(crate) close_round: Option<u64>,
-}
-
-/// In which round routes are closed, and with which timestamp.
-#[derive(Clone, Copy)]
-pub(crate) struct Closing {
-    /// The number of the round.
-    pub(crate) round: u64,
-    /// The round closes all visible routes.
-    pub(crate) closes_all: bool,
-    /// The timestamp of Close.
-    pub(crate) latest: Latest,
 }
 
 impl Plan {
@@ -72,7 +61,7 @@ impl Plan {
     /// Whether the route is closed in this round, if it is visible: the round closes all, or the route's closing round is
     /// this one or an earlier one.
     #[inline(always)]
-    fn is_over(&self, round: u64, closes_all: bool) -> bool
+    pub(crate) fn is_over(&self, round: u64, closes_all: bool) -> bool
         ensures { result ≡ is_due closes_all round self.now.close_round }
     {
         closes_all | self.closes_by(round)
@@ -160,8 +149,8 @@ impl Plan {
     }
 }
 
-// Offers Close with the latest timestamp to a route, and hides it if its inbox accepted that. Returns whether it did.
-fn close_one<R: Wait, G: Hints>(
+/// Offers Close with the latest timestamp to a route, and hides it if its inbox accepted that. Returns whether it did.
+pub(crate) fn close_one<R: Wait, G: Hints>(
     task: &PollerTask<R, G>,
     latest: Latest,
     names: &mut Names,
@@ -173,34 +162,12 @@ fn close_one<R: Wait, G: Hints>(
     ensures closes { Closes latest.moment (offered route result) (names_of names.old) (names_of names.new) ends.old ends.new }
     ensures noticed { result ≡ true → G.noticed task.now.signals.now route }
 {
-    let Ok(()) = ends[route].offer_close(task.rt, latest) else {
+    let Ok(()) = ends[route].ingress.offer_close(task.rt, latest.moment) else {
         return false;
     };
     task.signals.polled(route);
     names.hide(route);
     true
-}
-
-/// Offers Close to each visible route that is due, or to each visible one, in the order of their indexes.
-pub(crate) fn close<R: Wait, G: Hints>(
-    task: &PollerTask<R, G>,
-    plans: &[Plan],
-    closing: Closing,
-    names: &mut Names,
-    ends: &mut [Ends],
-)
-    requires known { length plans.now ≡ length (names_of names.old) }
-    requires ends { length ends.old ≡ length (names_of names.old) }
-    ensures { AreClosed closing.closes_all closing.latest.moment closing.round (map schedule_of plans.now) (names_of names.old) (names_of names.new)
-        ends.old ends.new }
-{
-    let mut route = 0;
-    for plan in plans {
-        if plan.is_over(closing.round, closing.closes_all) && names.shows(route) {
-            let _ = close_one(task, closing.latest, names, ends, route);
-        }
-        route += 1;
-    }
 }
 
 /// Returns the first round after this one in which a route may open or close, if the rounds until then don't close all;

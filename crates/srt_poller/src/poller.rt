@@ -1,6 +1,6 @@
 //! The steps of a poller's round after its beginning: `resend`, then `listen`, then `drain`.
 
-ghost use Rattle.std.specs.Prelude.{◌≡◌, ℕ, ◌<◌, ◌≤◌, ◌+◌, ◌*◌, ◌^◌, ◌%◌, ◌==◌, ◌||◌, ◌⊎◌, true, false, None, IfSome, List, length, slice_index_or};
+ghost use Rattle.std.specs.Prelude.{◌≡◌, ℕ, ◌<◌, ◌≤◌, ◌+◌, ◌*◌, ◌^◌, ◌%◌, ◌==◌, ◌||◌, ◌⊎◌, true, false, None, IfSome, IfNone, List, length, slice_index_or};
 ghost use Rattle.srt_lobby.specs.Names.{RouteName};
 ghost use Rattle.srt_poller.specs.Devices.{Carried, heard, carried};
 ghost use Rattle.srt_poller.specs.Devices.{datagram};
@@ -76,7 +76,18 @@ pub(crate) enum Left {
 }
 
 impl Left {
-    ghost use Rattle.srt_poller.specs.inside.Visits.{is_kept};
+    ghost use Rattle.srt_poller.specs.inside.Visits.{is_kept, is_open};
+
+    /// Whether the drain stopped before the outbox was found empty.
+    #[inline(always)]
+    pub(crate) fn is_open(&self) -> bool
+        ensures { result ≡ is_open self.now }
+    {
+        match self {
+            Left::Many | Left::Kept => true,
+            Left::Resting | Left::Empty(_) => false,
+        }
+    }
 
     #[inline(always)]
     fn is_kept(&self) -> bool
@@ -138,8 +149,9 @@ fn report_handshake<G: PollerObserver>(signals: &G, route: usize, peer: Peer, re
 impl Poller {
     ghost use Rattle.srt_lobby.specs.declared.classes.Class.TheVariants.{Route};
     ghost use Rattle.srt_poller.specs.declared.ends.Ends.{Ends as TheEnds};
-    ghost use Rattle.srt_poller.specs.inside.Visits.{IsTaken, IsKeptBy, IsLeft, IsKeptAfter};
-    ghost use Rattle.srt_poller.specs.Reports.{nothing, with_kept};
+    ghost use Rattle.srt_poller.specs.inside.Visits.{IsTaken, IsKeptBy, IsLeft, IsKeptAfter, IsThrough, IsNoted};
+    ghost use Rattle.srt_poller.specs.inside.Served.{more_by, IsServed};
+    ghost use Rattle.srt_poller.specs.Reports.{nothing, one_more, with_kept};
     ghost use Rattle.srt_poller.specs.Pollers.{setting_in, named_in, arrival_in, kept_in, begun_phase, waiting, sending, listening, Waited, RoundMade};
     ghost use Rattle.srt_poller.specs.Pollers.{WaitFailed, Arrived, Listened, Resent, Replies};
 
@@ -147,6 +159,7 @@ impl Poller {
     pub(crate) fn new(alloc: Global) -> Poller
         ensures kept { result.kept ≡ None }
         ensures report { result.report ≡ nothing }
+        ensures left { result.left ≡ false }
     {
         Poller {
             datagram: [0; 2048],
@@ -176,9 +189,11 @@ impl Poller {
     /// Sends the kept reply again, if there is one.
     #[inline(always)]
     pub(crate) fn resend<W: Wire, G: PollerObserver>(&mut self, signals: &G, wire: &mut W)
-        ensures { (ends : List TheEnds) →
+        ensures went { (ends : List TheEnds) →
             Resent (G.knows signals.now) (begun_phase self.old) (sending (carried (W.handed wire.old) (W.attempts wire.old)) ends self.old)
             (sending (carried (W.handed wire.new) (W.attempts wire.new)) ends self.new) }
+        ensures read { self.new.report.read ≡ self.old.report.read }
+        ensures left { self.new.left ≡ self.old.left }
     {
         let Some(kept) = self.kept else {
             return;
@@ -201,6 +216,9 @@ impl Poller {
         ensures failed { result ≡ false →
             WaitFailed (G.knows signals.now) (waiting (heard (S.gave source.old) (S.calls source.old)) self.old)
             (waiting (heard (S.gave source.new) (S.calls source.new)) self.new) }
+        ensures reported { result ≡ false → (G.knows signals.now).fault }
+        ensures read { self.new.report.read ≡ self.old.report.read }
+        ensures left { self.new.left ≡ self.old.left }
     {
         match source.wait() {
             Polled::Ready => true,
@@ -228,6 +246,8 @@ impl Poller {
         ensures went { (class : Sorting) (names : List RouteName) (wire : Carried) → let arrival = arrival_in incoming self.old in
             class names arrival.datagram arrival.moment ≡ Route route →
             Arrived (setting_of class (G.knows context.now.signals.now)) names arrival (sending wire ends.old self.old) (sending wire ends.new self.new) }
+        ensures read { self.new.report.read ≡ one_more self.old.report.read }
+        ensures left { self.new.left ≡ self.old.left }
     {
         let bytes = &self.datagram[..incoming.len];
         let Incoming { peer, moment, .. } = incoming;
@@ -251,9 +271,11 @@ impl Poller {
         incoming: Incoming,
     )
         requires { length ends.old ≡ length (named_in context.now.lobby) }
-        ensures { Arrived (setting_in context.now.lobby (G.knows context.now.signals.now)) (named_in context.now.lobby) (arrival_in incoming self.old)
+        ensures went { Arrived (setting_in context.now.lobby (G.knows context.now.signals.now)) (named_in context.now.lobby) (arrival_in incoming self.old)
             (sending (carried (W.handed wire.old) (W.attempts wire.old)) ends.old self.old)
             (sending (carried (W.handed wire.new) (W.attempts wire.new)) ends.new self.new) }
+        ensures read { self.new.report.read ≡ one_more self.old.report.read }
+        ensures left { self.new.left ≡ self.old.left }
     {
         let Classifier { secret, names } = context.lobby;
         let bytes = &self.datagram[..incoming.len];
@@ -283,10 +305,13 @@ impl Poller {
         latest: &mut Latest,
     ) -> Option<u32>
         requires { length ends.old ≡ length (named_in context.now.lobby) }
-        ensures { Listened (setting_in context.now.lobby (G.knows context.now.signals.now)) (named_in context.now.lobby) 257
+        ensures went { Listened (setting_in context.now.lobby (G.knows context.now.signals.now)) (named_in context.now.lobby) 257
             (listening (heard (S.gave source.old) (S.calls source.old)) (carried (W.handed wire.old) (W.attempts wire.old)) ends.old self.old)
             (listening (heard (S.gave source.new) (S.calls source.new)) (carried (W.handed wire.new) (W.attempts wire.new)) ends.new self.new)
             latest.old.moment latest.new.moment }
+        ensures number { IfSome result (λ n. (n ≤ 256) × (self.new.report.read ≡ more_by n self.old.report.read)) }
+        ensures failed { IfNone result ((self.new.report.read ≡ self.old.report.read) × (G.knows context.now.signals.now).fault) }
+        ensures left { self.new.left ≡ self.old.left }
     {
         if !self.wait(context.signals, source) {
             return None;
@@ -325,6 +350,7 @@ impl Poller {
             (sending (carried (W.handed wire.new) (W.attempts wire.new)) ends.new self.new) }
         ensures kept { IsKeptBy result self.new.kept }
         ensures taken { (e : TheEnds) → IsTaken result (slice_index_or ends.old route e).drain (slice_index_or ends.new route e).drain }
+        ensures read { self.new.report.read ≡ self.old.report.read }
     {
         let end = &mut ends[route];
         match end.drain.take(context.rt) {
@@ -350,7 +376,7 @@ impl Poller {
     }
 
     /// Sends at most 64 replies of a route, until one is kept, unless its outbox has none by its hint and the round doesn't
-    /// check all. Returns how its outbox was left.
+    /// check `all`. Returns how its outbox was left.
     #[inline(always)]
     pub(crate) fn drain_route<R: Wait, W: Wire, G: Signals>(
         &mut self,
@@ -358,6 +384,7 @@ impl Poller {
         wire: &mut W,
         ends: &mut [Ends],
         route: usize,
+        all: bool,
     ) -> Left
         requires route { route < length ends.old }
         requires kept { self.old.kept ≡ None }
@@ -365,23 +392,20 @@ impl Poller {
             (sending (carried (W.handed wire.old) (W.attempts wire.old)) ends.old self.old)
             (sending (carried (W.handed wire.new) (W.attempts wire.new)) ends.new self.new) }
         ensures kept { IsKeptAfter result self.new.kept }
-        ensures left { (e : TheEnds) → IsLeft context.now.all (G.rests context.now.signals.now route) result
+        ensures left { (e : TheEnds) → IsLeft all (G.rests context.now.signals.now route) result
             (slice_index_or ends.old route e).drain (slice_index_or ends.new route e).drain }
+        ensures read { self.new.report.read ≡ self.old.report.read }
     {
-        if !context.signals.take_outbox_ready(route) && !context.all {
+        if !context.signals.take_outbox_ready(route) && !all {
             return Left::Resting;
         }
         for _ in 0..REPLIES_PER_ROUTE {
             match self.drain_one(context, wire, ends, route) {
                 Drained::Gone => {}
                 Drained::Empty(empty) => return Left::Empty(empty),
-                Drained::Kept => {
-                    self.left = true;
-                    return Left::Kept;
-                }
+                Drained::Kept => return Left::Kept,
             }
         }
-        self.left = true;
         Left::Many
     }
 
@@ -404,26 +428,27 @@ impl Poller {
         }
     }
 
-    /// Sends replies of all routes, in the order of their indexes, until one is kept. Returns the routes whose outboxes were
-    /// drained, or passed over by their hints: all, unless a reply is kept.
+    /// Sends replies of all routes, in the order of their indexes, until one is kept; none may be kept before. The outboxes of
+    /// routes without a hint are passed over unless the round checks `all`. Returns the routes that were visited.
     #[inline(always)]
-    pub(crate) fn drain<R: Wait, W: Wire, G: Signals>(
+    fn drain_all<R: Wait, W: Wire, G: Signals>(
         &mut self,
         context: &RoundContext<R, G>,
         wire: &mut W,
         ends: &mut [Ends],
+        all: bool,
     ) -> Visits
+        requires { self.old.kept ≡ None }
         ensures went { Replies (G.knows context.now.signals.now) 0 0 (length ends.old) 0 (64 * length ends.old)
             (sending (carried (W.handed wire.old) (W.attempts wire.old)) ends.old self.old)
             (sending (carried (W.handed wire.new) (W.attempts wire.new)) ends.new self.new) }
         ensures visited { self.new.kept ≡ None → length ends.old ≤ result.next }
+        ensures through { IsThrough (length ends.old) result }
+        ensures all { result.all ≡ all }
+        ensures read { self.new.report.read ≡ self.old.report.read }
     {
-        let mut visits = Visits::new();
-        if self.kept.is_some() {
-            return visits;
-        }
         Poller::prefetch(context, ends);
-        self.left = false;
+        let mut visits = Visits::new(all);
         let mut route = 0;
         while route < ends.len() {
             let at = visits.pass(context);
@@ -436,6 +461,33 @@ impl Poller {
             }
             route = at + 1;
         }
+        visits
+    }
+
+    /// Sends replies of all routes, unless one is kept, and notes whether an outbox was left before it was found empty: the
+    /// next round then checks all of them, as each 64th does. Returns the routes whose outboxes were drained, or passed over
+    /// by their hints: all, unless a reply is kept.
+    #[inline(always)]
+    pub(crate) fn drain<R: Wait, W: Wire, G: Signals>(
+        &mut self,
+        context: &RoundContext<R, G>,
+        wire: &mut W,
+        ends: &mut [Ends],
+    ) -> Visits
+        ensures went { Replies (G.knows context.now.signals.now) 0 0 (length ends.old) 0 (64 * length ends.old)
+            (sending (carried (W.handed wire.old) (W.attempts wire.old)) ends.old self.old)
+            (sending (carried (W.handed wire.new) (W.attempts wire.new)) ends.new self.new) }
+        ensures visited { self.new.kept ≡ None → length ends.old ≤ result.next }
+        ensures checked { result.all ≡ (self.old.left || (context.now.round % 64 == 0)) }
+        ensures left { IsNoted (length ends.old) self.old.left self.new.kept result self.new.left }
+        ensures read { self.new.report.read ≡ self.old.report.read }
+    {
+        let all = self.checks_all(context.round);
+        if self.kept.is_some() {
+            return Visits::new(all);
+        }
+        let visits = self.drain_all(context, wire, ends, all);
+        self.left = visits.is_left();
         visits
     }
 
@@ -457,6 +509,9 @@ impl Poller {
             (listening (heard (S.gave source.new) (S.calls source.new)) (carried (W.handed wire.new) (W.attempts wire.new)) ends.new self.new)
             latest.old.moment latest.new.moment }
         ensures visited { self.new.kept ≡ None → length ends.old ≤ result.next }
+        ensures checked { result.all ≡ (self.old.left || (context.now.round % 64 == 0)) }
+        ensures left { IsNoted (length ends.old) self.old.left self.new.kept result self.new.left }
+        ensures served { IsServed (G.served context.now.signals.now) (G.knows context.now.signals.now).fault self.old.report.read self.new.report.read }
     {
         self.resend(context.signals, wire);
         serve_inline(

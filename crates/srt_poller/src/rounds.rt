@@ -1,6 +1,6 @@
 //! A poller between its rounds, and what happens in a round.
 
-ghost use Rattle.std.specs.Prelude.{◌≡◌, ◌+◌, ◌^◌, ◌<◌, ◌≤◌, ◌⊎◌, None, IfSome, IfNone, true, false, length};
+ghost use Rattle.std.specs.Prelude.{◌≡◌, ◌+◌, ◌^◌, ◌%◌, ◌<◌, ◌≤◌, ◌==◌, ◌||◌, ◌⊎◌, None, IfSome, IfNone, true, false, length};
 ghost use Rattle.srt_lobby.specs.Names.{names_of};
 ghost use Rattle.srt_poller.specs.Pollers.{lobby_setting, round_state, listening, begun_phase};
 ghost use Rattle.srt_poller.specs.Devices.{heard, carried};
@@ -9,6 +9,8 @@ ghost use Rattle.srt_poller.specs.Beginnings.{RestBetween};
 ghost use Rattle.srt_poller.specs.Plans.{never, AreTimely};
 ghost use Rattle.srt_poller.specs.Changes.{plans_in, RoundWent, RoundsChanging};
 ghost use Rattle.srt_poller.specs.Takings.{recorded, TookAllIn};
+ghost use Rattle.srt_poller.specs.inside.Visits.{IsNoted};
+ghost use Rattle.srt_poller.specs.inside.Served.{IsServed};
 
 use crate::changing::Plans;
 use crate::context::{Classifier, PollerTask, RoundContext, RoundOrder};
@@ -17,6 +19,7 @@ use crate::ends::Ends;
 use crate::poller::Poller;
 use crate::signals::{Orders, Signals};
 use crate::tables::RouteTable;
+use crate::visits::Visits;
 use srt_lobby::Names;
 use srt_supervision::Order;
 use srt_types::Schedule;
@@ -67,7 +70,7 @@ impl PollerRounds {
     }
 
     /// Makes a round: begins it, sends the kept reply again, waits and reads, lets the polling thread serve routes, and
-    /// sends replies. Its changes have been taken.
+    /// sends replies. Its changes have been taken. Returns the routes whose outboxes were drained or passed over.
     #[inline(always)]
     pub(crate) fn round<R: Wait, S: Source, W: Wire, G: Signals>(
         &mut self,
@@ -76,7 +79,7 @@ impl PollerRounds {
         ends: &mut [Ends],
         source: &mut S,
         wire: &mut W,
-    )
+    ) -> Visits
         requires known { length (plans_in self.old.plans) ≡ length (names_of names.old) }
         requires ends { length ends.old ≡ length (names_of names.old) }
         requires rest { RestBetween self.old.next self.old.plans.due (plans_in self.old.plans) (names_of names.old) }
@@ -89,6 +92,12 @@ impl PollerRounds {
             self.old.plans.latest.moment self.new.plans.latest.moment }
         ensures rest { RestBetween self.new.next self.new.plans.due (plans_in self.new.plans) (names_of names.new) }
         ensures next { self.new.next ≡ self.old.next + 1 }
+        ensures ends { length ends.new ≡ length (names_of names.new) }
+        ensures visited { self.new.poller.kept ≡ None → length ends.new ≤ result.next }
+        ensures checked { result.all ≡ (self.old.poller.left || (self.old.next % 64 == 0)) }
+        ensures left { IsNoted (length ends.new) self.old.poller.left self.new.poller.kept result self.new.poller.left }
+        ensures served { IsServed (G.served order.now.task.now.signals.now) (G.knows order.now.task.now.signals.now).fault
+            self.old.poller.report.read self.new.poller.report.read }
     {
         let task = order.task;
         let round = self.next;
@@ -101,12 +110,11 @@ impl PollerRounds {
                 names,
             },
             signals: task.signals,
-            all: self.poller.checks_all(round),
+            round,
         };
-        let _ = self
-            .poller
-            .make_round(&context, source, wire, ends, &mut self.plans.latest);
         self.next = round + 1;
+        self.poller
+            .make_round(&context, source, wire, ends, &mut self.plans.latest)
     }
 
     /// Makes at most the rounds of the task, and returns how many were made.
@@ -144,9 +152,8 @@ impl PollerRounds {
             let Some(closes_all) = ask(task.signals) else {
                 return made;
             };
-            table.take_changes(&mut self.plans, names, self.next);
             let order = RoundOrder { task, closes_all };
-            table.round(self, &order, names, source, wire);
+            let _ = table.round(self, &order, names, source, wire);
         }
         task.rounds
     }

@@ -374,21 +374,23 @@ impl ClockScript {
 }
 
 impl Clock for ClockScript {
-    ghost use Rattle.srt_poller.specs.Scripts.{moment_at, moments_of, moments_given};
+    ghost use Rattle.srt_poller.specs.Scripts.{moment_at, moment_after, moments_of, moments_given};
 
     fn next(&mut self) -> u64
         ensures limit { result < 2 ^ 62 }
         ensures returned { ⟦<ClockScript as Clock>⟧.returned self.old self.new result }
         ensures does { result ≡ moment_at (moments_of self.old) (moments_given self.old) }
         ensures moments { moments_of self.new ≡ moments_of self.old }
+        ensures given { moments_given self.new ≡ moment_after (length (moments_of self.old)) (moments_given self.old) }
     {
         let Some(moment) = self.moments.get(self.at) else {
             return 0;
         };
-        let moment = *moment;
+        let moment = (*moment).min((1 << 62) - 1);
         if self.at + 1 < self.moments.len() {
             self.at += 1;
+            return moment;
         }
-        moment.min((1 << 62) - 1)
+        moment
     }
 }

@@ -3,19 +3,19 @@
 ghost use Rattle.std.specs.Prelude.{◌≤◌};
 ghost use Rattle.std.specs.Vec.{vec_capacity};
 
-use crate::changing::Plans;
 use crate::context::RoundOrder;
 use crate::devices::{Source, Wire};
 use crate::ends::Ends;
 use crate::openings::Openings;
 use crate::rounds::PollerRounds;
 use crate::signals::Signals;
+use crate::visits::Visits;
 use srt_lobby::Names;
 use std::sync::Wait;
 
 /// The poller's ends of all routes, and the changes of the routes.
 pub(crate) trait RouteTable {
-    ghost use Rattle.std.specs.Prelude.{◌≡◌, ◌<◌, ◌+◌, Bool, Option, List, length};
+    ghost use Rattle.std.specs.Prelude.{◌≡◌, ◌<◌, ◌≤◌, ◌+◌, ◌%◌, ◌==◌, ◌||◌, Bool, Option, None, List, length};
     ghost use Rattle.std.specs.Borrow.{GName};
     ghost use Rattle.srt_lobby.specs.Names.{names_of};
     ghost use Rattle.srt_poller.specs.declared.ends.Ends.{Ends as TheEnds};
@@ -23,9 +23,11 @@ pub(crate) trait RouteTable {
     ghost use Rattle.srt_poller.specs.Pollers.{lobby_setting, listening, begun_phase};
     ghost use Rattle.srt_poller.specs.Beginnings.{RestBetween};
     ghost use Rattle.srt_poller.specs.Openings.{RouteReports};
-    ghost use Rattle.srt_poller.specs.Takings.{OpeningsFacts, recorded, TookAll};
+    ghost use Rattle.srt_poller.specs.Takings.{OpeningsFacts, recorded};
     ghost use Rattle.srt_poller.specs.Plans.{never};
-    ghost use Rattle.srt_poller.specs.Changes.{plans_in, TookChanges, RoundWent};
+    ghost use Rattle.srt_poller.specs.Changes.{plans_in, ChangedRound};
+    ghost use Rattle.srt_poller.specs.inside.Visits.{IsNoted};
+    ghost use Rattle.srt_poller.specs.inside.Served.{IsServed};
 
     /// The ends of all routes, in the order of their indexes.
     ghost list: { Self → List TheEnds };
@@ -45,22 +47,8 @@ pub(crate) trait RouteTable {
     /// What it borrows. Each call keeps it.
     ghost borrows: { Self → List GName };
 
-    /// Takes all changes before a round begins: routes that are added, and those that are to close.
-    fn take_changes(&mut self, plans: &mut Plans, names: &mut Names, round: u64)
-        requires known { length (plans_in plans.old) ≡ length (names_of names.old) }
-        requires ends { length (list self.old) ≡ length (names_of names.old) }
-        requires room { room self.old }
-        requires rest { RestBetween round plans.old.due (plans_in plans.old) (names_of names.old) }
-        ensures took { TookChanges round (reports self.old) (reports self.new) (plans_in plans.old) (plans_in plans.new)
-            (names_of names.old) (names_of names.new) (list self.old) (list self.new) }
-        ensures taken { TookAll facts (length (names_of names.old)) (length (names_of names.new))
-            (recorded (answers self.old) (reports self.old)) (recorded (answers self.new) (reports self.new)) }
-        ensures rest { RestBetween round plans.new.due (plans_in plans.new) (names_of names.new) }
-        ensures latest { plans.new.latest ≡ plans.old.latest }
-        ensures room { room self.new }
-        ensures same { borrows self.new ≡ borrows self.old };
-
-    /// Makes a round, whose changes have been taken (`PollerRounds::round`).
+    /// Takes all changes before a round, routes that are added and those that are to close, and makes it
+    /// (`PollerRounds::round`).
     fn round<R: Wait, S: Source, W: Wire, G: Signals>(
         &mut self,
         rounds: &mut PollerRounds,
@@ -68,14 +56,14 @@ pub(crate) trait RouteTable {
         names: &mut Names,
         source: &mut S,
         wire: &mut W,
-    )
+    ) -> Visits
         requires known { length (plans_in rounds.old.plans) ≡ length (names_of names.old) }
         requires ends { length (list self.old) ≡ length (names_of names.old) }
         requires room { room self.old }
         requires rest { RestBetween rounds.old.next rounds.old.plans.due (plans_in rounds.old.plans) (names_of names.old) }
         requires fits { rounds.old.next < never }
-        ensures went { RoundWent (lobby_setting order.now.task.now.secret.now (G.knows order.now.task.now.signals.now)) order.now.closes_all
-            rounds.old.next rounds.old.plans.due (plans_in rounds.old.plans)
+        ensures went { ChangedRound (lobby_setting order.now.task.now.secret.now (G.knows order.now.task.now.signals.now)) facts order.now.closes_all
+            rounds.old.next (recorded (answers self.old) (reports self.old)) (recorded (answers self.new) (reports self.new)) (plans_in rounds.old.plans)
             (plans_in rounds.new.plans) (names_of names.old) (names_of names.new) (list self.old) (begun_phase rounds.old.poller)
             (λ es. listening (heard (S.gave source.old) (S.calls source.old)) (carried (W.handed wire.old) (W.attempts wire.old)) es rounds.old.poller)
             (listening (heard (S.gave source.new) (S.calls source.new)) (carried (W.handed wire.new) (W.attempts wire.new)) (list self.new)
@@ -83,9 +71,12 @@ pub(crate) trait RouteTable {
             rounds.old.plans.latest.moment rounds.new.plans.latest.moment }
         ensures rest { RestBetween rounds.new.next rounds.new.plans.due (plans_in rounds.new.plans) (names_of names.new) }
         ensures next { rounds.new.next ≡ rounds.old.next + 1 }
-        ensures ends { length (list self.new) ≡ length (list self.old) }
-        ensures reports { reports self.new ≡ reports self.old }
-        ensures answers { answers self.new ≡ answers self.old }
+        ensures ends { length (list self.new) ≡ length (names_of names.new) }
+        ensures visited { rounds.new.poller.kept ≡ None → length (list self.new) ≤ result.next }
+        ensures checked { result.all ≡ (rounds.old.poller.left || (rounds.old.next % 64 == 0)) }
+        ensures left { IsNoted (length (list self.new)) rounds.old.poller.left rounds.new.poller.kept result rounds.new.poller.left }
+        ensures served { IsServed (G.served order.now.task.now.signals.now) (G.knows order.now.task.now.signals.now).fault
+            rounds.old.poller.report.read rounds.new.poller.report.read }
         ensures room { room self.new }
         ensures same { borrows self.new ≡ borrows self.old };
 }
@@ -115,9 +106,6 @@ impl RouteTable for FixedRoutes<'_> {
     ghost borrows = { λ t. t.ends.ghost_name ∷ [] };
 
     #[inline(always)]
-    fn take_changes(&mut self, _plans: &mut Plans, _names: &mut Names, _round: u64) {}
-
-    #[inline(always)]
     fn round<R: Wait, S: Source, W: Wire, G: Signals>(
         &mut self,
         rounds: &mut PollerRounds,
@@ -125,8 +113,8 @@ impl RouteTable for FixedRoutes<'_> {
         names: &mut Names,
         source: &mut S,
         wire: &mut W,
-    ) {
-        rounds.round(order, names, self.ends, source, wire);
+    ) -> Visits {
+        rounds.round(order, names, self.ends, source, wire)
     }
 }
 
@@ -158,11 +146,6 @@ impl<O: Openings> RouteTable for ChangingRoutes<'_, O> {
     ghost borrows = { λ t. t.ends.ghost_name ∷ t.openings.ghost_name ∷ [] };
 
     #[inline(always)]
-    fn take_changes(&mut self, plans: &mut Plans, names: &mut Names, round: u64) {
-        plans.take_changes(self.openings, names, self.ends, round);
-    }
-
-    #[inline(always)]
     fn round<R: Wait, S: Source, W: Wire, G: Signals>(
         &mut self,
         rounds: &mut PollerRounds,
@@ -170,7 +153,10 @@ impl<O: Openings> RouteTable for ChangingRoutes<'_, O> {
         names: &mut Names,
         source: &mut S,
         wire: &mut W,
-    ) {
-        rounds.round(order, names, self.ends.as_mut_slice(), source, wire);
+    ) -> Visits {
+        rounds
+            .plans
+            .take_changes(self.openings, names, self.ends, rounds.next);
+        rounds.round(order, names, self.ends.as_mut_slice(), source, wire)
     }
 }

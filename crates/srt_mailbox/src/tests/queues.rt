@@ -11,7 +11,7 @@ use crate::tests::datagrams::{
     subscriber_conclusion,
 };
 use crate::tests::{Fixed, entry, peer};
-use crate::{ClockEnd, Drain, Ingress, RouteCell, open_route};
+use crate::{ClockEnd, Drain, Ingress, RouteCell, Serve, open_route};
 use srt_types::{Item, Turned};
 use std::alloc::{AllocError, Global};
 use std::collections::VecDeque;

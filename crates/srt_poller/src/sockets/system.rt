@@ -2,7 +2,7 @@
 //! and its answer for contracts alone. Nothing else calls the system, nor notes a call, so that all else is proved to call with
 //! these values, so often, and to use each answer.
 
-ghost use Rattle.std.specs.Prelude.{◌≡◌, ◌≢◌, ℕ, ◌≤◌, ◌∷◌, ◌++◌, [], IfOk, IfErr, OnOk};
+ghost use Rattle.std.specs.Prelude.{◌≡◌, ◌≢◌, ℕ, ◌≤◌, pos, ◌≤ℤ◌, ◌<ℤ◌, ◌∷◌, ◌++◌, [], IfOk, IfErr, OnOk};
 ghost use Rattle.std.specs.Duration.{as_nanos};
 ghost use Rattle.std.specs.IoError.{error_kind};
 ghost use Rattle.std.specs.declared.net.socket_addr.SocketAddr.{SocketAddr as TheAddress};
@@ -132,8 +132,21 @@ fn answer_to_read(answer: io::Result<(usize, SocketAddr)>) -> Received
 }
 
 /// Whether a call of C succeeded; otherwise the system's number of the error.
-fn status_of(status: i32) -> Result<(), i32> {
+fn status_of(status: i32) -> Result<(), i32>
+    ensures done { OnOk result (pos 0 ≤ℤ status) }
+    ensures refused { IfErr result (λ _. status <ℤ pos 0) }
+{
     if status < 0 { Err(errno()) } else { Ok(()) }
+}
+
+/// A tenth of a millisecond.
+fn short_nap() -> timespec
+    ensures { (result.tv_sec ≡ pos 0) × (result.tv_nsec ≡ pos 100_000) }
+{
+    timespec {
+        tv_sec: 0,
+        tv_nsec: NAP_NS,
+    }
 }
 
 impl SystemCalls {
@@ -224,10 +237,7 @@ impl SystemCalls {
     pub(super) fn nap(&mut self)
         ensures { notes_of self.new ≡ notes_of self.old ++ nap_note ∷ [] }
     {
-        let requested = timespec {
-            tv_sec: 0,
-            tv_nsec: NAP_NS,
-        };
+        let requested = short_nap();
         let mut left = timespec {
             tv_sec: 0,
             tv_nsec: 0,

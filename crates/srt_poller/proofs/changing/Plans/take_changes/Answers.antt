@@ -3,6 +3,7 @@ use Rattle.std.proofs.lemmas.List.{length-append, length-map}
 use Rattle.srt_lobby.specs.Names.{names_of}
 use Rattle.srt_poller.specs.Devices.{joined}
 use Rattle.srt_poller.specs.Openings.{NewRoute, ReportedRoute, reported_route, names_in, route_reports}
+use Rattle.srt_poller.specs.Plans.{waiting}
 use Rattle.srt_poller.specs.Changes.{plans_in, TookAddedRoutes, TookClosings}
 use Rattle.srt_poller.specs.Takings.{recorded}
 use Rattle.srt_poller.proofs.Additions.{took_nothing, took_changes}
@@ -65,11 +66,20 @@ returns-clause-taken g c =
     let none : g.O.Openings.no_more new ⊎ (511 ≤ length (names_of c.take_newcomers.new.names)) =
     elim c.take_newcomers.ensures.all [ inl none ↦ inl (c.take_closings.ensures.no_more none) | inr full ↦ inr full ] in
     let closings = c.take_closings.ensures.requested in
+    let routes : length (plans_in c.take_newcomers.new.self) ≡ length (names_of c.take_newcomers.new.names) =
+    omega (
+      arith,
+      ap length came.2.planned,
+      length-append (plans_in c.args.self.now) (map (λ (n : NewRoute). waiting) came.0),
+      length-map came.0 (λ (n : NewRoute). waiting),
+      many,
+      c.requires.known,
+    ) in
     took_all_of new g.O.Openings.unchanged g.O.Openings.no_more g.O.Openings.none_to_close
     (λ o. recorded (g.O.Openings.answers o) (route_reports (g.O.Openings.added o) (g.O.Openings.requested o)))
     (length names) (length (names_of c.take_newcomers.new.names))
     (recorded (g.O.Openings.answers old) (route_reports (g.O.Openings.added old) (g.O.Openings.requested old))) came.0 many none
     (elim c.take_closings.ensures.all [
-      | inl h ↦ inl (h, closings.0, records closings.0 closings.1)
+      | inl h ↦ inl (subst (λ (n : ℕ). g.O.Openings.none_to_close new n) routes h, closings.0, records closings.0 closings.1)
       | inr h ↦ inr (h.0, records h.0 h.1, h.2)
     ])

@@ -10,4 +10,5 @@ invariant-loop g l =
     × (l.self.latest ≡ l.fn.self.latest)
     × (g.O.Openings.answers l.openings ≡ g.O.Openings.answers l.fn.openings)
     × (g.O.Openings.no_more l.fn.openings → g.O.Openings.no_more l.openings)
+    × (length (plans_in l.self) ≡ length (plans_in l.fn.self))
     × ((requested : List ℕ) × (g.O.Openings.requested l.openings ≡ joined (g.O.Openings.requested l.fn.openings) requested) × (length requested ≡ l.counter))

@@ -1,6 +1,8 @@
-use Rattle.std.proofs.Common.{◌≡◌, ◌≤◌, None, sym, ◌∙◌, arith}
+use Rattle.std.proofs.Common.{◌≡◌, ◌∙◌, true, false, inl, inr, refl, sym, ap, arith, Option}
+use Rattle.std.specs.Option.{is_some}
 use Rattle.srt_types.proofs.Options.{none_if_not_some}
-use Rattle.srt_poller.proofs.Steps.{went_none, replies_then, replies_more, replies_from, none_kept}
+use Rattle.srt_poller.specs.declared.poller.KeptReply.{KeptReply}
+use Rattle.srt_poller.proofs.Steps.{went_none, replies_more}
 use Rattle.srt_poller.proofs.poller.Poller.drain.Goals as goal
 
 pub returns-then-is_some-clause-went : goal.returns-then-is_some-clause-went
@@ -8,52 +10,18 @@ returns-then-is_some-clause-went g c =
     replies_more {a = 0} {b = 0} {c = 0} {d = 0} {m = 0} (omega arith) (λ same. omega arith) (omega arith)
     (λ class schedules t phase source up. (phase, up, went_none _ _ _ _))
 
-pub loop-route-init : goal.loop-route-init
-loop-route-init g c =
-    let none : c.args.self.now.kept ≡ None = none_if_not_some _ (sym c.if-is_some.ensures) in
-    (none, omega arith, c.new-visits.ensures, λ class schedules t phase source up. (phase, up, rw c.prefetch.ensures (went_none _ _ _ _)))
+pub returns-then-is_some-clause-checked : goal.returns-then-is_some-clause-checked
+returns-then-is_some-clause-checked g c = c.new.ensures.all ∙ c.checks_all-all.ensures
 
-pub returns-then-at-ends-clause-went : goal.returns-then-at-ends-clause-went
-returns-then-at-ends-clause-went g c =
-    replies_more (omega (arith, c.loop-route.invariant.1, c.loop-route.auto.ends)) (λ same. omega arith)
-    (omega (arith, c.loop-route.invariant.1, c.loop-route.auto.ends)) c.loop-route.invariant.3
+pub returns-then-is_some-clause-left : goal.returns-then-is_some-clause-left
+returns-then-is_some-clause-left g c =
+    inr (λ none. let bad : false ≡ true = sym (ap (λ (o : Option KeptReply). is_some o) none) ∙ sym c.is_some.ensures ∙ c.if-is_some.true in cc, refl)
 
-pub returns-then-is_kept-clause-went : goal.returns-then-is_kept-clause-went
-returns-then-is_kept-clause-went g c =
-    let later : c.loop-route.route ≤ c.pass-at.result = omega (arith, c.pass-at.ensures.later, c.loop-route.invariant.2) in
-    replies_more (omega (arith, c.if-at-ends.false, c.loop-route.auto.ends))
-    (λ same. absurd (omega (arith, c.if-at-ends.false, c.loop-route.auto.ends, same)))
-    (omega (arith, later, c.if-at-ends.false, c.loop-route.auto.ends))
-    (replies_then c.loop-route.invariant.3
-    (replies_from later (λ same. omega arith) (rw c.pass-at.ensures.next at c.drain_next-left.ensures.went)))
+pub drain_all-visits-requires : goal.drain_all-visits-requires
+drain_all-visits-requires g c = none_if_not_some _ (sym c.if-is_some.ensures)
 
-pub loop-route-preserved : goal.loop-route-preserved
-loop-route-preserved g c =
-    let later : c.loop-route.route ≤ c.pass-at.result = omega (arith, c.pass-at.ensures.later, c.loop-route.invariant.2) in
-    let none : c.drain_next-left.new.poller.kept ≡ None =
-    none_kept _ _ c.drain_next-left.ensures.kept (sym c.is_kept.ensures ∙ c.if-is_kept.false) in (
-      none,
-      omega (arith, c.if-at-ends.false, c.drain_next-left.auto.ends),
-      omega (arith, c.drain_next-left.ensures.next, c.pass-at.ensures.next),
-      replies_more (omega arith) (λ same. absurd (omega (arith, same))) (omega (arith, later))
-          (replies_then c.loop-route.invariant.3
-          (replies_from later (λ same. omega arith) (rw c.pass-at.ensures.next at c.drain_next-left.ensures.went))),
-    )
+pub returns-clause-checked : goal.returns-clause-checked
+returns-clause-checked g c = c.drain_all-visits.ensures.all ∙ c.checks_all-all.ensures
 
-pub loop-route-preserved-else-is_kept : goal.loop-route-preserved-else-is_kept
-loop-route-preserved-else-is_kept g c =
-    let later : c.loop-route.route ≤ c.pass-at.result = omega (arith, c.pass-at.ensures.later, c.loop-route.invariant.2) in
-    let none : c.drain_next-left.new.poller.kept ≡ None =
-    none_kept _ _ c.drain_next-left.ensures.kept (sym c.is_kept.ensures ∙ c.if-is_kept.false) in (
-      none,
-      omega (arith, c.if-at-ends.false, c.drain_next-left.auto.ends),
-      omega (arith, c.drain_next-left.ensures.next, c.pass-at.ensures.next),
-      replies_more (omega arith) (λ same. absurd (omega (arith, same))) (omega (arith, later))
-          (replies_then c.loop-route.invariant.3
-          (replies_from later (λ same. omega arith) (rw c.pass-at.ensures.next at c.drain_next-left.ensures.went))),
-    )
-
-pub returns-clause-went : goal.returns-clause-went
-returns-clause-went g c =
-    replies_more (omega (arith, c.loop-route.invariant.1, c.loop-route.auto.ends)) (λ same. omega arith)
-    (omega (arith, c.loop-route.invariant.1, c.loop-route.auto.ends)) c.loop-route.invariant.3
+pub returns-clause-left : goal.returns-clause-left
+returns-clause-left g c = inl (c.is_left-self.ensures, c.drain_all-visits.ensures.through)

@@ -6,6 +6,8 @@ use Rattle.srt_mailbox.specs.Ends.{Drained as DrainEnd}
 use Rattle.srt_poller.specs.declared.poller.KeptReply.{KeptReply}
 use Rattle.srt_poller.specs.Devices.{joined}
 use Rattle.srt_poller.specs.History.{Sends, Kept, FromRoute, from, kept, kept_if, sent_on, state}
+use Rattle.srt_supervision.specs.declared.report.Report.{Report}
+use Rattle.srt_poller.proofs.ReadCounts.{reply_reads_none}
 use Rattle.srt_poller.proofs.Steps.{sent_as, unheard, up_to_more, up_to_sends, up_to_sent, went_none, went_one, unchanged_here, drained_now, sent_here}
 use Rattle.srt_poller.proofs.Steps.{one_more_here, empty_here}
 use Rattle.srt_poller.proofs.poller.Poller.drain_one.Goals as goal
@@ -53,6 +55,7 @@ returns-in-Taken g c = record {
   taken = λ e.
       one_more_here c.args.route c.args.ends.now _ e c.take.new.self.hand c.take.new.self.hand c.take_buffer.new.self c.requires.route
       (c.take_buffer.ensures ∙ c.in-Ok.ensures.some);
+  read = ap (λ (n : Report). n.read) c.count_reply.ensures ∙ reply_reads_none _ c.send-sent.result;
 }
 
 pub returns-in-Later-clause-went : goal.returns-in-Later-clause-went
@@ -81,3 +84,6 @@ returns-in-Later-clause-went g c sends below class schedules t phase source up =
           ∙ there))
           c.count_reply.ensures (c.report_handshake.ensures, c.report_failure.ensures),
     )
+
+pub returns-in-Later-clause-read : goal.returns-in-Later-clause-read
+returns-in-Later-clause-read g c = ap (λ (n : Report). n.read) c.count_reply.ensures ∙ reply_reads_none _ c.send-sent.result

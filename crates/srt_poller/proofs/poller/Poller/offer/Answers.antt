@@ -1,4 +1,5 @@
-use Rattle.std.proofs.Common.{refl}
+use Rattle.std.proofs.Common.{refl, ap}
+use Rattle.srt_supervision.specs.declared.report.Report.{Report}
 use Rattle.srt_poller.specs.History.{Accepts, Overflows, Refuses}
 use Rattle.srt_poller.specs.Pollers.{arrival_in}
 use Rattle.srt_poller.proofs.Steps.{unsent, went_one, accepted_now, accepted_here, nothing_here}
@@ -25,3 +26,13 @@ returns-clause-went g c class names wire is schedules round latest reads source 
           w.in-Refused.ensures.drain)
           refl w.count_refused.ensures tt)
     ]
+
+pub returns-clause-read : goal.returns-clause-read
+returns-clause-read g c = elim c.match-offer.branch [
+  | in-Accepted w ↦ rw w.self-is (ap (λ (n : Report). n.read) w.count_accepted.ensures)
+  | in-Full w ↦ rw w.self-is (ap (λ (n : Report). n.read) w.count_full.ensures)
+  | in-Refused w ↦ rw w.self-is (ap (λ (n : Report). n.read) w.count_refused.ensures)
+]
+
+pub returns-clause-left : goal.returns-clause-left
+returns-clause-left g c = elim c.match-offer.branch [ in-Accepted w ↦ rw w.self-is refl | in-Full w ↦ rw w.self-is refl | in-Refused w ↦ rw w.self-is refl ]

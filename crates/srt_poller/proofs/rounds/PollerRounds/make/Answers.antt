@@ -1,6 +1,5 @@
-use Rattle.std.proofs.Common.{◌≡◌, ◌∙◌, refl, sym, ap, subst, ℕ, ◌+◌, length, arith}
+use Rattle.std.proofs.Common.{◌≡◌, ◌∙◌, refl, sym, subst, ℕ, ◌+◌, length, arith}
 use Rattle.srt_lobby.specs.Names.{names_of}
-use Rattle.srt_poller.specs.declared.latest.Latest.{Latest}
 use Rattle.srt_poller.specs.Devices.{heard, carried}
 use Rattle.srt_poller.specs.Pollers.{world_of, round_state}
 use Rattle.srt_poller.specs.Beginnings.{RestBetween}
@@ -29,62 +28,51 @@ loop-made-init g c =
           (recorded (g.E.RouteTable.answers c.args.table.now) (g.E.RouteTable.reports c.args.table.now)),
     )
 
-pub take_changes-requires : goal.take_changes-requires
-take_changes-requires g c = record {
+pub round-requires : goal.round-requires
+round-requires g c = record {
   known = c.loop-made.invariant.2;
   ends = c.loop-made.invariant.3;
   room = c.loop-made.invariant.5;
   rest = rw c.loop-made.invariant.4 c.loop-made.invariant.1;
+  fits = omega (arith, c.loop-made.invariant.4, c.requires.fits, c.loop-made-test.true);
 }
-
-pub round-requires : goal.round-requires
-round-requires g c =
-    let took = c.take_changes.ensures.took in
-    record {
-      known = took.3.known;
-      ends = took.3.all_ends;
-      room = c.take_changes.ensures.room;
-      rest = c.take_changes.ensures.rest;
-      fits = omega (arith, c.loop-made.invariant.4, c.requires.fits, c.loop-made-test.true);
-    }
 
 pub loop-made-preserved : goal.loop-made-preserved
 loop-made-preserved g c =
     let first = c.args.self.now.next in
     let made = c.loop-made.made in
     let was = c.loop-made.self in
-    let taken = c.take_changes.new in
+    let went = c.round.ensures.went in
     let now = c.round.new.rounds in
     let list = g.E.RouteTable.list in
     let reports = g.E.RouteTable.reports in
     let next : now.next ≡ first + (made + 1) = omega (arith, c.round.ensures.next, c.loop-made.invariant.4) in
-    let latest : taken.plans.latest.moment ≡ was.plans.latest.moment = ap (λ (l : Latest). l.moment) c.take_changes.ensures.latest in
     let m = made_round c.args.task.now.secret.now (g.G.PollerObserver.knows c.args.task.now.signals.now)
-    first made taken.plans.due c.args.self.now.plans.latest.moment was.plans.latest.moment
-    now.plans.latest.moment (plans_in c.args.self.now.plans) (plans_in was.plans) (plans_in taken.plans) (plans_in now.plans)
-    (reports c.args.table.now) (reports c.loop-made.table) (reports taken.self) (names_of c.args.names.now) (names_of c.loop-made.names)
-    (names_of taken.names) (names_of c.round.new.names) (list c.args.table.now) (list c.loop-made.table) (list taken.self) (list c.round.new.self)
+    first made went.due c.args.self.now.plans.latest.moment was.plans.latest.moment
+    now.plans.latest.moment (plans_in c.args.self.now.plans) (plans_in was.plans) went.between (plans_in now.plans)
+    (reports c.args.table.now) (reports c.loop-made.table) (reports c.round.new.self) (names_of c.args.names.now) (names_of c.loop-made.names)
+    went.these (names_of c.round.new.names) (list c.args.table.now) (list c.loop-made.table) went.those (list c.round.new.self)
     (heard (g.S.Source.gave c.args.source.now) (g.S.Source.calls c.args.source.now))
     (heard (g.S.Source.gave c.loop-made.source) (g.S.Source.calls c.loop-made.source))
     (heard (g.S.Source.gave c.round.new.source) (g.S.Source.calls c.round.new.source))
     (carried (g.W.Wire.handed c.args.wire.now) (g.W.Wire.attempts c.args.wire.now))
     (carried (g.W.Wire.handed c.loop-made.wire) (g.W.Wire.attempts c.loop-made.wire))
     (carried (g.W.Wire.handed c.round.new.wire) (g.W.Wire.attempts c.round.new.wire)) c.args.self.now.poller was.poller now.poller
-    c.in-Some.closes_all c.loop-made.invariant.0 (rw c.loop-made.invariant.4 at c.take_changes.ensures.took)
-    (rw c.loop-made.invariant.4 at c.take_changes.ensures.rest) (rw (latest, c.loop-made.invariant.4) at c.round.ensures.went) c.requires.timely
+    c.in-Some.closes_all c.loop-made.invariant.0 (rw c.loop-made.invariant.4 at went.took)
+    (rw c.loop-made.invariant.4 at went.rests) (rw c.loop-made.invariant.4 at went.went) c.requires.timely
     c.loop-made.invariant.2 c.requires.ends c.in-Some.ensures.round.0 c.in-Some.ensures.round.1 c.report_counts.ensures in (
-      rw c.round.ensures.reports m.0,
+      m.0,
       subst (λ (n : ℕ). RestBetween n now.plans.due (plans_in now.plans) (names_of c.round.new.names)) next c.round.ensures.rest,
       m.1,
-      c.round.ensures.ends ∙ m.2,
+      c.round.ensures.ends,
       next,
       c.round.ensures.room,
-      c.round.ensures.same ∙ c.take_changes.ensures.same ∙ c.loop-made.invariant.6,
+      c.round.ensures.same ∙ c.loop-made.invariant.6,
       all_taken_next g.E.RouteTable.facts made (length (names_of c.args.names.now)) (length (names_of c.loop-made.names))
           (length (names_of c.round.new.names)) (recorded (g.E.RouteTable.answers c.args.table.now) (reports c.args.table.now))
           (recorded (g.E.RouteTable.answers c.loop-made.table) (reports c.loop-made.table))
           (recorded (g.E.RouteTable.answers c.round.new.self) (reports c.round.new.self)) c.loop-made.invariant.7
-          (rw (c.round.ensures.answers, c.round.ensures.reports, sym m.2 ∙ c.take_changes.ensures.took.3.all_ends) c.take_changes.ensures.taken),
+          (rw (sym m.2 ∙ went.took.3.all_ends) went.taken),
     )
 
 pub returns-in_default-clause-made : goal.returns-in_default-clause-made
