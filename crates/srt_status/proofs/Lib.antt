@@ -2,3 +2,5 @@ pub mod Puts
 pub mod Slots
 pub mod Pieces
 pub mod Requested
+pub mod Minutes
+pub mod Trips

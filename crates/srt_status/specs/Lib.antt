@@ -5,6 +5,8 @@ pub mod Process
 pub mod Labels
 pub mod Metrics
 pub mod Json
+pub mod Events
+pub mod History
 pub mod Requests
 pub mod Responses
 pub mod Connections

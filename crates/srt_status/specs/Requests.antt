@@ -28,7 +28,9 @@ page_in target =
     if is_for (codes "/") target then Some pages.Overview
     else (if is_for (codes "/status.json") target then Some pages.Json
     else (if is_for (codes "/metrics") target then Some pages.Metrics
-    else (if is_for (codes "/healthz") target then Some pages.Health else None)))
+    else (if is_for (codes "/events.json") target then Some pages.Events
+    else (if is_for (codes "/history.json") target then Some pages.History
+    else (if is_for (codes "/healthz") target then Some pages.Health else None)))))
 
 abbrev pub shown_by : Method → Option Page → Request
 shown_by method None = requests.Unknown method

@@ -8,8 +8,11 @@ use Rattle.srt_status.specs.declared.request.Method.{Method}
 use Rattle.srt_status.specs.declared.request.Method.TheVariants.{Get, Head}
 use Rattle.srt_status.specs.declared.request.Request.{Request}
 use Rattle.srt_status.specs.declared.request.Request.TheVariants as requests
+use Rattle.srt_status.specs.declared.events.Event.{Event}
 use Rattle.srt_status.specs.Metrics.{metrics_of}
 use Rattle.srt_status.specs.Json.{json_of}
+use Rattle.srt_status.specs.Events.{events_json}
+use Rattle.srt_status.specs.History.{histories_json}
 
 -- the fields that all responses have
 unfoldable pub common_fields : List ℕ
@@ -50,7 +53,7 @@ health_text method polling =
 unfoldable pub overview_text : Method → (page : List ℕ) → List ℕ
 overview_text method page =
     response_text (codes "200 OK")
-    (codes "Content-Type: text/html; charset=utf-8\r\nContent-Security-Policy: default-src 'none'; connect-src 'self'; script-src 'sha256-+srEv1hbQGSuQmlRmqdWyWBoyXdh6vT0ndZcTcClNJ8='; style-src 'sha256-aRotIZgzBcOl6rX8pAJAdvyGcLKde6RXJvdwjzsIG7Y='; base-uri 'none'; form-action 'none'; frame-ancestors 'none'\r\n")
+    (codes "Content-Type: text/html; charset=utf-8\r\nContent-Security-Policy: default-src 'none'; connect-src 'self'; script-src 'sha256-pBO4uctQj+kInajM6+kEhj1Z2UEtH1/KM1dMDxdnG9c='; style-src 'sha256-S0eXzLbF316TxNbdPfgzow7quiJvspzTTNRxVkZZ4CI='; base-uri 'none'; form-action 'none'; frame-ancestors 'none'\r\n")
     method page
 
 -- the figures
@@ -62,17 +65,28 @@ metrics_text method gateway routes =
 unfoldable pub json_text : Method → GatewayStatus → List RouteStatus → List ℕ
 json_text method gateway routes = response_text (codes "200 OK") (codes "Content-Type: application/json\r\n") method (json_of gateway routes)
 
-abbrev pub page_text : (overview : List ℕ) → GatewayStatus → List RouteStatus → Method → Page → List ℕ
-page_text overview gateway routes method pages.Overview = overview_text method overview
-page_text overview gateway routes method pages.Json = json_text method gateway routes
-page_text overview gateway routes method pages.Metrics = metrics_text method gateway routes
-page_text overview gateway routes method pages.Health = health_text method gateway.polling
+-- the last lines of the log
+unfoldable pub events_text : Method → List Event → List ℕ
+events_text method events = response_text (codes "200 OK") (codes "Content-Type: application/json\r\n") method (events_json events)
+
+-- the last hour of each route
+unfoldable pub history_text : Method → (moment : ℕ) → List RouteStatus → List ℕ
+history_text method moment routes =
+    response_text (codes "200 OK") (codes "Content-Type: application/json\r\n") method (histories_json moment routes)
+
+abbrev pub page_text : (overview : List ℕ) → GatewayStatus → List RouteStatus → List Event → Method → Page → List ℕ
+page_text overview gateway routes events method pages.Overview = overview_text method overview
+page_text overview gateway routes events method pages.Json = json_text method gateway routes
+page_text overview gateway routes events method pages.Metrics = metrics_text method gateway routes
+page_text overview gateway routes events method pages.Events = events_text method events
+page_text overview gateway routes events method pages.History = history_text method gateway.moment routes
+page_text overview gateway routes events method pages.Health = health_text method gateway.polling
 
 -- the response to a request
-abbrev pub response_of : (overview : List ℕ) → GatewayStatus → List RouteStatus → Request → List ℕ
-response_of overview gateway routes (requests.Page method page) = page_text overview gateway routes method page
-response_of overview gateway routes (requests.Unknown method) = plain_text (codes "404 Not Found") method (codes "not found\n")
-response_of overview gateway routes requests.NotAllowed =
+abbrev pub response_of : (overview : List ℕ) → GatewayStatus → List RouteStatus → List Event → Request → List ℕ
+response_of overview gateway routes events (requests.Page method page) = page_text overview gateway routes events method page
+response_of overview gateway routes events (requests.Unknown method) = plain_text (codes "404 Not Found") method (codes "not found\n")
+response_of overview gateway routes events requests.NotAllowed =
     response_text (codes "405 Method Not Allowed") (codes "Allow: GET, HEAD\r\n") Get []
-response_of overview gateway routes requests.Bad = plain_text (codes "400 Bad Request") Get (codes "bad request\n")
-response_of overview gateway routes requests.TooLong = plain_text (codes "431 Request Header Fields Too Large") Get (codes "too long\n")
+response_of overview gateway routes events requests.Bad = plain_text (codes "400 Bad Request") Get (codes "bad request\n")
+response_of overview gateway routes events requests.TooLong = plain_text (codes "431 Request Header Fields Too Large") Get (codes "too long\n")

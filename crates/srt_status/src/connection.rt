@@ -3,12 +3,9 @@
 ghost use Rattle.std.specs.Prelude.{◌≡◌, ◌≤◌, ◌++◌, [], true, false, length, take, drop, vec_len, OnOk, OnErr};
 ghost use Rattle.srt_status.specs.Connections.{ConnectionState, is_over};
 
-use srt_types::product_limits::MAX_REQUEST;
+use srt_types::product_limits::{MAX_REQUEST, REQUEST_TIMEOUT};
 use std::alloc::{AllocError, Global};
 use std::marker::Model;
-
-/// The longest time for a request to arrive, and for its response to be sent, in microseconds.
-pub const PATIENCE: u64 = 2_000_000;
 
 /// One connection, which serves one request: the bytes received, and the rest of the response. The owner of its socket
 /// passes in the bytes read ([`receive`](Connection::receive)), reads the request in them
@@ -118,13 +115,13 @@ impl Connection {
     }
 
     /// Whether the connection is to be closed at this moment, in microseconds: its whole response was sent, or
-    /// [`PATIENCE`] went by since it was accepted or, with a response, since that was begun.
+    /// [`REQUEST_TIMEOUT`] went by since it was accepted or, with a response, since that was begun.
     pub fn is_over(&self, moment: u64) -> bool
         ensures { result ≡ is_over self.now moment }
     {
         if self.is_answered() && self.left().is_empty() {
             return true;
         }
-        moment.saturating_sub(self.since) >= PATIENCE
+        moment.saturating_sub(self.since) >= REQUEST_TIMEOUT
     }
 }

@@ -351,7 +351,7 @@ fn latency_amount(latency_ms: u16) -> Option<Amount>
     Some(Amount::Micros(u64::from(latency_ms) * 1000))
 }
 
-fn round_trip_of(traffic: &Traffic) -> u32
+pub(crate) fn round_trip_of(traffic: &Traffic) -> u32
     ensures { result ≡ round_trip_of traffic.now }
 {
     match traffic {
@@ -371,7 +371,7 @@ fn variance_of(traffic: &Traffic) -> u32
 
 /// Returns this time of a session's round trip; None as long as nothing is measured: then both are those with which each session
 /// begins (section 4.10).
-fn trip_amount(traffic: &Traffic, micros: u32) -> Option<Amount>
+pub(crate) fn trip_amount(traffic: &Traffic, micros: u32) -> Option<Amount>
     ensures { result ≡ trip_amount (round_trip_of traffic.now) (variance_of traffic.now) micros }
 {
     if round_trip_of(traffic) == FIRST_ROUND_TRIP && variance_of(traffic) == FIRST_VARIANCE {

@@ -439,7 +439,7 @@ fn put_all_figures(out: &mut Vec<u8>, route: &RouteStatus) -> Result<(), AllocEr
 }
 
 #[tactic(auto, unfolding(crate::specs::Json::route_name_start))]
-fn put_route_name_start(out: &mut Vec<u8>) -> Result<(), AllocError>
+pub(crate) fn put_route_name_start(out: &mut Vec<u8>) -> Result<(), AllocError>
     ensures { OnOk result (out.new.items ≡ out.old.items ++ route_name_start) }
 {
     put(out, b"{\"name\":\"")

@@ -4,7 +4,8 @@
 //! It reads nothing of the gateway: its caller passes in snapshots. A body is allocated.
 //!
 //! Types: [`GatewayStatus`] (`gateway.rt`) and [`RouteStatus`] (`routes.rt`), the snapshots; [`Request`] (`request.rt`);
-//! [`Connection`] (`connection.rt`), the state of one connection. A session is an `srt_route::SessionView`, the poller's
+//! [`Connection`] (`connection.rt`), the state of one connection; [`EventRing`] (`events.rt`), the last lines of the log, and
+//! [`RouteHistory`] (`history.rt`), the last hour of a route, both in fixed memory. A session is an `srt_route::SessionView`, the poller's
 //! counters are an `srt_supervision::Report`.
 //!
 //! Calls: [`put_metrics`] (`metrics.rt`) and [`put_json`] (`json.rt`) put the snapshots into a text, [`request_in`] reads
@@ -14,8 +15,10 @@
 #![tactic(auto)]
 
 mod connection;
+mod events;
 mod figures;
 mod gateway;
+mod history;
 mod json;
 mod labels;
 mod metrics;
@@ -27,8 +30,10 @@ mod response;
 mod routes;
 mod text;
 
-pub use connection::{Connection, PATIENCE};
+pub use connection::Connection;
+pub use events::{Event, EventRing, MAX_EVENT_TEXT, MAX_EVENTS, MAX_REFUSALS_IN_A_ROW};
 pub use gateway::{CauseCounts, ChangeCounts, GatewayStatus, ProcessUse, RefusalCounts};
+pub use history::{HISTORY_MINUTES, Minute, RouteHistory, round_trip_in};
 pub use json::put_json;
 pub use metrics::put_metrics;
 pub use page::OVERVIEW;
@@ -36,5 +41,7 @@ pub use request::{Method, Page, Request, request_in};
 pub use response::respond;
 pub use routes::{EndCounts, LimitCounts, RouteStatus};
 
+#[cfg(test)]
+mod recent_tests;
 #[cfg(test)]
 mod tests;

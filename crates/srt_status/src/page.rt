@@ -1,7 +1,8 @@
 //! The page for people.
 
 /// One page with its style and its script: it asks for `/status.json` each second, and shows the routes with their
-/// sessions. It needs no other file. The policy that it is served under (`response.rt`) names its style and its script by
+/// sessions. While a route is open it asks for `/history.json` twice a minute, and for `/events.json` while that section
+/// is open. It needs no other file. The policy that it is served under (`response.rt`) names its style and its script by
 /// their SHA-256.
 pub const OVERVIEW: &str = r##"<!doctype html>
 <html lang="en">
@@ -113,11 +114,17 @@ svg { display: block; width: 128px; height: 28px; }
 svg path { vector-effect: non-scaling-stroke; }
 svg .line { fill: none; stroke: currentColor; stroke-width: 1.5; stroke-linejoin: round; }
 svg .area { fill: currentColor; opacity: .14; }
-#idle > summary, #past > summary { padding: 8px 2px; cursor: pointer; color: var(--dim); }
+.hour { padding: 4px 0; font-size: 12.5px; color: var(--dim); }
+.hour svg { width: 100%; height: 64px; margin-top: 2px; color: var(--in); border-bottom: 1px solid var(--line); }
+.hour .trip { fill: none; stroke: var(--dim); stroke-width: 1; }
+.hour .losses { fill: none; stroke: var(--bad); stroke-width: 3; }
+#idle > summary, #past > summary, #log > summary { padding: 8px 2px; cursor: pointer; color: var(--dim); }
 #names { columns: 220px; column-gap: 20px; padding: 4px 2px; }
 #names div { overflow-wrap: anywhere; padding: 1px 0; break-inside: avoid; }
 .label { display: none; }
-#events { font-size: 12.5px; padding: 0 2px; }
+#events, #lines { font-size: 12.5px; padding: 0 2px; }
+#lines div { overflow-wrap: anywhere; padding: 1px 0 1px 70px; text-indent: -70px; }
+#lines span { display: inline-block; width: 70px; text-indent: 0; color: var(--dim); }
 footer { margin-top: 20px; font-size: 12.5px; color: var(--dim); }
 a { color: inherit; }
 @media (max-width: 860px) {
@@ -163,11 +170,13 @@ a { color: inherit; }
   <div id="routes"></div>
   <details id="idle"><summary></summary><div id="names"></div></details>
   <details id="past"><summary>Events since this page was opened</summary><div id="events"></div></details>
+  <details id="log"><summary>Last events</summary><div id="lines"></div></details>
 </main>
 <section id="facts" aria-label="Machine"></section>
 <footer>Bit rates are those of payloads, averaged over the last three seconds; the curves show the last minute,
-and losses are counted over it. A route opens with a click.
-Also here: <a href="/metrics">metrics</a>, <a href="/status.json">status.json</a>, <a href="/healthz">healthz</a>.</footer>
+and losses are counted over it. A route opens with a click, and then shows its last hour.
+Also here: <a href="/metrics">metrics</a>, <a href="/status.json">status.json</a>, <a href="/events.json">events.json</a>,
+<a href="/history.json">history.json</a>, <a href="/healthz">healthz</a>.</footer>
 <script>
 "use strict";
 const SPAN = 60;
@@ -178,7 +187,10 @@ const seen = new Map();
 const shown = new Map();
 const known = new Map();
 const EVENTS = 50, OFF_AIR = 600000, WAITS = 3;
+const MINUTES = 60, WIDE = 600, HIGH = 64, HISTORY_WAITS = 30000;
 let last = null, answered = Date.now(), idleKey = "";
+// When the gateway started, as exactly as whole seconds tell it; the hour of each route, and when that was asked for.
+let started = Infinity, uptime = 0, hours = new Map(), minute = 0, asked = 0;
 
 function make(tag, name, text) {
   const node = document.createElement(tag);
@@ -263,6 +275,49 @@ function plot() {
     svg.lastChild.setAttribute("class", name);
   }
   return svg;
+}
+
+// An entry of a route's hour is the number of its minute, bytes, packets lost, and the round trip in microseconds.
+function hourPlot() {
+  const box = make("div", "hour"), svg = document.createElementNS("http://www.w3.org/2000/svg", "svg");
+  box.append(make("span"), svg);
+  svg.setAttribute("viewBox", "0 0 " + WIDE + " " + HIGH);
+  svg.setAttribute("preserveAspectRatio", "none");
+  svg.setAttribute("aria-hidden", "true");
+  for (const name of ["area", "line", "trip", "losses"]) {
+    svg.append(document.createElementNS("http://www.w3.org/2000/svg", "path"));
+    svg.lastChild.setAttribute("class", name);
+  }
+  return box;
+}
+// The runs of minutes without a gap, each as points of a curve.
+function runs(entries, x, y) {
+  const found = [];
+  entries.forEach((entry, at) => {
+    if (!at || entries[at - 1][0] !== entry[0] - 1) found.push([]);
+    found[found.length - 1].push(x(entry) + " " + y(entry).toFixed(1));
+  });
+  return found;
+}
+function drawHour(box, name) {
+  if (box.asked === asked) return;
+  box.asked = asked;
+  const entries = (hours.get(name) || []).filter((entry) => entry && entry[0] >= minute - MINUTES);
+  const trips = entries.filter((entry) => entry[3] !== null), rates = entries.map((entry) => entry[1] * 8 / 60);
+  const top = Math.max(1, ...rates), far = Math.max(1, ...trips.map((entry) => entry[3]));
+  const most = Math.max(1, ...entries.map((entry) => entry[2])), lost = entries.reduce((sum, entry) => sum + entry[2], 0);
+  const step = WIDE / MINUTES, x = (entry) => ((entry[0] - minute + MINUTES + 0.5) * step).toFixed(1);
+  const lines = runs(entries, x, (entry) => HIGH - 2 - (HIGH - 8) * entry[1] * 8 / 60 / top);
+  const paths = [
+    lines.map((run) => "M" + run[0].split(" ")[0] + " " + HIGH + "L" + run.join("L") + "V" + HIGH + "Z").join(""),
+    lines.map((run) => "M" + run.join("L") + (run.length > 1 ? "" : "h1")).join(""),
+    runs(trips, x, (entry) => HIGH - 2 - (HIGH - 8) * entry[3] / far).map((run) => "M" + run.join("L") + (run.length > 1 ? "" : "h1")).join(""),
+    entries.filter((entry) => entry[2]).map((entry) => "M" + x(entry) + " " + HIGH + "v" + (-6 - 18 * entry[2] / most).toFixed(1)).join(""),
+  ];
+  paths.forEach((path, at) => box.lastChild.children[at].setAttribute("d", path));
+  const trip = trips.length ? ", round trip (thin line) up to " + millis(far / 1e6) : "";
+  const said = "up to " + bits(top) + " in a minute, " + count(lost) + " packets reported lost" + trip;
+  write(box.firstChild, "Last hour: " + (entries.length ? said : "no minute is over yet"));
 }
 
 // How much a publisher's clock is off, where it is followed. It is followed by at most 1000 ppm.
@@ -398,6 +453,7 @@ function openRoute(name) {
   parts.grid = box.appendChild(make("div", "grid"));
   parts.facts = parts.grid.appendChild(make("div", "dim"));
   parts.refused = parts.grid.appendChild(make("div", "marks"));
+  parts.hour = parts.grid.appendChild(hourPlot());
   parts.heads = parts.grid.appendChild(make("div", "heads"));
   for (const text of ["Caller", "Bit rate", "Last minute", "Round trip", "Lost", "Sent again", "Window"]) {
     parts.heads.append(make("span", /Caller|minute/.test(text) ? "" : "number", text));
@@ -517,6 +573,7 @@ function showRoute(parts, route, view) {
     const limits = route.refused_sessions_total === undefined ? LIMITS_TOGETHER : LIMITS;
     showCauses(parts.refused, route, ROUTE_CAUSES.concat(limits));
     parts.heads.hidden = !view.sessions.length;
+    drawHour(parts.hour, route.name);
   }
   return [into, out];
 }
@@ -620,12 +677,35 @@ function gone() {
   state(false, "no answer");
   write(byId("gone"), "The gateway hasn't answered for " + lasted(away) + ". What is shown is what it said last.");
 }
+async function ask(path) {
+  const answer = await fetch(path, { cache: "no-store", signal: AbortSignal.timeout(2500) });
+  if (!answer.ok) throw new Error(answer.status);
+  return answer.json();
+}
+// The last lines of the gateway's log, the newest first, and the hour of each route: while they are to be seen.
+async function lookBack() {
+  if (byId("log").open) {
+    const events = await ask("/events.json");
+    byId("lines").replaceChildren(...events.reverse().map((event) => {
+      const line = make("div");
+      line.append(make("span", "", clockTime(started + 1000 * event.seconds)), event.text);
+      return line;
+    }));
+  }
+  if (Date.now() - asked < HISTORY_WAITS || !document.querySelector(".route[open]")) return;
+  const found = await ask("/history.json");
+  asked = Date.now();
+  minute = found.minute;
+  hours = new Map(found.routes.map((route) => [route.name, route.minutes]));
+}
 async function look() {
   try {
-    const answer = await fetch("/status.json", { cache: "no-store", signal: AbortSignal.timeout(2500) });
-    if (!answer.ok) throw new Error(answer.status);
-    last = await answer.json();
+    last = await ask("/status.json");
     answered = Date.now();
+    if (last.uptime_seconds < uptime) started = Infinity;
+    uptime = last.uptime_seconds;
+    started = Math.min(started, answered - 1000 * uptime);
+    await lookBack();
     state(last.up === 1, last.up === 1 ? "running" : "stalled: no round for two seconds");
     show(last);
   } catch {

@@ -18,6 +18,10 @@ pub enum Page {
     Json,
     /// `/metrics`: the figures in the text format of Prometheus.
     Metrics,
+    /// `/events.json`: the last lines of the log.
+    Events,
+    /// `/history.json`: the last hour of each route.
+    History,
     /// `/healthz`: whether the gateway works.
     Health,
 }
@@ -87,6 +91,12 @@ fn page_in(target: &[u8]) -> Option<Page>
     }
     if is_for(b"/metrics", target) {
         return Some(Page::Metrics);
+    }
+    if is_for(b"/events.json", target) {
+        return Some(Page::Events);
+    }
+    if is_for(b"/history.json", target) {
+        return Some(Page::History);
     }
     if is_for(b"/healthz", target) {
         return Some(Page::Health);

@@ -2,9 +2,11 @@
 
 ghost use Rattle.std.specs.Prelude.{◌≡◌, ◌++◌, OnOk, IfOk};
 ghost use Rattle.srt_status.specs.Responses.{common_fields, protocol_text, status_line, head_text, body_text, response_text, plain_text};
-ghost use Rattle.srt_status.specs.Responses.{health_text, overview_text, metrics_text, json_text, page_text, response_of};
+ghost use Rattle.srt_status.specs.Responses.{health_text, overview_text, metrics_text, json_text, events_text, history_text, response_of};
 
+use crate::events::{EventRing, put_events};
 use crate::gateway::GatewayStatus;
+use crate::history::put_histories;
 use crate::json::put_json;
 use crate::metrics::put_metrics;
 use crate::request::{Method, Page, Request};
@@ -23,7 +25,7 @@ const JSON: &str = "Content-Type: application/json\r\n";
 
 /// The fields of the page for people. Its script and its style are named by their SHA-256.
 const HTML: &str =
-    "Content-Type: text/html; charset=utf-8\r\nContent-Security-Policy: default-src 'none'; connect-src 'self'; script-src 'sha256-+srEv1hbQGSuQmlRmqdWyWBoyXdh6vT0ndZcTcClNJ8='; style-src 'sha256-aRotIZgzBcOl6rX8pAJAdvyGcLKde6RXJvdwjzsIG7Y='; base-uri 'none'; form-action 'none'; frame-ancestors 'none'\r\n";
+    "Content-Type: text/html; charset=utf-8\r\nContent-Security-Policy: default-src 'none'; connect-src 'self'; script-src 'sha256-pBO4uctQj+kInajM6+kEhj1Z2UEtH1/KM1dMDxdnG9c='; style-src 'sha256-S0eXzLbF316TxNbdPfgzow7quiJvspzTTNRxVkZZ4CI='; base-uri 'none'; form-action 'none'; frame-ancestors 'none'\r\n";
 
 /// Puts the fields that all responses have.
 #[tactic(auto, unfolding(crate::specs::Responses::common_fields))]
@@ -152,39 +154,50 @@ fn json(
     response(alloc, "200 OK", JSON, method, body.as_slice())
 }
 
-fn page_response(
+#[tactic(auto, unfolding(crate::specs::Responses::events_text))]
+fn events(alloc: Global, method: Method, ring: &EventRing) -> Result<Vec<u8>, AllocError>
+    ensures { IfOk result (λ text. text.items ≡ events_text method ring.now.events.items) }
+{
+    let mut body = Vec::new(alloc);
+    put_events(&mut body, ring)?;
+    response(alloc, "200 OK", JSON, method, body.as_slice())
+}
+
+#[tactic(auto, unfolding(crate::specs::Responses::history_text))]
+fn history(
     alloc: Global,
     method: Method,
-    page: Page,
-    overview_page: &[u8],
-    gateway: &GatewayStatus<'_>,
+    moment: u64,
     routes: &[RouteStatus],
 ) -> Result<Vec<u8>, AllocError>
-    ensures { IfOk result (λ text. text.items ≡ page_text overview_page.now gateway.now routes.now method page) }
+    ensures { IfOk result (λ text. text.items ≡ history_text method moment routes.now) }
 {
-    match page {
-        Page::Overview => overview(alloc, method, overview_page),
-        Page::Json => json(alloc, method, gateway, routes),
-        Page::Metrics => metrics(alloc, method, gateway, routes),
-        Page::Health => health(alloc, method, gateway.polling),
-    }
+    let mut body = Vec::new(alloc);
+    put_histories(&mut body, moment, routes)?;
+    response(alloc, "200 OK", JSON, method, body.as_slice())
 }
 
 /// Returns the response to a request, head and body. The page for people is passed in: [`OVERVIEW`](crate::OVERVIEW). The
-/// only error is out of memory. Linear in the number of routes for the status and the metrics.
+/// only error is out of memory. Linear in the number of routes for the status, the metrics and the history.
 pub fn respond(
     alloc: Global,
     request: Request,
     overview_page: &[u8],
     gateway: &GatewayStatus<'_>,
     routes: &[RouteStatus],
+    ring: &EventRing,
 ) -> Result<Vec<u8>, AllocError>
-    ensures { IfOk result (λ text. text.items ≡ response_of overview_page.now gateway.now routes.now request) }
+    ensures { IfOk result (λ text. text.items ≡ response_of overview_page.now gateway.now routes.now ring.now.events.items request) }
 {
     match request {
-        Request::Page { method, page } => {
-            page_response(alloc, method, page, overview_page, gateway, routes)
-        }
+        Request::Page { method, page } => match page {
+            Page::Overview => overview(alloc, method, overview_page),
+            Page::Json => json(alloc, method, gateway, routes),
+            Page::Metrics => metrics(alloc, method, gateway, routes),
+            Page::Events => events(alloc, method, ring),
+            Page::History => history(alloc, method, gateway.moment, routes),
+            Page::Health => health(alloc, method, gateway.polling),
+        },
         Request::Unknown { method } => plain(alloc, "404 Not Found", method, b"not found\n"),
         Request::NotAllowed => response(
             alloc,

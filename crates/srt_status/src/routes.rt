@@ -1,6 +1,7 @@
 //! The state of a route, as the page shows it.
 
 use crate::gateway::RefusalCounts;
+use crate::history::RouteHistory;
 use srt_route::{SessionView, Totals};
 use srt_types::Mode;
 use srt_types::product_limits::MAX_SESSIONS;
@@ -58,4 +59,6 @@ pub struct RouteStatus {
     pub take_overs: Option<u64>,
     /// The sessions that ended since the start; None if that isn't known.
     pub ends: Option<EndCounts>,
+    /// Its last hour.
+    pub history: RouteHistory,
 }

@@ -1,14 +1,14 @@
 //! Texts as programs and people read them, requests as callers send them, and a connection from its beginning to its end.
 
 use crate::{
-    CauseCounts, ChangeCounts, Connection, EndCounts, GatewayStatus, LimitCounts, Method, OVERVIEW,
-    PATIENCE, Page, ProcessUse, RefusalCounts, Request, RouteStatus, put_json, put_metrics,
-    request_in, respond,
+    CauseCounts, ChangeCounts, Connection, EndCounts, EventRing, GatewayStatus, LimitCounts,
+    Method, OVERVIEW, Page, ProcessUse, RefusalCounts, Request, RouteHistory, RouteStatus,
+    put_json, put_metrics, request_in, respond,
 };
 use srt_route::{SessionView, Totals, Traffic};
 use srt_sub::Sendings;
 use srt_supervision::Report;
-use srt_types::product_limits::{MAX_REQUEST, MAX_SESSIONS};
+use srt_types::product_limits::{MAX_REQUEST, MAX_SESSIONS, REQUEST_TIMEOUT};
 use srt_types::{Mode, Peer, Role};
 use std::process::Abort;
 use std::str;
@@ -21,7 +21,7 @@ const NEAR: [u8; 16] = [0, 0, 0, 0, 0, 0, 0, 0, 0, 0, 0xff, 0xff, 192, 0, 2, 7];
 const FAR: [u8; 16] = [0x20, 0x01, 0x0d, 0xb8, 0, 0, 0, 0, 0, 0, 0, 0, 0, 0, 0, 1];
 
 /// A gateway of one route that has worked for 61 seconds.
-fn gateway() -> GatewayStatus<'static> {
+pub(crate) fn gateway() -> GatewayStatus<'static> {
     GatewayStatus {
         version: "0.6.0",
         uptime_seconds: 61,
@@ -71,7 +71,7 @@ fn gateway() -> GatewayStatus<'static> {
 }
 
 /// The active publisher at 192.0.2.7. Of the 109 packets that came, 2 are counted under nothing else.
-fn publisher() -> SessionView {
+pub(crate) fn publisher() -> SessionView {
     SessionView {
         peer: Peer {
             ip: NEAR,
@@ -141,7 +141,7 @@ fn subscriber() -> SessionView {
 }
 
 /// A route of this name with these sessions in its slots 1 and 16.
-fn route<R: AllocGlobal>(
+pub(crate) fn route<R: AllocGlobal>(
     rt: &R,
     name: &str,
     first: Option<SessionView>,
@@ -198,6 +198,7 @@ fn route<R: AllocGlobal>(
         }),
         take_overs: Some(1),
         ends: None,
+        history: RouteHistory::new(),
     })
 }
 
@@ -515,7 +516,7 @@ fn assert_answer<R: Abort + AllocGlobal>(
 ) -> Result<(), Fail> {
     let mut status = gateway();
     status.polling = polling;
-    let response = respond(rt.alloc(), request, b"<p>", &status, &[])?;
+    let response = respond(rt.alloc(), request, b"<p>", &status, &[], &EventRing::new())?;
     assert_eq!(rt; response.as_slice(), text.as_bytes());
     Ok(())
 }
@@ -560,7 +561,14 @@ fn the_page_for_people(rt: HostRuntime) -> Result<(), Fail> {
         method: Method::Get,
         page: Page::Overview,
     };
-    let response = respond(rt.alloc(), request, OVERVIEW.as_bytes(), &gateway(), &[])?;
+    let response = respond(
+        rt.alloc(),
+        request,
+        OVERVIEW.as_bytes(),
+        &gateway(),
+        &[],
+        &EventRing::new(),
+    )?;
     let Ok(text) = str::from_utf8(response.as_slice()) else {
         panic!(rt; "not UTF-8");
     };
@@ -571,7 +579,7 @@ fn the_page_for_people(rt: HostRuntime) -> Result<(), Fail> {
             "HTTP/1.1 200 OK\r\n",
             "\r\nContent-Security-Policy: default-src 'none'; connect-src 'self'; script-src 'sha256-",
             "\r\n\r\n<!doctype html>\n",
-            "fetch(\"/status.json\"",
+            "ask(\"/status.json\")",
             "m=publish is missing",
         ],
     );
@@ -583,14 +591,14 @@ fn a_connection_to_its_end(rt: HostRuntime) -> Result<(), Fail> {
     let mut connection = Connection::new(rt.alloc(), 1000);
     connection.receive(b"GET / HT")?;
     assert!(rt; request_in(connection.received()).is_none());
-    assert!(rt; !connection.is_over(PATIENCE + 999));
-    assert!(rt; connection.is_over(PATIENCE + 1000));
+    assert!(rt; !connection.is_over(REQUEST_TIMEOUT + 999));
+    assert!(rt; connection.is_over(REQUEST_TIMEOUT + 1000));
     connection.receive(b"TP/1.1\r\n\r\n")?;
     assert!(rt; request_in(connection.received()).is_some());
     let response = Vec::from_slice(rt.alloc(), b"HTTP/1.1")?;
     connection.answer(5000, response);
     assert!(rt; connection.is_answered());
-    assert!(rt; !connection.is_over(PATIENCE + 1000));
+    assert!(rt; !connection.is_over(REQUEST_TIMEOUT + 1000));
     connection.sent(3);
     assert_eq!(rt; connection.left(), b"P/1.1".as_slice());
     connection.sent(5);

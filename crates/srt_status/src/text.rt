@@ -39,15 +39,22 @@ fn put_shown(out: &mut Vec<u8>, byte: u8) -> Result<(), AllocError>
     }
 }
 
-/// Puts a name between quotation marks, without these.
+/// Puts bytes between quotation marks, without these.
 #[tactic(auto, using(crate::proofs::Puts::one_more))]
-pub(crate) fn put_name(out: &mut Vec<u8>, name: &str) -> Result<(), AllocError>
-    ensures { OnOk result (out.new.items ≡ out.old.items ++ name_text name.now) }
+pub(crate) fn put_shown_bytes(out: &mut Vec<u8>, bytes: &[u8]) -> Result<(), AllocError>
+    ensures { OnOk result (out.new.items ≡ out.old.items ++ name_text bytes.now) }
 {
-    for byte in name.as_bytes() {
+    for byte in bytes {
         put_shown(out, *byte)?;
     }
     Ok(())
+}
+
+/// Puts a name between quotation marks, without these.
+pub(crate) fn put_name(out: &mut Vec<u8>, name: &str) -> Result<(), AllocError>
+    ensures { OnOk result (out.new.items ≡ out.old.items ++ name_text name.now) }
+{
+    put_shown_bytes(out, name.as_bytes())
 }
 
 /// The hexadecimal digit of a number below 16, in lower case.
@@ -83,7 +90,7 @@ pub(crate) fn put_id(out: &mut Vec<u8>, id: u32) -> Result<(), AllocError>
 
 /// Puts microseconds as seconds with six decimals.
 #[tactic(auto, using(crate::proofs::Puts::joined))]
-fn put_micros(out: &mut Vec<u8>, micros: u64) -> Result<(), AllocError>
+pub(crate) fn put_micros(out: &mut Vec<u8>, micros: u64) -> Result<(), AllocError>
     ensures { OnOk result (out.new.items ≡ out.old.items ++ micros_text micros) }
 {
     put_number(out, micros / 1_000_000)?;
