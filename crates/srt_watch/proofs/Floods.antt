@@ -2,7 +2,7 @@
 use Rattle.std.proofs.Common.{◌≡◌, true, List, [], ◌∷◌, ◌++◌, refl, ap, ◌∙◌}
 use Rattle.srt_log.specs.LineLimit.{is_within, omitted_within}
 use Rattle.srt_log.specs.LineShares.{calls_of}
-use Rattle.srt_log.specs.declared.shares.LineKind.TheVariants.{Session, Refusal}
+use Rattle.srt_log.specs.declared.line_limits.LineKind.TheVariants.{Session, Refusal}
 use Rattle.srt_watch.specs.Log.{LogCall, Offered, Always, Polled, Missed, Closed, LogState, state_after, state_after_all}
 use Rattle.srt_watch.specs.Log.{left_out_text, line_if}
 use Rattle.srt_watch.specs.Shares.{is_refusal, AreRefusals, RefusalsCostNothing}

@@ -2,6 +2,7 @@
 use Rattle.std.proofs.Common.{◌≡◌, ℕ, List, [], ◌++◌, Option, None, Some, refl, sym, ap, ◌∙◌, append-nil, append_assoc}
 use Rattle.std.proofs.lemmas.List.{map-append}
 use denote.Ref.{Bor}
+use Rattle.srt_status.specs.declared.events.Event.{Event}
 use Rattle.srt_status.specs.declared.gateway.ChangeCounts.{ChangeCounts}
 use Rattle.srt_status.specs.declared.routes.RouteStatus.{RouteStatus}
 use Rattle.srt_watch.specs.Pages.{ShownPage, with_pages, page_at, pages_at, ShowedPages}
@@ -15,15 +16,16 @@ both_more : (r : Option (List ShownPage)) (x y : List ShownPage) → with_pages 
 both_more None x y = refl
 both_more (Some pages) x y = ap Some (append_assoc pages x y)
 
-pub showed_none : (r : Option (List ShownPage)) (o : Overview) (n : ChangeCounts) (v : Bor (List ℕ)) (s : List RouteStatus) (u : ℕ) → ShowedPages r r o n v s u
-showed_none r o n v s u = record { moments = []; shown_is = none_more r }
+pub showed_none : (r : Option (List ShownPage)) (o : Overview) (n : ChangeCounts) (v : Bor (List ℕ)) (s : List RouteStatus) (u : ℕ) (e : List Event)
+    → ShowedPages r r o n v s u e
+showed_none r o n v s u e = record { moments = []; shown_is = none_more r }
 
-pub showed_both : (a b c : Option (List ShownPage)) (o : Overview) (n : ChangeCounts) (v : Bor (List ℕ)) (s : List RouteStatus) (u : ℕ) →
-    ShowedPages a b o n v s u → ShowedPages b c o n v s u → ShowedPages a c o n v s u
-showed_both a b c o n v s u x y = record {
+pub showed_both : (a b c : Option (List ShownPage)) (o : Overview) (n : ChangeCounts) (v : Bor (List ℕ)) (s : List RouteStatus) (u : ℕ)
+    (e : List Event) → ShowedPages a b o n v s u e → ShowedPages b c o n v s u e → ShowedPages a c o n v s u e
+showed_both a b c o n v s u e x y = record {
   moments = x.moments ++ y.moments;
   shown_is =
-      y.shown_is ∙ ap (λ r. with_pages r (pages_at o n v s u y.moments)) x.shown_is
-      ∙ both_more a (pages_at o n v s u x.moments) (pages_at o n v s u y.moments)
-      ∙ ap (with_pages a) (sym (map-append (page_at o n v s u) x.moments y.moments));
+      y.shown_is ∙ ap (λ r. with_pages r (pages_at o n v s u e y.moments)) x.shown_is
+      ∙ both_more a (pages_at o n v s u e x.moments) (pages_at o n v s u e y.moments)
+      ∙ ap (with_pages a) (sym (map-append (page_at o n v s u e) x.moments y.moments));
 }

@@ -4,7 +4,7 @@ use Rattle.std.proofs.lemmas.List.{map-append}
 use denote.Ref.{Bor}
 use Rattle.srt_log.specs.Between.{event_at, events_to, listed}
 use Rattle.srt_log.specs.Changes.{change_at}
-use Rattle.srt_log.specs.declared.shares.LineKind.TheVariants.{Session}
+use Rattle.srt_log.specs.declared.line_limits.LineKind.TheVariants.{Session}
 use Rattle.srt_log.specs.declared.snapshots.RouteSnapshot.{RouteSnapshot}
 use Rattle.srt_log.proofs.Between.{no_events, next_event}
 use Rattle.srt_watch.specs.declared.log.LogPace.{LogPace}

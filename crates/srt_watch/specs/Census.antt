@@ -13,6 +13,7 @@ use Rattle.srt_status.specs.declared.gateway.RefusalCounts.{RefusalCounts}
 use Rattle.srt_status.specs.declared.gateway.CauseCounts.{CauseCounts}
 use Rattle.srt_status.specs.declared.routes.LimitCounts.{LimitCounts}
 use Rattle.srt_status.specs.declared.routes.RouteStatus.{RouteStatus}
+use Rattle.srt_status.specs.History.{noted, round_trip_in}
 
 -- the conclusions that a route refused, by their codes, and by the limits of the route
 abbrev pub refusals_of : Route → RefusalCounts
@@ -34,14 +35,16 @@ limits_of route = record {
   sessions_per_address = refused_of causes.Address route;
 }
 
--- the status of a route with these open sessions and these counts; its name, its mode, the number of sessions allowed and the take-overs are the old ones
-abbrev pub status_with : Route → List (Option SessionView) → Totals → RouteStatus → RouteStatus
-status_with route sessions totals status = record status {
+-- the status of a route at this time, with these open sessions and these counts; its name, its mode, the number of sessions allowed and the
+-- take-overs are the old ones
+abbrev pub status_with : (moment : ℕ) → Route → List (Option SessionView) → Totals → RouteStatus → RouteStatus
+status_with moment route sessions totals status = record status {
   sessions = sessions;
   totals = totals;
   opened = opened_in route;
   refused = refusals_of route;
   limits = Some (limits_of route);
+  history = noted status.history moment totals.received.bytes totals.received.reported_lost (round_trip_in sessions);
 }
 
 -- one more, or 2^64 - 1 if that is the count already

@@ -12,7 +12,7 @@ use Rattle.srt_log.specs.declared.config_events.CloseCause.TheVariants.{Removed,
 use Rattle.srt_log.specs.declared.config_events.ConfigEvent.{ConfigEvent}
 use Rattle.srt_log.specs.declared.config_events.ConfigEvent.TheVariants as events
 use Rattle.srt_log.specs.declared.events.LogEvent.TheVariants.{Config}
-use Rattle.srt_log.specs.declared.shares.LineKind.TheVariants.{Session}
+use Rattle.srt_log.specs.declared.line_limits.LineKind.TheVariants.{Session}
 use Rattle.srt_status.specs.declared.gateway.ChangeCounts.{ChangeCounts}
 use Rattle.srt_supervision.specs.declared.changes.ChangeFault.{ChangeFault}
 use Rattle.srt_supervision.specs.declared.changes.ChangeFault.TheVariants.{OutOfMemory, NoIndexLeft}

@@ -25,6 +25,7 @@ pub mod Overview
 pub mod Pages
 pub mod RouteLines
 pub mod Following
+pub mod Outcomes
 pub mod Watching
 pub mod Turns
 pub mod Reloads

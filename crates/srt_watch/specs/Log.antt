@@ -5,14 +5,14 @@ use Rattle.std.specs.Io.KnownBytes.{Appends}
 use denote.Ref.{Bor}
 use Rattle.srt_log.specs.Times.{IsUtcText}
 use Rattle.srt_log.specs.LineShares.{SharedCall, AreShares, line_of, polled, is_shared, omitted_of, omitted_in, beyond_in}
-use Rattle.srt_log.specs.declared.shares.LineKind.{LineKind}
-use Rattle.srt_log.specs.declared.shares.LineKind.TheVariants.{Session}
+use Rattle.srt_log.specs.declared.line_limits.LineKind.{LineKind}
+use Rattle.srt_log.specs.declared.line_limits.LineKind.TheVariants.{Session}
 use Rattle.srt_log.specs.Texts.{put}
 use Rattle.srt_log.specs.Events.{time_text, event_text}
 use Rattle.srt_log.specs.Members.{text_member}
 use Rattle.srt_log.specs.Objects.{kind_of, kind_member, time_member, event_members}
 use Rattle.srt_log.specs.declared.events.LogEvent.{LogEvent}
-use Rattle.srt_log.specs.declared.events.LogEvent.TheVariants.{LeftOut}
+use Rattle.srt_log.specs.declared.events.LogEvent.TheVariants.{LeftOut, Refused}
 use Rattle.srt_watch.specs.Machines.{MachineState}
 use Rattle.srt_watch.specs.declared.log.LogForm.{LogForm}
 use Rattle.srt_watch.specs.declared.log.When.{When}
@@ -41,6 +41,12 @@ pub record Said : Type 0 where
 
 abbrev pub said : LogEvent → Said
 said event = record { words = event_text event; kind = kind_of event; members = event_members event }
+
+-- its line is about refused callers: one, or how many lines a flood of them left out
+abbrev pub is_refusal : LogEvent → Bool
+is_refusal (Refused code peer name by) = true
+is_refusal (LeftOut count) = true
+is_refusal _ = false
 
 -- a text that an event borrows
 abbrev pub lent : List ℕ → Bor (List ℕ)

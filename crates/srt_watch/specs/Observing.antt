@@ -1,5 +1,5 @@
 -- A snapshot of a route, and what it changes of the routes that are watched.
-use Rattle.std.specs.Prelude.{◌≡◌, ℕ, ◌+◌, ◌^◌, min, Bool, List, Option, None, Some, option_map, slice_get, slice_set}
+use Rattle.std.specs.Prelude.{◌≡◌, ℕ, ◌+◌, Bool, List, Option, None, Some, option_map, slice_get, slice_set}
 use Rattle.std.specs.Option.{unwrap_or}
 use Rattle.srt_route.specs.declared.route.Route.{Route}
 use Rattle.srt_route.specs.declared.totals.Totals.{Totals}
@@ -71,7 +71,7 @@ pub record HasObserved (old new : WatchedRoutes) (index : ℕ) (route : Route) (
   pub totals_are : AreTotals route totals
   pub snapshot_is : IsSnapshot route sessions moment stops snapshot
   pub routes_are : new.routes.items ≡ changed_if (with_snapshot snapshot) old.routes.items (place_of old.routes.items index)
-  pub shown_is : new.shown.items ≡ changed_if (status_with route sessions totals) old.shown.items (status_place old index)
+  pub shown_is : new.shown.items ≡ changed_if (status_with moment route sessions totals) old.shown.items (status_place old index)
   pub pair_is :
       pair
       ≡ pair_of (route_at old.routes.items (place_of old.routes.items index)) snapshot (grown_of route (status_at old.shown.items (status_place old index)))

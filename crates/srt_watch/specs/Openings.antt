@@ -4,6 +4,7 @@ use Rattle.srt_types.specs.declared.shared.Mode.{Mode}
 use Rattle.srt_types.specs.Terms.{Terms}
 use Rattle.srt_route.specs.Totals.{no_totals}
 use Rattle.srt_status.specs.declared.routes.RouteStatus.{RouteStatus}
+use Rattle.srt_status.specs.History.{no_history}
 use Rattle.srt_watch.specs.Overview.{no_refusals}
 use Rattle.srt_watch.specs.declared.watched_routes.OpeningRoute.{OpeningRoute}
 
@@ -24,6 +25,7 @@ fresh_status named mode sessions = record named {
   limits = None;
   take_overs = Some 0;
   ends = None;
+  history = no_history;
 }
 
 -- of a route with these terms

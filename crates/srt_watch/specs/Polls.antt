@@ -1,5 +1,5 @@
 -- The polls of a configuration's file: when it is read, what of it is news, and when a content is news once more.
-use Rattle.std.specs.Prelude.{ℕ, Bool, true, false, not, ◌&&◌, ◌||◌, nat_lt, nat_le, List, Option, None, Some, Ok, Err, is_err, option_map, if◌then◌else◌}
+use Rattle.std.specs.Prelude.{ℕ, Bool, true, false, not, ◌&&◌, ◌||◌, nat_lt, nat_le, List, Option, None, Some, Ok, Err, is_err, if◌then◌else◌}
 use Rattle.std.specs.Prelude.{Result}
 use Rattle.std.specs.Result.{result_map_both}
 use Rattle.std.specs.declared.fmt.InlineText.{InlineText}
@@ -105,3 +105,9 @@ news_of p moment kept s =
 abbrev pub after_look : Polling → (moment : ℕ) → (kept : Option (List ℕ)) → FileState → Polling
 after_look p moment kept s =
     if nat_lt moment p.next then p else after_found (rested (polled p moment s) moment) moment kept (read_of p moment s)
+
+-- the content that is kept after a poll that found this: what was read, whether it is taken or not
+abbrev pub kept_after : Option FoundFile → (kept : Option (List ℕ)) → Option (List ℕ)
+kept_after None kept = kept
+kept_after (Some (Ok news)) kept = Some news.content
+kept_after (Some (Err why)) kept = kept

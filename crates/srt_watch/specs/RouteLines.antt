@@ -5,7 +5,7 @@ use Rattle.srt_log.specs.Between.{event_at, events_between, events_to, listed}
 use Rattle.srt_log.specs.Changes.{change_at}
 use Rattle.srt_log.specs.declared.events.LogEvent.TheVariants.{Limited}
 use Rattle.srt_log.specs.declared.changes.Change.{Change}
-use Rattle.srt_log.specs.declared.shares.LineKind.TheVariants.{Refusal}
+use Rattle.srt_log.specs.declared.line_limits.LineKind.TheVariants.{Refusal}
 use Rattle.srt_log.specs.declared.changes.Change.TheVariants.{TookOver}
 use Rattle.srt_log.specs.declared.snapshots.RouteSnapshot.{RouteSnapshot}
 use Rattle.srt_status.specs.declared.routes.LimitCounts.{LimitCounts}

@@ -1,7 +1,7 @@
 -- What a flood of refused callers costs a log: no line about a session or a route.
 use Rattle.std.specs.Prelude.{◌≡◌, Bool, true, false, List, [], ◌∷◌}
 use Rattle.srt_log.specs.LineShares.{is_kind}
-use Rattle.srt_log.specs.declared.shares.LineKind.TheVariants.{Session, Refusal}
+use Rattle.srt_log.specs.declared.line_limits.LineKind.TheVariants.{Session, Refusal}
 use Rattle.srt_watch.specs.declared.log.When.{When}
 use Rattle.srt_watch.specs.Log.{LogCall, Offered, Always, Polled, Missed, Closed, LogState, Said, state_after_all, text_of}
 

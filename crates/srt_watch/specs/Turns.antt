@@ -1,15 +1,22 @@
 -- What a watcher does in its turns: its first lines, the losses, a route that it is shown.
-use Rattle.std.specs.Prelude.{◌≡◌, ℕ, ◌-◌, ◌^◌, min, Bool, List, ◌++◌, Option, None, Some, IfSome}
+use Rattle.std.specs.Prelude.{◌≡◌, ℕ, ◌-◌, ◌^◌, min, Bool, true, false, List, [], ◌∷◌, ◌++◌, Option, None, Some, IfSome}
 use Rattle.std.specs.Option.{unwrap_or}
 use denote.Ref.{Bor}
 use Rattle.srt_route.specs.declared.route.Route.{Route}
+use Rattle.srt_log.specs.declared.events.LogEvent.TheVariants.{Stopped}
+use Rattle.srt_log.specs.declared.events.StopCause.{StopCause}
+use Rattle.srt_log.specs.declared.events.StopCause.TheVariants.{Rounds}
+use Rattle.srt_supervision.specs.declared.watch.RunStatus.{RunStatus}
+use Rattle.srt_watch.specs.Course.{begun, stop_of, after_stop}
 use Rattle.srt_watch.specs.FirstLines.{first_calls}
-use Rattle.srt_watch.specs.Log.{LogCall, Logged, IsTimeOf}
-use Rattle.srt_watch.specs.Losses.{loss_calls, after_losses}
+use Rattle.srt_watch.specs.Log.{LogCall, Logged, IsTimeOf, Always, Missed, Polled, Closed, said}
+use Rattle.srt_watch.specs.Losses.{loss_calls, after_losses, more_missed}
 use Rattle.srt_watch.specs.Machines.{MachineState}
 use Rattle.srt_watch.specs.Observing.{status_place, with_take_overs, changed_if, HasObserved}
 use Rattle.srt_watch.specs.RouteLines.{change_calls, limit_calls, take_overs_to}
 use Rattle.srt_watch.specs.Routes.{name_of}
+use Rattle.srt_watch.specs.Watching.{stop_calls}
+use Rattle.srt_watch.specs.declared.course.Course.{Course}
 use Rattle.srt_watch.specs.declared.first_lines.FirstLines.{FirstLines}
 use Rattle.srt_watch.specs.declared.log.LogForm.{LogForm}
 use Rattle.srt_watch.specs.declared.log.LogPace.{LogPace}
@@ -39,6 +46,41 @@ pub record HasLost (says : Option MachineState) (o n : Overview) (old new : Loss
     pub overview_is : n ≡ record o { drops = drops }
     pub losses_are : new ≡ after_losses old drops
     pub logged : Logged before after p q (loss_calls old when drops)
+
+-- A turn was made, of a run that lasts so long: the first lines were written, the refusals counted that weren't reported, the lines told that the
+-- last second left out, and why the gateway is to stop, if it is; in this order.
+pub record HasTurned (says : Option MachineState) (lines : FirstLines) (losses : Losses) (lasts : Option ℕ) (old new : Course)
+    (before after : Option (List ℕ)) (p q : LogPace) (when : When) (routes : ℕ) (status : RunStatus) : Type 0 where
+  pub memory : Option ℕ
+  pub memory_is : IfSome says (λ s. memory ≡ s.memory)
+  pub requested : Bool
+  pub requested_is : IfSome says (λ s. requested ≡ s.stops)
+  pub course_is : new ≡ after_stop (begun old when.moment lasts) requested when.moment
+  pub logged :
+      Logged before after p q
+      (first_calls lines.start lines.warnings.items when (min routes (2 ^ 32 - 1)) (unwrap_or memory 0)
+      ++ (Missed (more_missed losses status.missed) ∷ Polled when ∷ stop_calls when (stop_of (begun old when.moment lasts) requested when.moment)))
+
+-- If snapshots are due, what was lost was logged and the memory read; otherwise nothing was done.
+pub data HasLooked (says : Option MachineState) (o n : Overview) (old new : Losses) (before after : Option (List ℕ)) (p q : LogPace) (when : When) :
+    (due : Bool) → Type 0 where
+  Early : n ≡ o → new ≡ old → after ≡ before → q ≡ p → HasLooked says o n old new before after p q when false
+  Due : (middle : Overview) (memory : Option ℕ) → IfSome says (λ s. memory ≡ s.memory) → HasLost says o middle old new before after p q when →
+      n ≡ record middle { memory = memory } → HasLooked says o n old new before after p q when true
+
+-- why a gateway ends that wasn't to stop
+abbrev pub rounds_unless : (stopping : Bool) → Option StopCause
+rounds_unless true = None
+rounds_unless false = Some Rounds
+
+-- The log was ended: after the cause, if it wasn't logged, and what was lost, by what is left out and the last line.
+pub record HasEnded (says : Option MachineState) (stopping : Bool) (losses : Losses) (before after : Option (List ℕ)) (p q : LogPace) (when : When) :
+    Type 0 where
+  pub drops : Option ℕ
+  pub drops_are : IfSome says (λ s. drops ≡ s.drops)
+  pub logged :
+      Logged before after p q
+      (stop_calls when (rounds_unless stopping) ++ (loss_calls losses when drops ++ (Closed when ∷ Always when (said Stopped) ∷ [])))
 
 -- the lines of two snapshots of a route
 abbrev pub pair_calls : When → Bor (List ℕ) → SnapshotPair → List LogCall

@@ -2,7 +2,7 @@
 use Rattle.std.specs.Prelude.{◌≡◌, ℕ, Bool, List, [], ◌∷◌, Option, None, Some, IfSome}
 use Rattle.srt_log.specs.declared.events.LogEvent.TheVariants as events
 use Rattle.srt_log.specs.declared.events.StopCause.{StopCause}
-use Rattle.srt_log.specs.declared.shares.LineKind.{LineKind}
+use Rattle.srt_log.specs.declared.line_limits.LineKind.{LineKind}
 use Rattle.srt_supervision.specs.declared.refusal.Refusal.{Refusal}
 use Rattle.srt_watch.specs.Course.{stop_of, after_stop}
 use Rattle.srt_watch.specs.Log.{LogCall, Always, Offered, Logged, said, lent}

@@ -5,7 +5,7 @@ ghost use Rattle.srt_watch.specs.Census.{refusals_of, limits_of, status_with, wi
 
 use srt_hs::RefusalCode;
 use srt_route::{RefusalCause, Route, SessionView, Totals};
-use srt_status::{CauseCounts, LimitCounts, RefusalCounts, RouteStatus};
+use srt_status::{CauseCounts, LimitCounts, RefusalCounts, RouteStatus, round_trip_in};
 use srt_types::product_limits::MAX_SESSIONS;
 use srt_types::{NotAdmitted, Role};
 
@@ -36,21 +36,24 @@ pub(crate) fn limits_of(route: &Route) -> LimitCounts
     }
 }
 
-/// Updates the status of a route, whose open sessions and totals are these. Its name, its mode, the number of sessions allowed and the
-/// take-overs stay.
+/// Updates the status of a route at this moment, in microseconds of the routes' clock: its open sessions and totals are these. Its
+/// name, its mode, the number of sessions allowed and the take-overs stay.
 pub(crate) fn note_route(
+    moment: u64,
     route: &Route,
     sessions: &[Option<SessionView>; MAX_SESSIONS],
     totals: Totals,
     status: &mut RouteStatus,
 )
-    ensures { status.new ≡ status_with route.now sessions.now totals status.old }
+    ensures { status.new ≡ status_with moment route.now sessions.now totals status.old }
 {
     status.sessions = *sessions;
     status.totals = totals;
     status.opened = route.opened();
     status.refused = refusals_of(route);
     status.limits = Some(limits_of(route));
+    let round_trip = round_trip_in(sessions);
+    status.history.note(moment, &totals.received, round_trip);
 }
 
 /// Counts a refusal by its code (draft-sharabayko-srt-01, section 4.3, table 7). A code that the gateway never sends isn't

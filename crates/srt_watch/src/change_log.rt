@@ -2,7 +2,7 @@
 
 ghost use Rattle.std.specs.Prelude.{◌≡◌, [], ◌∷◌, ◌++◌, map, true, option_map};
 ghost use Rattle.srt_types.specs.Terms.{terms_of};
-ghost use Rattle.srt_log.specs.declared.shares.LineKind.TheVariants.{Session};
+ghost use Rattle.srt_log.specs.declared.line_limits.LineKind.TheVariants.{Session};
 ghost use Rattle.srt_watch.specs.Overview.{no_changes};
 ghost use Rattle.srt_watch.specs.Log.{HasState, Logged, Always, Offered};
 ghost use Rattle.srt_watch.specs.ChangeLines.{config_said, one_taken, one_refused, not_taken_said, counted_not_taken, held_said, no_room_said};
@@ -15,7 +15,7 @@ use crate::log::{LogWriter, When};
 use crate::prepared_change::{NoRoom, PreparedChange};
 use srt_config::{Config, RouteChange};
 use srt_log::{CloseCause, ConfigEvent, LineKind, LogEvent};
-use srt_status::ChangeCounts;
+use srt_status::{ChangeCounts, EventRing};
 use srt_supervision::ChangeFault;
 use srt_types::Entry;
 use srt_types::product_limits::MAX_ROUTES;
@@ -41,6 +41,13 @@ impl<W: Write + Drop> ChangeLog<W> {
             log: LogWriter::new(alloc, out),
             counts: ChangeCounts::default(),
         }
+    }
+
+    /// Returns the last lines of the log.
+    pub(crate) fn events(&self) -> &EventRing
+        ensures { result.now ≡ self.now.log.events }
+    {
+        &self.log.events
     }
 
     // Writes a line about the configuration, whether its second has room or not.

@@ -1,6 +1,6 @@
 //! How a watcher follows the configuration's file: the change that a changed file requests, and what becomes of it.
 
-ghost use Rattle.std.specs.Prelude.{◌≡◌, ℕ, true, IfOk, IfSome, is_some, option_map, map, length};
+ghost use Rattle.std.specs.Prelude.{◌≡◌, ◌≤◌, ◌+◌, ℕ, true, false, IfOk, IfSome, is_some, option_map, map, length, vec_len, vec_capacity};
 ghost use Rattle.srt_types.specs.Terms.{Terms, terms_of};
 ghost use Rattle.srt_supervision.specs.Answers.{Closes, Opens};
 ghost use Rattle.srt_watch.specs.Answers.{WasInForce, WasRead, IsToClose, IsToOpen};
@@ -8,8 +8,11 @@ ghost use Rattle.srt_watch.specs.ChangeLines.{one_taken};
 ghost use Rattle.srt_watch.specs.Holding.{waits_for, waiting, held_calls, IsHeldConfig, look_of};
 ghost use Rattle.srt_watch.specs.Indexes.{numbers_of};
 ghost use Rattle.srt_watch.specs.Log.{Logged};
+ghost use Rattle.srt_watch.specs.Polls.{news_of, kept_after};
 ghost use Rattle.srt_watch.specs.Requests.{config_of, first_indexes};
 ghost use Rattle.srt_watch.specs.Following.{IsTaken, IsRequested, IsFollowed, closes_of, opens_of};
+ghost use Rattle.srt_watch.specs.Outcomes.{made_calls, IsAnnounced, IsTold};
+ghost use Rattle.srt_watch.specs.Placing.{IsRouted};
 
 use crate::change_log::ChangeLog;
 use crate::config_file::ConfigFile;
@@ -70,6 +73,9 @@ impl<'a, F: ConfigFile + Drop> Following<'a, F> {
     fn poll(&mut self, moment: u64) -> Option<Result<Found, NotTaken>>
         ensures in_force { self.new.in_force ≡ self.old.in_force }
         ensures wanted { IfSome result (λ found. IfOk found (λ f. WasRead F.facts self.old.in_force f.wanted)) }
+        ensures kept { IfSome (F.says self.old.file.file) (λ s. option_map (λ v. v.items) self.new.file.content
+            ≡ kept_after (news_of self.old.file.polling moment (option_map (λ v. v.items) self.old.file.content) s)
+            (option_map (λ v. v.items) self.old.file.content)) }
         ensures held { IfSome result (λ found. IfOk found (λ f. f.was_held ≡ true →
             IsHeldConfig self.old.file.polling moment (option_map (λ v. v.items) self.old.file.content) f.wanted.config)) }
     {
@@ -116,6 +122,7 @@ impl<'a, F: ConfigFile + Drop> Following<'a, F> {
         ensures counts { log.new.counts ≡ log.old.counts }
         ensures logged { Logged (W.contents log.old.log.out) (W.contents log.new.log.out) log.old.log.pace log.new.log.pace
             (held_calls when routes.now (waits_for found.now.was_held routes.now self.old.in_force found.now.wanted)) }
+        ensures other { result ≡ false → log.new ≡ log.old }
     {
         let Some(index) = self.waits_for(routes, found) else {
             return false;
@@ -134,9 +141,14 @@ impl<'a, F: ConfigFile + Drop> Following<'a, F> {
         change: PreparedChange,
         first: usize,
     )
-        requires { WasRead F.facts self.old.in_force change.wanted }
+        requires read { WasRead F.facts self.old.in_force change.wanted }
+        requires room { vec_len routes.old.routes + length change.room.opening.items ≤ vec_capacity routes.old.routes }
+        requires numbers { change.numbers ≡ numbers_of change.wanted.changes.gone.items change.wanted.changes.routes.items }
         ensures taken { IsTaken self.old.in_force self.new.in_force change.wanted first }
         ensures counts { log.new.counts ≡ one_taken log.old.counts }
+        ensures routes { IsRouted routes.old routes.new change.wanted.changes.routes.items self.new.in_force.indexes.items change.room.opening.items }
+        ensures logged { Logged (W.contents log.old.log.out) (W.contents log.new.log.out) log.old.log.pace log.new.log.pace
+            (made_calls when self.old.in_force change.wanted first routes.old routes.new) }
     {
         let before = routes.used();
         log.taken(when, &change, self.in_force.config(), first);
@@ -158,9 +170,13 @@ impl<'a, F: ConfigFile + Drop> Following<'a, F> {
         requires openings { (t : Terms) → ∥ IsToOpen F.facts t ∥₁ → C.requires_of (Opens t) }
         requires read { WasRead F.facts self.old.in_force requested.change.wanted }
         requires numbers { requested.change.numbers ≡ numbers_of requested.change.wanted.changes.gone.items requested.change.wanted.changes.routes.items }
+        requires room { vec_len routes.old.routes + length requested.change.room.opening.items ≤ vec_capacity routes.old.routes }
         requires closes { requested.changes.closes.items ≡ closes_of self.old.in_force requested.change.wanted }
         requires opens { map terms_of requested.changes.opens.items ≡ opens_of requested.change.wanted }
-        ensures { IsRequested self.old.in_force self.new.in_force requested.change.wanted (C.asked run.old) (C.asked run.new) }
+        ensures requested { IsRequested self.old.in_force self.new.in_force requested.change.wanted (C.asked run.old) (C.asked run.new) }
+        ensures announced { IsAnnounced self.old.in_force self.new.in_force requested.change.wanted (C.asked run.old) (C.asked run.new) when
+            routes.old routes.new (W.contents log.old.log.out) (W.contents log.new.log.out) log.old.log.pace log.new.log.pace
+            log.old.counts log.new.counts }
     {
         let Requested { change, changes } = requested;
         if change.changes_nothing() {
@@ -185,9 +201,11 @@ impl<'a, F: ConfigFile + Drop> Following<'a, F> {
     )
         requires closings { (r : ℕ) → ∥ IsToClose F.facts r ∥₁ → C.requires_of (Closes r) }
         requires openings { (t : Terms) → ∥ IsToOpen F.facts t ∥₁ → C.requires_of (Opens t) }
-        ensures { IsFollowed
+        ensures followed { IsFollowed
             (look_of self.old.file.polling when.moment (option_map (λ v. v.items) self.old.file.content) routes.old)
             self.old.in_force self.new.in_force (C.asked run.old) (C.asked run.new) }
+        ensures told { IsTold self.old.in_force self.new.in_force (C.asked run.old) (C.asked run.new) when routes.old routes.new
+            (W.contents log.old.log.out) (W.contents log.new.log.out) log.old.log.pace log.new.log.pace log.old.counts log.new.counts }
     {
         let found = match self.poll(when.moment) {
             Some(Ok(found)) => found,

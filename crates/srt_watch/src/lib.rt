@@ -20,7 +20,7 @@
 //!   `prepared_change.rt` is a change with all memory that it needs, and `indexes.rt` has which routes close and which indexes
 //!   the others get.
 //!
-//! `machine.rt`, `status_server.rt` and `config_file.rt` have the traits. The words of each line are in `srt_log`, those of the
+//! `machine.rt`, `page_interface.rt` and `config_file.rt` have the traits. The words of each line are in `srt_log`, those of the
 //! page in `srt_status`, and the changes of a configuration in `srt_config`. `stopping.rt` has the steps of a stop.
 #![tactic(auto)]
 
@@ -38,10 +38,10 @@ mod losses;
 mod machine;
 mod overview;
 mod page;
+mod page_interface;
 mod prepared_change;
 mod route_lines;
 mod showing;
-mod status_server;
 mod steering;
 mod stopping;
 mod watched_file;
@@ -52,7 +52,7 @@ pub use config_file::{ConfigFile, FileStamp, MAX_REASON};
 pub use first_lines::Start;
 pub use log::LogForm;
 pub use machine::Machine;
-pub use status_server::{NoStatusServer, StatusServer};
+pub use page_interface::{NoStatusServer, StatusServer};
 pub use watcher::Watcher;
 
 #[cfg(test)]

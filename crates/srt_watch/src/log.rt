@@ -2,16 +2,20 @@
 
 ghost use Rattle.std.specs.Prelude.{◌≡◌, ◌+◌, ◌++◌, [], ◌∷◌, List, true, IfSome, OnOk};
 ghost use Rattle.std.specs.Io.KnownBytes.{Appends};
+ghost use Rattle.srt_log.specs.Events.{event_text};
 ghost use Rattle.srt_log.specs.Objects.{object_text};
+ghost use Rattle.srt_log.specs.Texts.{put};
+ghost use Rattle.srt_status.specs.Events.{HasKept};
 ghost use Rattle.srt_watch.specs.Log.{IsStamp, IsTimeOf, HasState, Wrote, Logged, most, missed_of, after_missed};
 ghost use Rattle.srt_watch.specs.Log.{object_at, line_at, line_if, left_out_text, said};
-ghost use Rattle.srt_watch.specs.Log.{Offered, Always, Polled, Missed, Closed};
+ghost use Rattle.srt_watch.specs.Log.{Offered, Always, Polled, Missed, Closed, is_refusal};
 ghost use Rattle.srt_watch.specs.Draining.{IsDrained};
 ghost use Rattle.srt_watch.specs.Writes.{is_passing, pace_after, refused_after};
 ghost use Rattle.srt_log.specs.declared.events.LogEvent.TheVariants.{Stopped};
 
 use crate::machine::Machine;
-use srt_log::{LineKind, LineShares, LogEvent, put_object, utc_text, write_line};
+use srt_log::{LineKind, LineShares, LogEvent, event_line, put_object, utc_text, write_line};
+use srt_status::EventRing;
 use std::alloc::Global;
 use std::io::{self, Error, ErrorKind, Write};
 use std::mem;
@@ -104,6 +108,13 @@ impl LogPace {
     }
 }
 
+// Whether the line of an event is about refused callers: one, or how many lines a flood of them left out.
+fn is_refusal(event: LogEvent<'_>) -> bool
+    ensures { result ≡ is_refusal event.entry }
+{
+    matches!(event, LogEvent::Refused { .. } | LogEvent::LeftOut { .. })
+}
+
 // Whether a write that failed so may succeed later: there was no room for the line, or no memory.
 fn is_passing(kind: ErrorKind) -> bool
     ensures { result ≡ is_passing kind }
@@ -151,6 +162,8 @@ pub(crate) struct LogWriter<W: Drop> {
     refused: u64,
     // room for the object of a line
     object: Vec<u8>,
+    // the last lines, for the page
+    pub(crate) events: EventRing,
     ghost counted: { pace.is_whole ≡ true → refused ≡ 0 },
 }
 
@@ -160,12 +173,14 @@ impl<W: Write + Drop> LogWriter<W> {
         ensures out { result.out ≡ out }
         ensures state { HasState result.pace (record { calls = []; missed = 0; second = 0 }) }
         ensures whole { result.pace.is_whole ≡ true }
+        ensures events { result.events.events.items ≡ [] }
     {
         LogWriter {
             out,
             pace: LogPace::new(),
             refused: 0,
             object: Vec::new(alloc),
+            events: EventRing::new(),
         }
     }
 
@@ -181,6 +196,7 @@ impl<W: Write + Drop> LogWriter<W> {
         ensures line { OnOk result (Appends (W.contents self.old.out) (W.contents self.new.out) (line_at when (said event.entry))) }
         ensures pace { self.new.pace ≡ self.old.pace }
         ensures refused { self.new.refused ≡ self.old.refused }
+        ensures events { self.new.events ≡ self.old.events }
     {
         if when.is_json {
             put_json(&mut self.out, &mut self.object, when, event)
@@ -195,6 +211,7 @@ impl<W: Write + Drop> LogWriter<W> {
         ensures out { self.new.out ≡ self.old.out }
         ensures pace { self.new.pace ≡ pace_after outcome self.old.pace }
         ensures refused { self.new.refused ≡ refused_after outcome self.old.refused count }
+        ensures events { self.new.events ≡ self.old.events }
     {
         if let Err(error) = outcome {
             self.pace.is_whole = false;
@@ -204,10 +221,26 @@ impl<W: Write + Drop> LogWriter<W> {
         }
     }
 
+    // Keeps the line of an event for the page.
+    fn keep(&mut self, when: When, event: LogEvent<'_>)
+        ensures kept { HasKept self.old.events.events.items self.new.events.events.items when.moment (is_refusal event.entry)
+            (put [] (event_text event.entry)) }
+        ensures out { self.new.out ≡ self.old.out }
+        ensures pace { self.new.pace ≡ self.old.pace }
+        ensures refused { self.new.refused ≡ self.old.refused }
+    {
+        let line = event_line(event);
+        self.events
+            .push(when.moment, is_refusal(event), line.as_slice());
+    }
+
     // Writes a line, whatever the limit.
     fn write(&mut self, when: When, event: LogEvent<'_>, count: u64)
-        ensures { Wrote (W.contents self.old.out) (W.contents self.new.out) self.old.pace self.new.pace (line_at when (said event.entry)) }
+        ensures wrote { Wrote (W.contents self.old.out) (W.contents self.new.out) self.old.pace self.new.pace (line_at when (said event.entry)) }
+        ensures kept { HasKept self.old.events.events.items self.new.events.events.items when.moment (is_refusal event.entry)
+            (put [] (event_text event.entry)) }
     {
+        self.keep(when, event);
         let outcome = self.put_line(when, event);
         self.note(outcome, count);
     }

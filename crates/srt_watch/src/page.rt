@@ -6,9 +6,9 @@ ghost use Rattle.srt_watch.specs.Routes.{used_of};
 
 use crate::machine::Machine;
 use crate::overview::Overview;
-use crate::status_server::StatusServer;
+use crate::page_interface::StatusServer;
 use crate::watched_routes::WatchedRoutes;
-use srt_status::ChangeCounts;
+use srt_status::{ChangeCounts, EventRing};
 
 /// The most pauses in place of a rest, while a client is connected to the page, and the time after which they end, in
 /// microseconds. A response may take longer than a pause.
@@ -31,17 +31,19 @@ impl<P: StatusServer + Drop> Page<P> {
         Page { server, version }
     }
 
-    /// Serves the page, with the last snapshots.
+    /// Serves the page, with the last snapshots and the last lines of the log.
     pub(crate) fn show(
         &mut self,
         moment: u64,
         overview: &Overview,
         counts: ChangeCounts,
         routes: &WatchedRoutes,
+        events: &EventRing,
     )
         ensures version { self.new.version ≡ self.old.version }
         ensures shown { P.shown self.new.server ≡ with_pages (P.shown self.old.server)
-            (page_at overview.now counts self.old.version routes.now.shown.items (used_of routes.now.routes.items) moment ∷ []) }
+            (page_at overview.now counts self.old.version routes.now.shown.items (used_of routes.now.routes.items)
+            events.now.events.items moment ∷ []) }
     {
         let shown = routes.shown();
         let changes = ChangeCounts {
@@ -49,7 +51,7 @@ impl<P: StatusServer + Drop> Page<P> {
             ..counts
         };
         let gateway = overview.status(self.version, moment, shown.len(), changes);
-        self.server.serve(&gateway, shown);
+        self.server.serve(&gateway, shown, events);
     }
 
     // Rests for a millisecond, and serves the page. Returns the time.
@@ -59,15 +61,16 @@ impl<P: StatusServer + Drop> Page<P> {
         overview: &Overview,
         counts: ChangeCounts,
         routes: &WatchedRoutes,
+        events: &EventRing,
     ) -> u64
         ensures version { self.new.version ≡ self.old.version }
         ensures machine { M.says machine.new ≡ M.says machine.old }
         ensures shown { ShowedPages (P.shown self.old.server) (P.shown self.new.server) overview.now counts self.old.version routes.now.shown.items
-            (used_of routes.now.routes.items) }
+            (used_of routes.now.routes.items) events.now.events.items }
     {
         machine.pause();
         let moment = machine.moment();
-        self.show(moment, overview, counts, routes);
+        self.show(moment, overview, counts, routes, events);
         machine.moment()
     }
 
@@ -79,11 +82,12 @@ impl<P: StatusServer + Drop> Page<P> {
         overview: &Overview,
         counts: ChangeCounts,
         routes: &WatchedRoutes,
+        events: &EventRing,
     )
         ensures version { self.new.version ≡ self.old.version }
         ensures machine { M.says machine.new ≡ M.says machine.old }
         ensures shown { ShowedPages (P.shown self.old.server) (P.shown self.new.server) overview.now counts self.old.version routes.now.shown.items
-            (used_of routes.now.routes.items) }
+            (used_of routes.now.routes.items) events.now.events.items }
     {
         if !self.server.is_awaited() {
             machine.rest();
@@ -93,7 +97,7 @@ impl<P: StatusServer + Drop> Page<P> {
         let mut pauses = 0u32;
         while pauses < MAX_PAUSES {
             pauses += 1;
-            let moment = self.pause(machine, overview, counts, routes);
+            let moment = self.pause(machine, overview, counts, routes, events);
             if moment >= ends {
                 return;
             }

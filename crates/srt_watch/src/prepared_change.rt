@@ -1,10 +1,12 @@
 //! A change of the run's routes, with all memory that it needs here allocated.
 
-ghost use Rattle.std.specs.Prelude.{◌≡◌, ◌≤◌, [], ◌∷◌, ◌++◌, IfOk, OnOk, length, map, slice_get, vec_len, vec_capacity};
+ghost use Rattle.std.specs.Prelude.{◌≡◌, ◌≤◌, ◌+◌, [], ◌∷◌, ◌++◌, IfOk, OnOk, length, map, slice_get, vec_len, vec_capacity};
 ghost use Rattle.srt_types.specs.Terms.{terms_of};
 ghost use Rattle.srt_watch.specs.Indexes.{closing, indexes_from, numbers_of, changes_nothing};
 ghost use Rattle.srt_watch.specs.Requests.{opened_at, opened_by, config_of};
 ghost use Rattle.srt_watch.specs.Openings.{opening_name};
+ghost use Rattle.srt_watch.specs.Outcomes.{SameRoutes};
+ghost use Rattle.srt_watch.specs.Placing.{IsRouted};
 
 use crate::in_force::{InForce, Wanted};
 use crate::indexes::{changes_nothing, closing, fill_indexes, numbers_of, opens};
@@ -124,7 +126,11 @@ impl Room {
         configured: usize,
         opening: Vec<OpeningRoute>,
     ) -> Result<Room, AllocError>
-        ensures { IfOk result (λ room. (room.indexes.items ≡ []) × (vec_len room.indexes ≡ 0) × (vec_capacity room.indexes ≡ configured)) }
+        ensures indexes { IfOk result (λ room. (room.indexes.items ≡ []) × (vec_len room.indexes ≡ 0) × (vec_capacity room.indexes ≡ configured)) }
+        ensures shown { IfOk result (λ room. (room.shown.items ≡ []) × (vec_len room.shown ≡ 0) × (vec_capacity room.shown ≡ configured)) }
+        ensures opening { IfOk result (λ room. room.opening ≡ opening) }
+        ensures room { OnOk result (vec_len routes.new.routes + length opening.items ≤ vec_capacity routes.new.routes) }
+        ensures routes { SameRoutes routes.old routes.new }
     {
         let indexes = Vec::with_capacity(alloc, configured)?;
         let shown = routes.make_room(alloc, opening.len(), configured)?;
@@ -144,6 +150,8 @@ pub(crate) struct PreparedChange {
     wanted: Wanted,
     ghost empty: { (room.indexes.items ≡ []) × (vec_len room.indexes ≡ 0) },
     ghost fits: { length wanted.changes.routes.items ≤ vec_capacity room.indexes },
+    ghost none_shown: { (room.shown.items ≡ []) × (vec_len room.shown ≡ 0) },
+    ghost all_shown: { length wanted.changes.routes.items ≤ vec_capacity room.shown },
 }
 
 impl PreparedChange {
@@ -156,6 +164,9 @@ impl PreparedChange {
     ) -> Result<PreparedChange, AllocError>
         ensures wanted { IfOk result (λ p. p.wanted ≡ wanted) }
         ensures numbers { IfOk result (λ p. p.numbers ≡ numbers_of wanted.changes.gone.items wanted.changes.routes.items) }
+        ensures routes { SameRoutes routes.old routes.new }
+        ensures opening { IfOk result (λ p. p.room.opening ≡ opening) }
+        ensures room { OnOk result (vec_len routes.new.routes + length opening.items ≤ vec_capacity routes.new.routes) }
     {
         let room = Room::new(alloc, routes, wanted.changes.routes.len(), opening)?;
         Ok(PreparedChange {
@@ -177,6 +188,8 @@ impl PreparedChange {
         ensures numbers { IfOk result (λ p. p.0.numbers ≡ numbers_of wanted.changes.gone.items wanted.changes.routes.items) }
         ensures closes { IfOk result (λ p. p.1.closes.items ≡ closing in_force.now.indexes.items wanted.changes.gone.items wanted.changes.routes.items) }
         ensures opens { IfOk result (λ p. map terms_of p.1.opens.items ≡ opened_by wanted.changes.routes.items (map terms_of wanted.config.entries.items)) }
+        ensures routes { SameRoutes routes.old routes.new }
+        ensures room { IfOk result (λ p. vec_len routes.new.routes + length p.0.room.opening.items ≤ vec_capacity routes.new.routes) }
     {
         let Opens {
             entries,
@@ -236,8 +249,10 @@ impl PreparedChange {
         in_force: &mut InForce<'_>,
         routes: &mut WatchedRoutes,
     )
+        requires { vec_len routes.old.routes + length self.room.opening.items ≤ vec_capacity routes.old.routes }
         ensures config { config_of in_force.new ≡ self.wanted.config }
         ensures indexes { in_force.new.indexes.items ≡ indexes_from in_force.old.indexes.items first self.wanted.changes.routes.items }
+        ensures routes { IsRouted routes.old routes.new self.wanted.changes.routes.items in_force.new.indexes.items self.room.opening.items }
     {
         let PreparedChange {
             numbers: _,

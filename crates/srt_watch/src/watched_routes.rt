@@ -1,14 +1,18 @@
 //! The routes of a run, by their indexes, and the status of those in the configuration in force.
 
-ghost use Rattle.std.specs.Prelude.{◌≡◌, ◌+◌, IfOk, IfSome, Some, [], map, option_map, slice_get, string_bytes};
+ghost use Rattle.std.specs.Prelude.{◌≡◌, ◌≤◌, ◌<◌, ◌+◌, ◌++◌, List, Option, IfOk, OnOk, IfSome, Some, [], ◌∷◌, map, length, option_map};
+ghost use Rattle.std.specs.Prelude.{slice_get, slice_set, string_bytes, vec_len, vec_capacity};
 ghost use Rattle.std.specs.Option.{option_copied};
 ghost use Rattle.std.specs.List.{position};
+ghost use Rattle.std.specs.Vec.Iter.{into_iter_items, into_iter_len};
+ghost use Rattle.srt_status.specs.declared.routes.RouteStatus.{RouteStatus as TheStatus};
 ghost use Rattle.srt_types.specs.Terms.{terms_of};
 ghost use Rattle.srt_watch.specs.Census.{status_with};
 ghost use Rattle.srt_watch.specs.Log.{most};
 ghost use Rattle.srt_watch.specs.Openings.{fresh_status, IsOpening};
 ghost use Rattle.srt_watch.specs.Observing.{status_place, status_at, with_snapshot, with_take_overs, changed_if, grown_of, HasObserved};
-ghost use Rattle.srt_watch.specs.Placing.{unplaced, placed, all_placed, HasAdded, IfStays, HasGrown, ArePlaced};
+ghost use Rattle.srt_watch.specs.Placing.{unplaced, placed, all_placed, added, added_by, rest_by, opened_routes, status_by, kept_by, next_statuses};
+ghost use Rattle.srt_watch.specs.Placing.{IsKnown, AreKnown, IsRouted};
 ghost use Rattle.srt_watch.specs.Holding.{is_open, has_sessions, is_used_at, first_used};
 ghost use Rattle.srt_watch.specs.Routes.{used_of, has_index, is_of, place_of, route_at, name_of};
 
@@ -18,7 +22,7 @@ use crate::showing::{first_snapshot, sessions_of, snapshot_of};
 use srt_config::RouteChange;
 use srt_log::{RouteSnapshot, SlotSession};
 use srt_route::{Route, SessionView, Totals};
-use srt_status::{LimitCounts, RefusalCounts, RouteStatus};
+use srt_status::{LimitCounts, RefusalCounts, RouteHistory, RouteStatus};
 use srt_sub::Sendings;
 use srt_types::product_limits::MAX_SESSIONS;
 use srt_types::{Entry, Mode};
@@ -149,6 +153,7 @@ fn empty_status(alloc: Global, mode: Mode, sessions: u32) -> RouteStatus
         limits: None,
         take_overs: Some(0),
         ends: None,
+        history: RouteHistory::new(),
     }
 }
 
@@ -174,7 +179,7 @@ impl OpeningRoute {
 }
 
 impl WatchedRoutes {
-    /// Returns the routes of these entries, with the indexes from 0 on. Allocates 7 KB for each; the only error is out of
+    /// Returns the routes of these entries, with the indexes from 0 on. Allocates 9 KB for each; the only error is out of
     /// memory.
     pub(crate) fn open(alloc: Global, entries: &[Entry]) -> Result<WatchedRoutes, AllocError> {
         let mut routes = WatchedRoutes {
@@ -293,7 +298,7 @@ impl WatchedRoutes {
         let at = place_of(self.routes.as_slice(), index);
         let place = self.status_place(index);
         let old = put_snapshot(&mut self.routes, at, new);
-        let grown = put_status(&mut self.shown, place, route, &sessions, totals);
+        let grown = put_status(&mut self.shown, place, moment, route, &sessions, totals);
         match old {
             Some(old) => Some(SnapshotPair { old, new, grown }),
             None => None,
@@ -319,32 +324,38 @@ impl WatchedRoutes {
     ) -> Result<Vec<RouteStatus>, AllocError>
         ensures routes { self.new.routes.items ≡ self.old.routes.items }
         ensures shown { self.new.shown ≡ self.old.shown }
-        ensures result { IfOk result (λ list. list.items ≡ []) }
+        ensures room { OnOk result (vec_len self.new.routes + opening ≤ vec_capacity self.new.routes) }
+        ensures result { IfOk result (λ list. (list.items ≡ []) × (vec_len list ≡ 0) × (vec_capacity list ≡ configured)) }
     {
         self.routes.reserve(opening)?;
         Vec::with_capacity(alloc, configured)
     }
 
-    // Adds a route that opens with this index, the highest so far, and returns its status.
+    // Adds a route that opens with this index, the highest so far, and returns its status. There must be room for it.
     fn add(&mut self, index: usize, opening: OpeningRoute) -> RouteStatus
+        requires { vec_len self.old.routes < vec_capacity self.old.routes }
         ensures status { result ≡ opening.status }
-        ensures routes { HasAdded self.old.routes.items self.new.routes.items index opening }
+        ensures routes { self.new.routes.items ≡ self.old.routes.items ++ added index opening ∷ [] }
+        ensures room { (vec_len self.new.routes ≡ vec_len self.old.routes + 1) × (vec_capacity self.old.routes ≤ vec_capacity self.new.routes) }
         ensures shown { self.new.shown ≡ self.old.shown }
     {
         let OpeningRoute { name, status } = opening;
-        // There is room for it (`open`, `make_room`).
-        let _ = self.routes.push(WatchedRoute {
+        let route = WatchedRoute {
             index,
             name,
             snapshot: first_snapshot(),
             place: None,
-        });
+        };
+        let Ok(()) = self.routes.push(route) else {
+            unreachable!()
+        };
         status
     }
 
     // Moves the status of a route that stays out of the list.
     fn taken(&mut self, alloc: Global, place: usize) -> RouteStatus
         ensures status { IfSome (slice_get self.old.shown.items place) (λ s. result ≡ s) }
+        ensures shown { (other : TheStatus) × (self.new.shown.items ≡ slice_set self.old.shown.items place other) }
         ensures routes { self.new.routes ≡ self.old.routes }
     {
         let nothing = empty_status(alloc, Mode::Live, 0);
@@ -355,52 +366,68 @@ impl WatchedRoutes {
     }
 
     // Returns the status of the next route of a changed configuration, which has this index. Routes that open are added
-    // in their order.
-    #[tactic(auto, using(crate::proofs::GrownRoutes::grown_same, crate::proofs::GrownRoutes::grown_added))]
+    // in their order; there must be room for them.
     fn next_status(
         &mut self,
         alloc: Global,
         change: RouteChange,
         index: usize,
         opening: &mut IntoIter<OpeningRoute>,
-    ) -> Option<RouteStatus>
-        ensures stays { IfStays change (λ place. IfSome (slice_get self.old.shown.items place) (λ s. result ≡ Some s)) }
-        ensures routes { HasGrown self.old.routes.items self.new.routes.items }
+    ) -> RouteStatus
+        requires many { into_iter_len opening.old ≡ length (into_iter_items opening.old) }
+        requires room { vec_len self.old.routes + length (into_iter_items opening.old) ≤ vec_capacity self.old.routes }
+        ensures status { (kept : List (Option TheStatus)) → AreKnown kept self.old.shown.items
+            → IsKnown (status_by change kept (into_iter_items opening.old)) result }
+        ensures shown { (kept : List (Option TheStatus)) → AreKnown kept self.old.shown.items → AreKnown (kept_by change kept) self.new.shown.items }
+        ensures routes { self.new.routes.items ≡ self.old.routes.items ++ added_by change index (into_iter_items opening.old) }
+        ensures opening { into_iter_items opening.new ≡ rest_by change (into_iter_items opening.old) }
+        ensures many { into_iter_len opening.new ≡ length (into_iter_items opening.new) }
+        ensures room { vec_len self.new.routes + length (into_iter_items opening.new) ≤ vec_capacity self.new.routes }
     {
         match change {
-            RouteChange::Stays(place) => Some(self.taken(alloc, place)),
+            RouteChange::Stays(place) => self.taken(alloc, place),
             RouteChange::Reopens(_) | RouteChange::Opens => match opening.next() {
-                Some(opening) => Some(self.add(index, opening)),
-                None => None,
+                Some(opening) => self.add(index, opening),
+                None => empty_status(alloc, Mode::Live, 0),
             },
         }
     }
 
-    // Puts the status of each route of a changed configuration into this list, in its order.
-    #[tactic(auto, using(crate::proofs::GrownRoutes::grown_none, crate::proofs::GrownRoutes::grown_both))]
+    // Puts the status of each route of a changed configuration into this list, in its order. The list must be empty and have
+    // room for them, and so must the routes for those that open.
+    #[tactic(auto, using(crate::proofs::GrownRoutes::partly_begun, crate::proofs::GrownRoutes::partly_more))]
     fn next_shown(
         &mut self,
         alloc: Global,
         changes: &[RouteChange],
         indexes: &[usize],
         opening: Vec<OpeningRoute>,
-        mut shown: Vec<RouteStatus>,
+        shown: Vec<RouteStatus>,
     ) -> Vec<RouteStatus>
-        ensures { HasGrown self.old.routes.items self.new.routes.items }
+        requires empty { (shown.items ≡ []) × (vec_len shown ≡ 0) }
+        requires fits { length changes.now ≤ vec_capacity shown }
+        requires room { vec_len self.old.routes + length opening.items ≤ vec_capacity self.old.routes }
+        ensures routes { self.new.routes.items ≡ self.old.routes.items ++ opened_routes changes.now indexes.now opening.items }
+        ensures shown { AreKnown (next_statuses (map Some self.old.shown.items) changes.now indexes.now opening.items) result.items }
     {
+        let mut list = shown;
         let mut opening = opening.into_iter();
-        for (change, index) in changes.iter().zip(indexes.iter()) {
-            if let Some(status) = self.next_status(alloc, *change, *index, &mut opening) {
-                let _ = shown.push(status);
-            }
+        let mut rest = changes;
+        let mut left = indexes;
+        while !rest.is_empty() && !left.is_empty() {
+            let status = self.next_status(alloc, rest[0], left[0], &mut opening);
+            let Ok(()) = list.push(status) else {
+                unreachable!()
+            };
+            rest = &rest[1..];
+            left = &left[1..];
         }
-        shown
+        list
     }
 
     /// Changes to the routes of a configuration that is in force now. `indexes` has the index of each. Routes that open are
     /// added in their order; routes that aren't in the configuration lose their status. Doesn't allocate: `shown` is the
     /// list that `make_room` returned.
-    #[tactic(auto, using(crate::proofs::GrownRoutes::grown_placed))]
     pub(crate) fn change(
         &mut self,
         alloc: Global,
@@ -409,7 +436,10 @@ impl WatchedRoutes {
         opening: Vec<OpeningRoute>,
         shown: Vec<RouteStatus>,
     )
-        ensures { ArePlaced self.old.routes.items self.new.routes.items indexes.now }
+        requires empty { (shown.items ≡ []) × (vec_len shown ≡ 0) }
+        requires fits { length changes.now ≤ vec_capacity shown }
+        requires room { vec_len self.old.routes + length opening.items ≤ vec_capacity self.old.routes }
+        ensures { IsRouted self.old self.new changes.now indexes.now opening.items }
     {
         self.shown = self.next_shown(alloc, changes, indexes, opening, shown);
         place_all(&mut self.routes, indexes);
@@ -434,16 +464,17 @@ fn put_snapshot(
     Some(old)
 }
 
-// Updates the status at a place, if one is there. Returns what the limits of its route have refused since, if `reserved` or
+// Updates the status at a place at this moment, if one is there. Returns what the limits of its route have refused since, if `reserved` or
 // `sessions_per_address` refused any.
 fn put_status(
     shown: &mut Vec<RouteStatus>,
     place: Option<usize>,
+    moment: u64,
     route: &Route,
     sessions: &[Option<SessionView>; MAX_SESSIONS],
     totals: Totals,
 ) -> Option<LimitCounts>
-    ensures shown { shown.new.items ≡ changed_if (status_with route.now sessions.now totals) shown.old.items place }
+    ensures shown { shown.new.items ≡ changed_if (status_with moment route.now sessions.now totals) shown.old.items place }
     ensures result { result ≡ grown_of route.now (status_at shown.old.items place) }
 {
     let place = place?;
@@ -451,7 +482,7 @@ fn put_status(
         return None;
     }
     let before = shown[place].limits.unwrap_or(LimitCounts::default());
-    note_route(route, sessions, totals, &mut shown[place]);
+    note_route(moment, route, sessions, totals, &mut shown[place]);
     grown_limits(before, Some(limits_of(route)))
 }
 

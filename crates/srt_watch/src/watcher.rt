@@ -1,15 +1,17 @@
 //! A watcher: its rests and snapshots, the changes that it requests of the run, and how it stops the gateway.
 
-ghost use Rattle.std.specs.Prelude.{◌≡◌, [], ◌∷◌, true, None, Some, IfOk, length};
+ghost use Rattle.std.specs.Prelude.{◌≡◌, [], ◌∷◌, true, None, Some, IfOk, OnOk, is_some, length};
 ghost use Rattle.std.specs.Option.{ForSome};
 ghost use Rattle.srt_watch.specs.Answers.{IsAnswer};
 ghost use Rattle.srt_watch.specs.Course.{first_course, begun, is_due, after_due, is_stopping};
 ghost use Rattle.srt_watch.specs.Log.{Logged, Missed};
 ghost use Rattle.srt_watch.specs.Losses.{no_losses, with_faults, with_missed, more_missed};
 ghost use Rattle.srt_watch.specs.Overview.{no_overview, no_changes, with_report, after_refusal};
+ghost use Rattle.srt_watch.specs.Requests.{config_of};
 ghost use Rattle.srt_watch.specs.Routes.{name_of, requested_by, used_of};
-ghost use Rattle.srt_watch.specs.Turns.{ShowedAt, HasBegun, HasLost, pair_calls, HasShown};
-ghost use Rattle.srt_watch.specs.Pages.{ShowedPages};
+ghost use Rattle.srt_watch.specs.FirstLines.{HasWarned};
+ghost use Rattle.srt_watch.specs.Turns.{ShowedAt, HasBegun, HasLost, HasTurned, HasLooked, HasEnded, rounds_unless, pair_calls, HasShown};
+ghost use Rattle.srt_watch.specs.Pages.{ShowedPage, ShowedTwice};
 ghost use Rattle.srt_watch.specs.Stopping.{order_of, stop_step};
 ghost use Rattle.srt_supervision.specs.Answers.{IsOrdered};
 ghost use Rattle.srt_watch.specs.Watching.{refused_call, stop_calls, CheckedStop};
@@ -23,8 +25,8 @@ use crate::losses::Losses;
 use crate::machine::Machine;
 use crate::overview::Overview;
 use crate::page::Page;
+use crate::page_interface::StatusServer;
 use crate::route_lines::{RouteLog, log_changes, log_limits, take_overs};
-use crate::status_server::StatusServer;
 use crate::steering::Steering;
 use crate::watched_routes::{SnapshotPair, WatchedRoutes};
 use srt_config::Config;
@@ -70,6 +72,17 @@ fn log_stop<W: Write + Drop>(log: &mut LogWriter<W>, when: When, by: Option<Stop
 {
     if let Some(by) = by {
         log.append_always(when, LogEvent::StopRequested { by });
+    }
+}
+
+// Returns why a gateway ends that wasn't to stop: all rounds were made.
+fn rounds_unless(stopping: bool) -> Option<StopCause>
+    ensures { result ≡ rounds_unless stopping }
+{
+    if stopping {
+        None
+    } else {
+        Some(StopCause::Rounds)
     }
 }
 
@@ -177,7 +190,7 @@ where
     F: ConfigFile + Drop,
 {
     /// Returns a watcher of the routes of these entries, which have the indexes from 0 on in their order. It writes its lines
-    /// to `out` in this form, and shows the status to `page`. Allocates 7 KB for each
+    /// to `out` in this form, and shows the status to `page`. Allocates 9 KB for each
     /// route; the only error is out of memory.
     pub fn open(
         alloc: Global,
@@ -214,6 +227,7 @@ where
     /// Allocates 8 bytes for each route; the only error is out of memory.
     pub fn follow(&mut self, config: &'a Config, file: F) -> Result<(), AllocError>
         requires { F.facts.was_first config.now }
+        ensures { OnOk result (ForSome self.new.following (λ f. config_of f.in_force ≡ config.now) × (is_some self.new.following ≡ true)) }
     {
         let following = Following::new(self.alloc, config, file)?;
         mem::drop(self.following.replace(following));
@@ -229,7 +243,10 @@ where
 
     /// Adds a warning of the configuration, of at most 512 bytes, to be written after the first line. Allocates; the only
     /// error is out of memory.
-    pub fn warn<D: Display + Drop>(&mut self, warning: D) -> Result<(), AllocError> {
+    pub fn warn<D: Display + Drop>(&mut self, warning: D) -> Result<(), AllocError>
+        ensures warnings { OnOk result (HasWarned (D.output warning) self.old.first_lines.warnings.items self.new.first_lines.warnings.items) }
+        ensures start { self.new.first_lines.start ≡ self.old.first_lines.start }
+    {
         self.first_lines.warn(warning)
     }
 
@@ -242,6 +259,8 @@ where
         ensures start { self.new.first_lines.start ≡ None }
         ensures logged { HasBegun (M.says self.old.machine) self.old.first_lines (W.contents self.old.changes.log.out) (W.contents self.new.changes.log.out)
             self.old.changes.log.pace self.new.changes.log.pace when (length self.old.routes.shown.items) }
+        ensures kept { (self.new.routes ≡ self.old.routes) × (self.new.following ≡ self.old.following) × (self.new.form ≡ self.old.form)
+            × (self.new.changes.counts ≡ self.old.changes.counts) × (self.new.page ≡ self.old.page) }
     {
         log_first(
             &self.machine,
@@ -261,6 +280,8 @@ where
         ensures others { (self.new.steering ≡ self.old.steering) × (self.new.first_lines ≡ self.old.first_lines) }
         ensures logged { Logged (W.contents self.old.changes.log.out) (W.contents self.new.changes.log.out) self.old.changes.log.pace self.new.changes.log.pace
             (Missed (more_missed self.old.losses status.missed) ∷ []) }
+        ensures kept { (self.new.routes ≡ self.old.routes) × (self.new.following ≡ self.old.following) × (self.new.form ≡ self.old.form)
+            × (self.new.changes.counts ≡ self.old.changes.counts) × (self.new.page ≡ self.old.page) }
     {
         self.overview.note_poller(moment, status);
         self.changes
@@ -271,7 +292,10 @@ where
 
     // Logs the socket's faults and the datagrams that the kernel dropped since the last such lines.
     fn log_losses(&mut self, when: When)
-        ensures others { self.new.steering ≡ self.old.steering }
+        ensures others { (self.new.steering ≡ self.old.steering) × (self.new.first_lines ≡ self.old.first_lines) }
+        ensures machine { M.says self.new.machine ≡ M.says self.old.machine }
+        ensures kept { (self.new.routes ≡ self.old.routes) × (self.new.following ≡ self.old.following) × (self.new.form ≡ self.old.form)
+            × (self.new.changes.counts ≡ self.old.changes.counts) × (self.new.page ≡ self.old.page) }
         ensures lost { HasLost (M.says self.old.machine) self.old.overview self.new.overview self.old.losses self.new.losses
             (W.contents self.old.changes.log.out) (W.contents self.new.changes.log.out) self.old.changes.log.pace self.new.changes.log.pace when }
     {
@@ -289,6 +313,9 @@ where
         ensures overview { self.new.overview ≡ after_refusal self.old.overview refusal.now }
         ensures logged { Logged (W.contents self.old.changes.log.out) (W.contents self.new.changes.log.out) self.old.changes.log.pace self.new.changes.log.pace
             (refused_call when (requested_by self.old.routes refusal.now.name.items refusal.now.route) refusal.now ∷ []) }
+        ensures others { (self.new.steering ≡ self.old.steering) × (self.new.first_lines ≡ self.old.first_lines) × (self.new.losses ≡ self.old.losses) }
+        ensures kept { (self.new.routes ≡ self.old.routes) × (self.new.following ≡ self.old.following) × (self.new.form ≡ self.old.form)
+            × (self.new.changes.counts ≡ self.old.changes.counts) × (self.new.page ≡ self.old.page) }
     {
         if refusal.route.is_none() {
             self.overview.count_refusal(refusal.code, refusal.cause);
@@ -303,6 +330,12 @@ where
         requires { M.facts.was_moment when.moment }
         ensures state { (self.new.overview ≡ with_report self.old.overview when.moment status)
             × (self.new.losses ≡ with_faults (with_missed self.old.losses status.missed) status.faults) × (self.new.first_lines.start ≡ None) }
+        ensures machine { M.says self.new.machine ≡ M.says self.old.machine }
+        ensures turned { HasTurned (M.says self.old.machine) self.old.first_lines self.old.losses self.old.steering.lasts self.old.steering.course
+            self.new.steering.course (W.contents self.old.changes.log.out) (W.contents self.new.changes.log.out) self.old.changes.log.pace
+            self.new.changes.log.pace when (length self.old.routes.shown.items) status }
+        ensures kept { (self.new.routes ≡ self.old.routes) × (self.new.following ≡ self.old.following) × (self.new.form ≡ self.old.form)
+            × (self.new.changes.counts ≡ self.old.changes.counts) × (self.new.page ≡ self.old.page) }
     {
         self.begin(when);
         self.note_status(when.moment, status);
@@ -320,24 +353,30 @@ where
     fn serve_page(&mut self)
         ensures others { (self.new.steering ≡ self.old.steering) × (self.new.changes ≡ self.old.changes) × (self.new.first_lines ≡ self.old.first_lines)
             × (self.new.overview ≡ self.old.overview) × (self.new.losses ≡ self.old.losses) }
-        ensures shown { ShowedPages (P.shown self.old.page.server) (P.shown self.new.page.server) self.old.overview self.old.changes.counts
-            self.old.page.version self.old.routes.shown.items (used_of self.old.routes.routes.items) }
+        ensures kept { (self.new.routes ≡ self.old.routes) × (self.new.following ≡ self.old.following) × (self.new.form ≡ self.old.form)
+            × (self.new.page.version ≡ self.old.page.version) }
+        ensures shown { ShowedPage (P.shown self.old.page.server) (P.shown self.new.page.server) self.old.overview self.old.changes.counts
+            self.old.page.version self.old.routes.shown.items (used_of self.old.routes.routes.items) self.old.changes.log.events.events.items }
     {
         let moment = self.machine.moment();
-        self.page
-            .show(moment, &self.overview, self.changes.counts, &self.routes);
+        self.page.show(
+            moment,
+            &self.overview,
+            self.changes.counts,
+            &self.routes,
+            self.changes.events(),
+        );
     }
 
     /// Writes the last line, after the gateway's end. If the writer holds text that it couldn't write yet, rests until that is
     /// written too, for a second at most.
-    pub fn end(&mut self) {
+    pub fn end(&mut self)
+        ensures { ShowedAt (M.says self.old.machine) self.old.form (HasEnded (M.says self.old.machine) (is_stopping self.old.steering.course) self.old.losses
+            (W.contents self.old.changes.log.out) (W.contents self.new.changes.log.out) self.old.changes.log.pace self.new.changes.log.pace) }
+    {
         let when = When::now(&mut self.machine, self.form);
-        if !self.steering.is_stopping() {
-            let by = StopCause::Rounds;
-            self.changes
-                .log
-                .append_always(when, LogEvent::StopRequested { by });
-        }
+        let by = rounds_unless(self.steering.is_stopping());
+        log_stop(&mut self.changes.log, when, by);
         self.log_losses(when);
         self.changes.log.close(&mut self.machine, when);
     }
@@ -360,13 +399,23 @@ where
         ensures turned { ShowedAt (M.says self.old.machine) self.old.form (λ when.
             (self.new.overview ≡ with_report self.old.overview when.moment status)
             × (self.new.losses ≡ with_faults (with_missed self.old.losses status.missed) status.faults)
-            × (result ≡ order_of (stop_step self.new.steering.course.requested_at when.moment status.is_quiet))) }
+            × (self.new.first_lines.start ≡ None)
+            × (result ≡ order_of (stop_step self.new.steering.course.requested_at when.moment status.is_quiet))
+            × HasTurned (M.says self.old.machine) self.old.first_lines self.old.losses self.old.steering.lasts self.old.steering.course
+            self.new.steering.course (W.contents self.old.changes.log.out) (W.contents self.new.changes.log.out) self.old.changes.log.pace
+            self.new.changes.log.pace when (length self.old.routes.shown.items) status) }
+        ensures pages { ShowedTwice (P.shown self.old.page.server) (P.shown self.new.page.server) self.old.overview self.new.overview
+            self.old.changes.counts self.old.page.version self.old.routes.shown.items (used_of self.old.routes.routes.items)
+            self.old.changes.log.events.events.items self.new.changes.log.events.events.items }
+        ensures kept { (self.new.routes ≡ self.old.routes) × (self.new.following ≡ self.old.following) × (self.new.form ≡ self.old.form)
+            × (self.new.changes.counts ≡ self.old.changes.counts) × (self.new.page.version ≡ self.old.page.version) }
     {
         self.page.rest(
             &mut self.machine,
             &self.overview,
             self.changes.counts,
             &self.routes,
+            self.changes.events(),
         );
         let when = When::now(&mut self.machine, self.form);
         self.turn(when, status);
@@ -376,7 +425,12 @@ where
 
     fn wants_routes(&mut self) -> bool
         ensures course { ShowedAt (M.says self.old.machine) self.old.form (λ when. (result ≡ is_due self.old.steering.course when.moment)
-            × (self.new.steering.course ≡ after_due self.old.steering.course when.moment)) }
+            × (self.new.steering.course ≡ after_due self.old.steering.course when.moment)
+            × HasLooked (M.says self.old.machine) self.old.overview self.new.overview self.old.losses self.new.losses
+            (W.contents self.old.changes.log.out) (W.contents self.new.changes.log.out) self.old.changes.log.pace self.new.changes.log.pace when result) }
+        ensures others { self.new.first_lines ≡ self.old.first_lines }
+        ensures kept { (self.new.routes ≡ self.old.routes) × (self.new.following ≡ self.old.following) × (self.new.form ≡ self.old.form)
+            × (self.new.changes.counts ≡ self.old.changes.counts) × (self.new.page ≡ self.old.page) }
     {
         let when = When::now(&mut self.machine, self.form);
         if !self.steering.is_snapshot_due(when.moment) {
@@ -388,9 +442,13 @@ where
     }
 
     fn show_route(&mut self, index: usize, route: &Route)
-        ensures { ShowedAt (M.says self.old.machine) self.old.form
+        ensures shown { ShowedAt (M.says self.old.machine) self.old.form
             (HasShown self.old.routes self.new.routes index route.now (is_stopping self.old.steering.course)
             (W.contents self.old.changes.log.out) (W.contents self.new.changes.log.out) self.old.changes.log.pace self.new.changes.log.pace) }
+        ensures others { (self.new.steering ≡ self.old.steering) × (self.new.first_lines ≡ self.old.first_lines) × (self.new.losses ≡ self.old.losses)
+            × (self.new.overview ≡ self.old.overview) }
+        ensures kept { (self.new.following ≡ self.old.following) × (self.new.form ≡ self.old.form)
+            × (self.new.changes.counts ≡ self.old.changes.counts) × (self.new.page ≡ self.old.page) }
     {
         let when = When::now(&mut self.machine, self.form);
         let stops = self.steering.is_stopping();
@@ -409,6 +467,9 @@ where
         ensures logged { ShowedAt (M.says self.old.machine) self.old.form (λ when. Logged (W.contents self.old.changes.log.out)
             (W.contents self.new.changes.log.out) self.old.changes.log.pace self.new.changes.log.pace
             (refused_call when (requested_by self.old.routes refusal.now.name.items refusal.now.route) refusal.now ∷ [])) }
+        ensures others { (self.new.steering ≡ self.old.steering) × (self.new.first_lines ≡ self.old.first_lines) × (self.new.losses ≡ self.old.losses) }
+        ensures kept { (self.new.routes ≡ self.old.routes) × (self.new.following ≡ self.old.following) × (self.new.form ≡ self.old.form)
+            × (self.new.changes.counts ≡ self.old.changes.counts) × (self.new.page ≡ self.old.page) }
     {
         let when = When::now(&mut self.machine, self.form);
         self.note_refused(when, refusal);

@@ -13,7 +13,7 @@ use crate::{LogForm, Machine, Start, StatusServer, Watcher};
 use arrayvec::ArrayVec;
 use changing::Written;
 use srt_route::{Reply, Route, SessionView, Totals, Traffic};
-use srt_status::{CauseCounts, ChangeCounts, GatewayStatus, RefusalCounts, RouteStatus};
+use srt_status::{CauseCounts, ChangeCounts, EventRing, GatewayStatus, RefusalCounts, RouteStatus};
 use srt_supervision::{Order, Refusal, Report, RunStatus, Watch};
 use srt_types::{Access, Entry, Item, Mode, NotAdmitted, Peer, Role, Rules};
 use std::alloc::Global;
@@ -128,7 +128,7 @@ impl StatusServer for Shown {
         false
     }
 
-    fn serve(&mut self, gateway: &GatewayStatus<'_>, routes: &[RouteStatus]) {
+    fn serve(&mut self, gateway: &GatewayStatus<'_>, routes: &[RouteStatus], _events: &EventRing) {
         self.polling = gateway.polling;
         self.poller = gateway.poller;
         self.uptime_seconds = gateway.uptime_seconds;

@@ -10,7 +10,7 @@ invariant-loop-pauses g l = record {
   machine : g.M.Machine.says l.machine ≡ g.M.Machine.says l.fn.machine;
   shown :
       ShowedPages (g.P.StatusServer.shown l.fn.self.server) (g.P.StatusServer.shown l.self.server) l.overview l.counts l.fn.self.version l.routes.shown.items
-      (used_of l.routes.routes.items);
+      (used_of l.routes.routes.items) l.events.events.items;
 }
 
 abbrev pub decreases-loop-pauses : goal.decreases-loop-pauses

@@ -1,6 +1,6 @@
 //! Where a watcher shows the status.
 
-use srt_status::{GatewayStatus, RouteStatus};
+use srt_status::{EventRing, GatewayStatus, RouteStatus};
 
 /// A server of the status page.
 pub trait StatusServer {
@@ -13,9 +13,10 @@ pub trait StatusServer {
     /// Whether a client is connected, so that the watcher rests for shorter times.
     fn is_awaited(&self) -> bool;
 
-    /// Responds to pending requests, without waiting. Called after each rest of the watcher, with the last snapshots.
-    fn serve(&mut self, gateway: &GatewayStatus<'_>, routes: &[RouteStatus])
-        ensures { shown self.new ≡ with_pages (shown self.old) (page gateway.now routes.now ∷ []) };
+    /// Responds to pending requests, without waiting. Called after each rest of the watcher, with the last snapshots and the
+    /// last lines of the log.
+    fn serve(&mut self, gateway: &GatewayStatus<'_>, routes: &[RouteStatus], events: &EventRing)
+        ensures { shown self.new ≡ with_pages (shown self.old) (page gateway.now routes.now events.now.events.items ∷ []) };
 }
 
 /// No page.
@@ -27,5 +28,10 @@ impl StatusServer for NoStatusServer {
         false
     }
 
-    fn serve(&mut self, _gateway: &GatewayStatus<'_>, _routes: &[RouteStatus]) {}
+    fn serve(
+        &mut self,
+        _gateway: &GatewayStatus<'_>,
+        _routes: &[RouteStatus],
+        _events: &EventRing,
+    ) {}
 }
