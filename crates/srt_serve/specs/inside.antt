@@ -11,3 +11,4 @@ pub mod Orders
 pub mod Inline
 pub mod Leaving
 pub mod Quiet
+pub mod UpTo

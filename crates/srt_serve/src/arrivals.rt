@@ -11,9 +11,8 @@ ghost use Rattle.srt_supervision.specs.Answers.{Closes};
 
 use crate::answers::{Beginning, ClosesRoute};
 use crate::evidence::{
-    CloseRequest, FlagClear, FlagRaised, Marked, MarkedBefore, NoneMarked, NoneSeated, NoneStated,
-    WordWritten, mark, next_clock, next_poller, raise_flag, request_in, take_flag, take_mark,
-    write_word,
+    CloseRequest, FlagClear, Marked, MarkedBefore, NoneMarked, NoneSeated, NoneStated, WordWritten,
+    mark, next_clock, next_poller, raise_flag, request_in, take_flag, take_mark, write_word,
 };
 use crate::ticking::TickEnds;
 use srt_lobby::NewName;
@@ -100,6 +99,28 @@ impl<A: Answers + Beginning> TickEnds<ClockEnd> for ClockArrivals<'_, A> {
     }
 }
 
+/// Where the watching thread leaves what the polling one is to know of a change. What is known once a call has returned may
+/// be nothing, but only by the call can code that is generic over this trait show it.
+pub trait ChangeNotices: Answers {
+    ghost use Rattle.std.specs.Prelude.{ℕ};
+    ghost use Rattle.srt_supervision.specs.Answers.{Closes};
+
+    /// What is known once a route was requested to close.
+    ghost requested: { Self → ℕ → Type 0 };
+
+    /// What is known once the polling thread was notified.
+    ghost notified: { Self → Type 0 };
+
+    /// Requests that this route be closed, once `notify` is called. The watcher requested it.
+    fn close(&self, route: usize)
+        requires { Self.answered (Closes route) }
+        ensures { requested self.now route };
+
+    /// Notifies the polling thread, which checks before its next round. For the watching thread, at the end of a change.
+    fn notify(&self)
+        ensures { notified self.now };
+}
+
 /// Notices of the watching thread to the polling one: that routes were added, and which are to close.
 #[derive(Drop)]
 pub struct RouteNotices<A: Answers> {
@@ -164,9 +185,9 @@ impl<A: Answers> RouteNotices<A> {
         })
     }
 
-    /// Requests that this route be closed, once `notify` is called. The watcher requested it. A second request for a route
-    /// is ignored.
-    pub fn close(&self, route: usize) -> CloseNotice<A>
+    // What became of a request that this route be closed, which the watcher requested. A second request for a route is
+    // ignored.
+    fn request(&self, route: usize) -> CloseNotice<A>
         requires { A.answered (Closes route) }
         ensures { IsNoticed self.now route result }
     {
@@ -180,11 +201,6 @@ impl<A: Answers> RouteNotices<A> {
             }
             Err(before) => CloseNotice::Repeated(before),
         }
-    }
-
-    /// Notifies the polling thread, which checks before its next round. For the watching thread, at the end of a change.
-    pub fn notify(&self) -> FlagRaised {
-        raise_flag(&self.is_pending)
     }
 
     // The next route that is to close, among this many. The watcher requested that. The error is evidence that there is
@@ -204,6 +220,26 @@ impl<A: Answers> RouteNotices<A> {
             Ok(request) => Ok(request),
             Err(none) => Err(NoneToClose::Unstated(none)),
         }
+    }
+}
+
+impl<A: Answers> Answers for RouteNotices<A> {
+    ghost answered = { λ a. A.answered a };
+}
+
+impl<A: Answers> ChangeNotices for RouteNotices<A> {
+    ghost use Rattle.srt_serve.specs.inside.Notices.{was_requested};
+
+    ghost requested = { λ notices route. was_requested notices route };
+
+    ghost notified = { λ _. Unit {0} };
+
+    fn close(&self, route: usize) {
+        let _ = self.request(route);
+    }
+
+    fn notify(&self) {
+        let _ = raise_flag(&self.is_pending);
     }
 }
 
@@ -267,7 +303,7 @@ impl<A: Answers + Beginning> Openings for PollerArrivals<'_, '_, A> {
     ghost no_more = { λ s. IsSome s.none_added };
 
     // or there is no room for a further request; there is for one of each route
-    ghost none_to_close = { λ s. IsSome s.none_to_close ⊎ (vec_capacity s.requested ≤ length s.requested.items) };
+    ghost none_to_close = { λ s routes. IsSome s.none_to_close ⊎ (vec_capacity s.requested ≤ length s.requested.items) };
 
     fn has_changes(&mut self) -> bool {
         match take_flag(&self.notices.is_pending) {

@@ -68,15 +68,26 @@ pub fn enter(wakeups: &Wakeups, route: usize) -> Option<Entered<'_>>
     }
 }
 
+/// Evidence that a worker left a route.
+#[derive(Drop)]
+pub struct LeftRoute {
+    /// Whether it left work there, so that the route's inbox was marked as ready.
+    pub is_left: bool,
+    left: (),
+}
+
 impl Entered<'_> {
     /// Leaves the route, as `Wakeups::leave` does.
-    pub fn leave(self, is_left: bool) {
+    pub fn leave(self, is_left: bool) -> LeftRoute
+        ensures { result.is_left ≡ is_left }
+    {
         let Entered {
             wakeups,
             route,
             entered: _,
         } = self;
         wakeups.leave(route, is_left);
+        LeftRoute { is_left, left: () }
     }
 }
 

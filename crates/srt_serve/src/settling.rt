@@ -78,7 +78,7 @@ pub fn settle_routes<R: Wait, X: Attachment + Drop>(
         let (Some(end), Some(clock)) = (ends.next(), clocks.next()) else {
             unreachable!();
         };
-        let Some(account) = routes.seat(r).settle(rt, end.ingress, clock, end.drain) else {
+        let Ok(account) = routes.seat(r).settle(rt, end.ingress, clock, end.drain) else {
             return Err(Busy);
         };
         let Ok(()) = accounts.push(account) else {

@@ -1,18 +1,19 @@
 //! The watching thread of a run: it shows the routes to a watcher, reports refusals to it, passes its orders to the poller,
 //! and makes its changes of the routes.
 
-ghost use Rattle.std.specs.Prelude.{◌≡◌, ◌≢◌, ◌⊎◌, ◌+◌, ◌-◌, ◌%◌, ◌^◌, true, false, IfOk, IfErr, length, map, min, take};
+ghost use Rattle.std.specs.Prelude.{◌≡◌, ◌≢◌, ◌⊎◌, ◌≤◌, ◌+◌, ◌-◌, true, false, IfOk, IfErr, length, map, min, take};
 ghost use Rattle.srt_types.specs.Terms.{terms_of};
 ghost use Rattle.srt_serve.specs.Opened.{terms_in};
 ghost use Rattle.srt_mailbox.specs.Identities.{identity_in};
-ghost use Rattle.srt_serve.specs.inside.Changing.{IsChangeFault};
+ghost use Rattle.srt_serve.specs.inside.Changing.{IsChangeFault, IsClosedAt};
 ghost use Rattle.srt_serve.specs.inside.Orders.{IsSet};
 ghost use Rattle.srt_serve.specs.inside.Quiet.{HasNoSession, HasSession, is_check_quiet};
+ghost use Rattle.srt_serve.specs.inside.UpTo.{UpTo};
 ghost use Rattle.srt_serve.specs.inside.Watched.{known_first, known_with, known_checked, status_of};
-ghost use Rattle.srt_supervision.specs.Answers.{Answer, AreOpenings};
+ghost use Rattle.srt_supervision.specs.Answers.{Answer, AreClosings, AreOpenings};
 
 use crate::answers::Beginning;
-use crate::arrivals::{NameAttachment, RouteHost, RouteNotices, seat_route};
+use crate::arrivals::{ChangeNotices, NameAttachment, RouteHost, RouteNotices, seat_route};
 use crate::counters::{Count, MissedRefusals, SocketFaults};
 use crate::evidence::{FlagSet, RunOver, run_over};
 use crate::shared_report::ReportRead;
@@ -54,6 +55,8 @@ impl<A: Answers + Beginning, C: RouteHost<Seat = Seat<NameAttachment<A>>>> Chang
     fn open_all(&self, entries: &[Entry]) -> Result<Vec<Seat<NameAttachment<A>>>, ChangeFault>
         requires { AreOpenings A.answered (map terms_of entries.now) }
         ensures terms { IfOk result (λ seats. terms_in (map (λ s. identity_in s.cell) seats.items) ≡ map terms_of entries.now) }
+        ensures many { IfOk result (λ seats. length seats.items ≡ length entries.now) }
+        ensures room { IfOk result (λ seats. length seats.items ≤ length self.now.places.now - self.now.routes) }
         ensures fault { IfErr result (λ fault. IsChangeFault (length self.now.places.now - self.now.routes) (length entries.now) fault) }
     {
         let left = self.places.len().saturating_sub(self.routes);
@@ -76,8 +79,9 @@ impl<A: Answers + Beginning, C: RouteHost<Seat = Seat<NameAttachment<A>>>> Chang
 
     // Puts the routes of a change into their places, which are taken then.
     fn host_all(&mut self, seats: Vec<Seat<NameAttachment<A>>>)
-        ensures routes { self.new.routes ≡ (self.old.routes + length seats.items) % 2 ^ 64 }
-        ensures places { self.new.places ≡ self.old.places }
+        requires { length seats.items ≤ length self.old.places.now - self.old.routes }
+        ensures routes { self.new.routes ≡ self.old.routes + length seats.items }
+        ensures others { (self.new.places ≡ self.old.places) × (self.new.notices ≡ self.old.notices) }
     {
         let count = seats.len();
         let mut at = self.routes;
@@ -99,21 +103,40 @@ impl<A: Answers + Beginning, C: RouteHost<Seat = Seat<NameAttachment<A>>>> Chang
     }
 }
 
+// Requests that these routes be closed, of those that there were before a change, and notifies the polling thread.
+fn leave_notices<N: ChangeNotices>(notices: &N, closes: &[usize], first: usize)
+    requires { AreClosings N.answered closes.now }
+    ensures closed { UpTo (IsClosedAt (N.requested notices.now) first closes.now) (length closes.now) }
+    ensures notified { N.notified notices.now }
+{
+    for route in closes {
+        if *route < first {
+            notices.close(*route);
+        }
+    }
+    notices.notify();
+}
+
 impl<A: Answers + Beginning, C: RouteHost<Seat = Seat<NameAttachment<A>>>> ChangeRoutes
     for Changer<'_, C, A> {
+    ghost use Rattle.srt_serve.specs.inside.Notices.{was_requested};
+
     ghost requires_of = { λ a. A.answered a };
 
     // Allocates all memory first, then puts the routes into their places, and then notifies the polling thread.
-    fn change(&mut self, changes: RouteChanges) -> Result<usize, ChangeFault> {
+    fn change(&mut self, changes: RouteChanges) -> Result<usize, ChangeFault>
+        requires closings { AreClosings A.answered changes.closes.items }
+        requires openings { AreOpenings A.answered (map terms_of changes.opens.items) }
+        ensures first { IfOk result (λ first. (first ≡ self.old.routes) × (self.new.routes ≡ first + length changes.opens.items)) }
+        ensures closed { IfOk result (λ first.
+            UpTo (IsClosedAt (was_requested self.old.notices.now) first changes.closes.items) (length changes.closes.items)) }
+        ensures fault { IfErr result (λ fault. IsChangeFault (length self.old.places.now - self.old.routes) (length changes.opens.items) fault) }
+        ensures same { IfErr result (λ _. self.new ≡ self.old) }
+    {
         let seats = self.open_all(&changes.opens)?;
         let first = self.routes;
         self.host_all(seats);
-        for route in &changes.closes {
-            if *route < first {
-                let _ = self.notices.close(*route);
-            }
-        }
-        let _ = self.notices.notify();
+        leave_notices(self.notices, &changes.closes, first);
         Ok(first)
     }
 }
@@ -233,8 +256,8 @@ impl Known {
     }
 
     // The same with the counts that were left since, if there are any.
-    fn with_counts(self, left: Result<ReportRead, FlagSet>) -> Known
-        ensures { result ≡ known_with left self }
+    fn with_counts(self, left: &Result<ReportRead, FlagSet>) -> Known
+        ensures { result ≡ known_with left.now self }
     {
         match left {
             Ok(read) => Known {
@@ -282,6 +305,8 @@ struct Rested<A: Answers> {
     order: Order,
     // evidence that it was set
     set: OrderSet<A>,
+    // the counts that were left before, or evidence that none were
+    left: Result<ReportRead, FlagSet>,
     ghost is_set: { ∥ IsSet order set ∥₁ },
 }
 
@@ -292,12 +317,15 @@ fn rest<A: Answers, T: Watch>(
     known: &mut Known,
 ) -> Rested<A>
     requires { (a : Answer) → T.answered a → A.answered a }
+    ensures { known.new ≡ known_with result.left known.old }
 {
-    *known = known.with_counts(channel.report.take());
+    let left = channel.report.take();
+    *known = known.with_counts(&left);
     let order = watch.next(known.status(channel.faults(), channel.missed()));
     Rested {
         order,
         set: channel.set_order(order),
+        left,
     }
 }
 

@@ -6,7 +6,7 @@ ghost use Rattle.srt_mailbox.specs.declared.gates.Served.TheVariants.{Turned as 
 ghost use Rattle.srt_types.specs.declared.shared.Turned.TheVariants.{Idle};
 ghost use Rattle.srt_serve.specs.inside.Working.{round_first, round_with, is_thin, pause_after, sleeps, first_of};
 
-use crate::evidence::{Entered, RunOver, enter, run_over};
+use crate::evidence::{Entered, LeftRoute, RunOver, enter, run_over};
 use srt_mailbox::{Gate, Serve, Served, Visit};
 use srt_types::Turned;
 use srt_wakeups::Wakeups;
@@ -144,19 +144,31 @@ pub fn is_left(visit: Visit) -> bool
     }
 }
 
+// A visit of a route that a worker entered, and left after it.
+#[derive(Drop)]
+struct Stay {
+    visit: Visit,
+    left: LeftRoute,
+}
+
 // Serves a route that this worker entered, and leaves it.
 fn serve_entered<R: Wait, C: Serve, G: Gate>(
     rt: &R,
     cell: &C,
     entered: Entered<'_>,
     gate: &mut G,
-) -> Visit
-    ensures most { result.turns ≤ 64 }
-    ensures all { result.end ≡ None → result.turns ≡ 64 }
+) -> Stay
+    ensures most { result.visit.turns ≤ 64 }
+    ensures all { result.visit.end ≡ None → result.visit.turns ≡ 64 }
+    ensures idle { result.visit.end ≡ Some (TurnedAs Idle) → result.left.is_left ≡ false }
+    ensures held { result.visit.end ≡ Some GateRefused → result.left.is_left ≡ false }
+    ensures left { result.visit.end ≢ Some (TurnedAs Idle) → result.visit.end ≢ Some GateRefused → result.left.is_left ≡ true }
 {
     let visit = serve_route(rt, cell, entered.route, gate, entered.wakeups, WORKER_TURNS);
-    entered.leave(is_left(visit));
-    visit
+    Stay {
+        visit,
+        left: entered.leave(is_left(visit)),
+    }
 }
 
 // Passes once over all routes, from the route `first` on, and serves each whose inbox is ready and that no other worker
@@ -191,7 +203,7 @@ fn serve_round<R: Wait, C: Serve, G: Gate>(
         }
         if let Some(cell) = cells.get(route) {
             if let Some(entered) = enter(wakeups, route) {
-                round = round.with(serve_entered(rt, cell, entered, gate));
+                round = round.with(serve_entered(rt, cell, entered, gate).visit);
             }
         }
         route = route.wrapping_add(1);

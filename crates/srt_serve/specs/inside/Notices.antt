@@ -31,3 +31,7 @@ module _ {A : Type 0} where
   IsNoticed notices route (Left word marked) = (word.number ≡ (route + 1) % 2 ^ 64) × IsMarked route marked
   IsNoticed notices route (Repeated before) = before.route ≡ route
   IsNoticed notices route NoSuchRoute = length notices.words.items ≤ route
+
+  -- this route was requested to close, by one call or another
+  abbrev pub was_requested : RouteNotices A → (route : ℕ) → Type 0
+  was_requested notices route = (notice : CloseNotice A) × IsNoticed notices route notice

@@ -28,10 +28,10 @@ loop-r-preserved g c =
       joined =
           (joined_first (arrived c.args.routes.now) c.loop-r.r _ _ _ _ _ c.in-Some-Some.end c.in-Some-Some.clock c.seat.ensures
           ends clocks c.loop-r.invariant.joined).1;
-      many = omega (arith, c.loop-r.invariant.many, ap length c.in-Ok.ensures.items, length-append c.loop-r.accounts.items (c.in-Some.account ∷ []));
+      many = omega (arith, c.loop-r.invariant.many, ap length c.in-Ok-push.ensures.items, length-append c.loop-r.accounts.items (c.in-Ok.account ∷ []));
       room = omega (arith, c.loop-r.invariant.room, c.push.ensures.capacity);
-      settled = one_settled (arrived c.args.routes.now) c.loop-r.r _ c.loop-r.accounts.items _ _ _ _ _ _ _ c.in-Some.account c.in-Some-Some.end
-          c.in-Some-Some.clock c.seat.ensures ends clocks c.in-Ok.ensures.items c.in-Some.ensures c.loop-r.invariant.settled;
+      settled = one_settled (arrived c.args.routes.now) c.loop-r.r _ c.loop-r.accounts.items _ _ _ _ _ _ _ c.in-Ok.account c.in-Some-Some.end
+          c.in-Some-Some.clock c.seat.ensures ends clocks c.in-Ok-push.ensures.items c.in-Ok.ensures c.loop-r.invariant.settled;
     }
 
 pub returns : goal.returns
