@@ -8,7 +8,7 @@ _srtgw() {
   case $before in
     --rounds) return ;;
     --log) mapfile -t COMPREPLY < <(compgen -W "text json" -- "$word"); return ;;
-    --for) mapfile -t COMPREPLY < <(compgen -W "30s 10m 8h 7d" -- "$word"); return ;;
+    --for) mapfile -t COMPREPLY < <(compgen -W "30s 10m 1h30m 8h 7d" -- "$word"); return ;;
   esac
   case $command in
     check) words="--explain --addresses --help" ;;

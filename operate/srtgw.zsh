@@ -23,7 +23,7 @@ _srtgw() {
     replay) _arguments $help '1:configuration:_files' '2:tape:_files' ;;
     explain) _arguments $help '--output[what replay printed for the tape]:output of replay:_files' '1:tape:_files' ;;
     serve) _arguments $help '--rounds[how many times the socket is polled]:number' '1:configuration:_files' ;;
-    run) _arguments $help '--for[stop after this time]:duration:(30s 10m 8h 7d)' '--no-time[leave out the time of each line]' '--log[the form of the log]:form:(text json)' '1:configuration:_files' ;;
+    run) _arguments $help '--for[stop after this time]:duration:(30s 10m 1h30m 8h 7d)' '--no-time[leave out the time of each line]' '--log[the form of the log]:form:(text json)' '1:configuration:_files' ;;
     help) ((CURRENT != 2)) || _describe -t commands command 'commands[1,-2]' ;;
   esac
 }

@@ -54,7 +54,7 @@ def of_bash():
         expect("srtgw.bash" in by_bash("srtgw", command, "srtgw."), f"{command}: it offers no file")
     expect(by_bash("srtgw", "run", "--n") == ["--no-time"], "it doesn't look at what is typed")
     for duration in by_bash("srtgw", "run", "--for", ""):
-        expect(re.fullmatch(r"\d+[smhd]", duration), f"it offers {duration}")
+        expect(re.fullmatch(r"(\d+[smhd])+", duration), f"it offers {duration}")
 
 
 @case("the completion of fish offers what --help names", needs=["fish"])

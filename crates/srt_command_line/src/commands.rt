@@ -74,7 +74,9 @@ fn duration<'a>(alloc: Global) -> Arg<'a> {
         .long("for")
         .value_name("DURATION")
         .action(ArgAction::Set)
-        .help("Stops by itself after this time: a number and s, m, h or d, from 1s to 365d")
+        .help(
+            "Stops by itself after this time: a number of seconds, or numbers with d, h, m and s, such as 90, 8h or 1h30m; from 1s to 365d",
+        )
 }
 
 fn no_time<'a>(alloc: Global) -> Arg<'a> {

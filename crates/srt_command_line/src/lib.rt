@@ -10,7 +10,7 @@
 //! `--version` prints.
 //!
 //! Files: `commands.rt` has the commands with their help, `tasks.rt` finds the task in what was parsed, `durations.rt`
-//! reads a duration such as `8h`, `words.rt` does both and prints. docs/OPERATING.md has the commands for people.
+//! reads a duration such as `1h30m`, `words.rt` does both and prints. docs/OPERATING.md has the commands for people.
 #![tactic(auto)]
 
 mod commands;

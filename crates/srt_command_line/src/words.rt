@@ -36,7 +36,7 @@ fn wrong_duration(alloc: Global) -> Result<Error, AllocError> {
     let mut command = command(alloc)?;
     command.error(
         ErrorKind::ValueValidation,
-        "the time of --for is a number and s, m, h or d, from 1s to 365d, such as 8h",
+        "the time of --for is a number of seconds, or numbers with d, h, m and s in this order, from 1s to 365d, such as 90, 8h or 1h30m",
     )
 }
 

@@ -2,7 +2,9 @@
 
 use crate::address::socket_address;
 use srt_config::BindAddress;
-use srt_status::{Connection, GatewayStatus, OVERVIEW, RouteStatus, request_in, respond};
+use srt_status::{
+    Connection, EventRing, GatewayStatus, OVERVIEW, RouteStatus, request_in, respond,
+};
 use srt_types::product_limits::MAX_CONNECTIONS;
 use srt_watch::StatusServer;
 use std::alloc::{AllocError, Global};
@@ -48,6 +50,7 @@ impl Client {
         alloc: Global,
         gateway: &GatewayStatus<'_>,
         routes: &[RouteStatus],
+        events: &EventRing,
     ) -> bool {
         if self.connection.is_answered() {
             return false;
@@ -56,7 +59,7 @@ impl Client {
             self.is_lost |= self.is_read;
             return false;
         };
-        match respond(alloc, request, OVERVIEW.as_bytes(), gateway, routes) {
+        match respond(alloc, request, OVERVIEW.as_bytes(), gateway, routes, events) {
             Ok(response) => self.connection.answer(gateway.moment, response),
             Err(_) => self.is_lost = true,
         }
@@ -162,7 +165,7 @@ impl StatusServer for StatusPage {
     }
 
     // At most one response is made in a call, so that a call lasts some milliseconds.
-    fn serve(&mut self, gateway: &GatewayStatus<'_>, routes: &[RouteStatus]) {
+    fn serve(&mut self, gateway: &GatewayStatus<'_>, routes: &[RouteStatus], events: &EventRing) {
         for _ in 0..MAX_ACCEPTS {
             if !self.accept_one(gateway.moment) {
                 break;
@@ -172,7 +175,7 @@ impl StatusServer for StatusPage {
         for client in self.clients.iter_mut() {
             client.read();
             if !is_made {
-                is_made = client.answer(self.alloc, gateway, routes);
+                is_made = client.answer(self.alloc, gateway, routes, events);
             }
             client.write();
         }
