@@ -89,11 +89,17 @@ def names_of_none(folder: str, change: Change) -> list[str]:
     return [it for it in names if not re.search(rf"\b{it}\b", sources)]
 
 
+def head_at(lines: list[str], at: int) -> str:
+    """The head of the `impl` block that begins in this line, in one line."""
+    last = next((end for end in range(at, len(lines)) if lines[end].endswith(("{", "}"))), at)
+    return " ".join(line.strip() for line in lines[at : last + 1])
+
+
 def owner_of(lines: list[str], first: int) -> str:
     """The type whose method begins in this line, or nothing for a free function."""
     if not lines[first].startswith(" "):
         return ""
-    head = next((lines[at] for at in range(first, -1, -1) if IMPL.match(lines[at])), "")
+    head = next((head_at(lines, at) for at in range(first, -1, -1) if IMPL.match(lines[at])), "")
     if " for " in head:
         raise CannotCopy("it changes a trait's method")
     return re.sub(r"^(?:unsafe )?impl(?:<[^{]*?>)? ", "", head).split("<")[0].split(" ")[0]

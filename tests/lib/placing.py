@@ -61,7 +61,8 @@ def of_method(folder: str, edit: str, changes: list[Change]) -> Placed:
     if any(it.path != path or text.count(it.old) != 1 for it in changes):
         raise CannotCopy("it changes several files, or in steps")
     lines = text.split("\n")
-    heads = {at: found for at, line in enumerate(lines) if (found := HEAD.match(line))}
+    blocks = (at for at, line in enumerate(lines) if copying.IMPL.match(line))
+    heads = {at: found for at in blocks if (found := HEAD.match(copying.head_at(lines, at)))}
     # with its type alone in the head, the block is one whose methods can be found
     plain = [f"impl {heads[at][2]} {{" if at in heads else line for at, line in enumerate(lines)]
     places = [text.count("\n", 0, text.index(it.old)) for it in changes]
