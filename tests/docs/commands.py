@@ -260,7 +260,7 @@ class Checker:
 
 # ---- configurations ----
 
-KEY_TABLE = "crates/srt_config/src/config/table.rt"
+KEY_TABLE = "crates/srt_config/src/config/keys.rt"
 PRODUCT_LIMITS = "crates/srt_types/src/product_limits.rt"
 
 

@@ -65,6 +65,7 @@ CAUSES = {
     1003: ("sessions|slot",),
     1004: ("MTU", "76", "1500", "flow window", "HSREQ"),
     1008: ("version",),
+    1010: ("passphrase",),
     1011: ("KMREQ|passphrase",),
     1012: ("STREAM|buffer mode",),
     1014: ("(?i)packet ?filter",),

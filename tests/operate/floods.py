@@ -1,5 +1,6 @@
 """Floods of refusals: the log stays short, its counts add up, and a stream of another route loses nothing."""
 import fcntl
+import json
 import os
 import re
 import signal
@@ -121,6 +122,27 @@ def stopped_unread(run):
         raise Wrong("the stop waits for whoever reads the log") from None
     run.read()
     return run.end()
+
+
+@case("the page has the last lines of the log, and a flood of refused callers displaces no other of them")
+def flood_displaces_no_event():
+    with Shown([live("steady")], "--no-time") as run:
+        run.is_up()
+        history = json.loads(run.page.ask("/history.json").body)
+        expect(history == {"minute": 0, "routes": [{"name": "steady", "minutes": [None] * 60}]}, f"the first minute has {history}")
+        subscriber = Subscriber(run.address, "steady")
+        start_all(subscriber)
+        flood = Flood(run.address, "nowhere", 4_000, 500)
+        flood.start()
+        flood.join()
+        events = json.loads(run.page.ask("/events.json").body)
+        subscriber.close()
+        texts = [it["text"] for it in events]
+        expect(any(re.fullmatch(r"steady: subscriber \S+ opened, .*", it) for it in texts), f"no opening among {texts}")
+        expect(len(texts) < LINES and REFUSALS <= len(texts), f"{len(texts)} lines: {texts}")
+        expect(all(before["seconds"] <= after["seconds"] for before, after in zip(events, events[1:])), f"out of their order: {events}")
+        expect(run.page.ask("/events.json", "HEAD").fields["content-length"].isdigit(), "HEAD has no length")
+        run.stop()
 
 
 @case("a log that nobody reads holds up nothing: no packet, no page, no change, and no stop")

@@ -14,7 +14,7 @@ from expecting import expect
 from running import TIME, UNBLOCKED, Run, Skipped, can_block, expect_polite, launcher, live, seconds_of
 from tree import PROGRAM, TOP, read
 
-WRONG_DURATIONS = ["0s", "5x", "366d", "", "s", "7", "-1s", "1.5h", "0d", "8761h", "31536001s", "2 s", "1h30m", "99999999999999999999s"]
+WRONG_DURATIONS = ["0s", "5x", "366d", "", "s", "0", "-1s", "1.5h", "0d", "8761h", "31536001s", "2 s", "30m1h", "1h30", "99999999999999999999s"]
 SMALL = dict(buffer=190, sessions=2, inbox=16)
 
 

@@ -24,6 +24,8 @@ PATHS = {
     "/": "text/html; charset=utf-8",
     "/metrics": "text/plain; version=0.0.4; charset=utf-8",
     "/status.json": "application/json",
+    "/events.json": "application/json",
+    "/history.json": "application/json",
     "/healthz": "text/plain; charset=utf-8",
 }
 ACCEPT = "Accept: text/html,application/xml;q=0.9,*/*;q=0.8\r\n"
