@@ -16,6 +16,7 @@ import minutes
 import releases
 import snapshot
 import steps
+import test_proofs
 import verdicts
 from machine import Meter, free_gigabytes
 from parts import LEFT_OUT, OF_FILES, Count, all_of, note_failed
@@ -38,10 +39,14 @@ BEGIN_WITHIN = 150
 # Each step has to end within so many minutes of the gate's beginning, or, where everything is done anew, of the second. One that
 # doesn't is ended, and has failed: so the gate says what hung.
 ALL_WITHIN, ALL_WITHIN_ANEW = 170, 600
+# The processor minutes for proofs of tests whose crate has new content, with many processors and with few. All tests are run; what
+# isn't proved of them for want of time is named, isn't counted, and stays unknown.
+TESTS_WITHIN, TESTS_WITHIN_FEW = 40, 10
 # With fewer processors than this the chain of the proofs leaves none idle.
 MANY = 4
-# The most memory that a prover takes (the tests of srt_serve, srt_poller and srt_route), and what plays beside it, in gigabytes.
-PROVER_GB, PLAYS_GB = 6, 3
+# The most memory that a prover takes, for a library and for the tests of the largest crates, and what plays beside it, in gigabytes.
+PROVER_GB, TESTS_GB, PLAYS_GB = 4, 6, 3
+WITH_LARGE_TESTS = {"srt_serve", "srt_poller", "srt_route"}
 BUILT = re.compile(r"rt: (\w+) (?:proved$|is kept: )")
 # What `rt ci` says at its end of tests that are proved and failed when it ran them.
 TESTS_FAILED = re.compile(r"rt: FAILED:((?: \w+ \(tests\))+)$")
@@ -51,10 +56,10 @@ def processors() -> int:
     return len(os.sched_getaffinity(0))
 
 
-def lanes() -> list[str]:
-    """Words before those of `rt ci` that make it prove as many crates at once as there are processors, and as memory holds provers. By
-    itself it reckons with more memory than they take: with 24 GB it left two of four processors idle."""
-    number = min(processors(), int((free_gigabytes() - PLAYS_GB) / PROVER_GB))
+def lanes(gigabytes: int) -> list[str]:
+    """Words before those of `rt ci` that make it prove as many crates at once as there are processors, and as memory holds provers of
+    so many gigabytes. By itself it reckons with more memory than they take: with 24 GB it left two of four processors idle."""
+    number = min(processors(), int((free_gigabytes() - PLAYS_GB) / gigabytes))
     return ["env", f"RT_JOBS={number}"] if number > 1 else []
 
 
@@ -84,6 +89,7 @@ class Gate:
             raise TreeChanged("a file changed meanwhile, so run it again")
         self.tested = [it for it in crates().values() if cutting.has_tests(it.folder)]
         self.only_run: list[Crate] = []
+        self.left_out: list[str] = []
         self.programs = {it.name for it in crates().values() if building.is_program(it)}
         self.ended: list[Ended] = []
         self.program_is_there, self.proofs_ended, self.is_proved = threading.Event(), threading.Event(), False
@@ -117,24 +123,38 @@ class Gate:
             list(pool.map(self.do, [Step(it, [f"{TOP}/bin/test", "--only", it]) for it in OF_FILES]))
 
     def leave_out_tests(self) -> None:
-        """Cuts the tests that were proved before at this content off the copy for `rt ci`, and says which are proved in this run."""
-        for crate in self.tested:
-            if not self.anew and Verdict(crate.name, verdicts.TESTS, self.checksums[crate.name].tests) in self.known:
-                why = cutting.cut_or_leave(f"{self.room.bare}/crates/{crate.name}")
-                if why:
-                    steps.say(f"tests of {crate.name}: proved in this run, since {why}")
-                else:
-                    self.only_run.append(crate)
+        """Cuts the tests that aren't proved in this run off the copy for `rt ci`: those that were proved before at this content, and those
+        for which the time doesn't suffice. Says which are which."""
+        known = [it for it in self.tested if not self.anew and Verdict(it.name, verdicts.TESTS, self.checksums[it.name].tests) in self.known]
+        new = [it for it in self.tested if it not in known]
+        minutes_of_tests = TESTS_WITHIN if processors() >= MANY else TESTS_WITHIN_FEW
+        late = [] if self.anew else test_proofs.within(new, minutes_of_tests).left_out
+        late = [it for it in late if self.is_cut(it)]
+        known = [it for it in known if self.is_cut(it)]
+        self.only_run = [it for it in self.tested if it in known or it in late]
+        self.left_out = [f"tests of {it.name}: run, and not proved at this content" for it in late]
         proved = [it.name for it in self.tested if it not in self.only_run]
         steps.say(f"Tests that are proved in this run: {', '.join(proved) or 'none'}")
-        if self.only_run:
-            names = ", ".join(it.name for it in self.only_run)
+        if known:
+            names = ", ".join(it.name for it in known)
             steps.say(f"Tests that are run and not proved, since they were proved before at this content: {names}")
+        if late:
+            names = ", ".join(it.name for it in late)
+            steps.say(f"Tests that are run and not proved, since their proofs take more than {minutes_of_tests} processor minutes: {names}")
+
+    def is_cut(self, crate: Crate) -> bool:
+        """Cuts a crate's tests off the copy for `rt ci`, or says why they have to stay there, and be proved."""
+        why = cutting.cut_or_leave(f"{self.room.bare}/crates/{crate.name}")
+        if why:
+            steps.say(f"tests of {crate.name}: proved in this run, since {why}")
+        return not why
 
     def prove(self) -> None:
         """Runs `rt ci`: it proves all crates from nothing, and the tests that are left there, runs these and the programs, and tries the
         edits of must-fail/."""
-        words = [*lanes(), "rt", "ci", *(["--anew"] if self.anew else [])]
+        tested = {it.name for it in self.tested if it not in self.only_run}
+        gigabytes = TESTS_GB if tested & WITH_LARGE_TESTS else PROVER_GB
+        words = [*lanes(gigabytes), "rt", "ci", *(["--anew"] if self.anew else [])]
         ended = self.do(Step("proofs", words, folder=self.room.bare, gives_way=steps.PROOFS_AT), is_live=True)
         self.failed_tests = tests_that_failed(ended)
         self.is_proved = ended.count.failed == len(self.failed_tests)
@@ -245,7 +265,7 @@ class Gate:
         skipped = [f"{it.step.name}: {case}" for it in self.ended for case in it.skipped]
         if skipped:
             print("\nSkipped, and not counted:\n" + "\n".join(f"  {it}" for it in skipped))
-        left_out = [line for it in self.ended for line in it.left_out]
+        left_out = [*self.left_out, *(line for it in self.ended for line in it.left_out)]
         if left_out:
             print("\nLeft out for want of time, and not counted:\n" + "\n".join(f"  {it}" for it in left_out))
         print("\nMinutes of each part, on the clock and of processors:")
@@ -305,6 +325,7 @@ def whole(anew: bool = False) -> Count:
     minutes.keep(of_crates)
     gate.tell(of_crates)
     count = all_of([*(it.count for it in gate.ended), Count(0, len(gate.programs))])
+    LEFT_OUT.extend(gate.left_out)
     for it in gate.ended:
         for line in it.failures:
             note_failed(line)
