@@ -155,7 +155,8 @@ def checked(rtlib: Any, batch: Batch) -> str:
 
 def is_by_name(it: Copy | Placed, said: str) -> bool:
     """Whether all that the prover says of a refused copy is that proofs name what the edit took away."""
-    errors = [line for line in said.split("\n") if ": error" in line]
+    # The prover breaks a long message, and indents what goes on.
+    errors = [line for line in re.sub(r"\n  +(?=\S)", " ", said).split("\n") if ": error" in line]
     if not isinstance(it, Placed):
         errors = [line for line in errors if f"/{it.name}/" in line]
     elif not it.is_law:
