@@ -111,7 +111,7 @@ def limit(index: Index, name: str) -> float:
 
 
 def publishers(index: Index) -> float:
-    return value_in(index, "crates/srt_route/src/admission.rt", r"publishers >= (\d+)")
+    return limit(index, "MAX_PUBLISHERS")
 
 
 def replies(index: Index) -> Tuple[float, float]:

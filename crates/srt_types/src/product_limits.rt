@@ -10,6 +10,9 @@ pub const MAX_LATENCY_MS: usize = 8000;
 /// The maximum number of open sessions of a route.
 pub const MAX_SESSIONS: usize = 17;
 
+/// The maximum number of open publishers of a route.
+pub const MAX_PUBLISHERS: usize = 2;
+
 /// The maximum number of a route's slots that are reserved for publishers. As many publishers may be open.
 pub const MAX_RESERVED: usize = 2;
 
@@ -69,6 +72,9 @@ pub const MAX_TAPE_LINES: u32 = 1_000_000;
 
 /// The maximum length of a tape's line, in bytes, without its LF.
 pub const MAX_TAPE_LINE: usize = 4096;
+
+/// The maximum size of a datagram on a tape's line, in bytes: each takes two hexadecimal digits.
+pub const MAX_TAPE_DATAGRAM: usize = MAX_TAPE_LINE / 2;
 
 /// The maximum length of the head of a request to the status page, in bytes.
 pub const MAX_REQUEST: usize = 4096;

@@ -13,6 +13,10 @@ pub const MAX_DATAGRAM: usize = 1472;
 /// `SRT_LIVE_MAX_PLSIZE`.
 pub const MAX_PAYLOAD: usize = 1456;
 
+/// The size of the buffer for one read of a socket, in bytes (our choice). It is greater than the largest datagram, so
+/// that a longer one is seen to be too long.
+pub const READ_ROOM: usize = 2048;
+
 /// The size of the IP, UDP and SRT headers before a payload, in bytes. An MTU includes them.
 pub const HEADERS: usize = 44;
 
@@ -21,6 +25,22 @@ pub const MIN_MTU: u32 = 76;
 
 /// The maximum MTU that is agreed, in bytes (section 3.2.1 has the field; the bound is our choice).
 pub const MAX_MTU: u32 = 1500;
+
+/// The maximum length of a Stream ID, in bytes (section 3.2.1.3). libsrt: `MAX_SID_LENGTH`.
+pub const MAX_STREAM_ID: usize = 512;
+
+/// The maximum size of a key material message, in bytes: 16 before the salt, 16 of salt, and two keys of 32 bytes that are
+/// wrapped together, 8 bytes longer (section 3.2.2).
+pub const MAX_KEY_MESSAGE: usize = 104;
+
+/// The maximum size of the answer to a handshake, in bytes, without the packet's header and without keys: 48 of the
+/// handshake (section 3.2.1), 16 of an HSRSP block (section 3.2.1.1) and 20 of a CONGESTION block, whose text is at most
+/// 16 (our choice).
+pub const MAX_ANSWER: usize = 84;
+
+/// The maximum size of such an answer with keys, in bytes: 108 more, the 4 before a block's contents and the largest key
+/// material message (section 3.2.2).
+pub const MAX_ANSWER_WITH_KEYS: usize = 192;
 
 /// The minimum size of a session's window, in packets (our choice).
 pub const MIN_WINDOW: usize = 32;
@@ -54,6 +74,9 @@ pub const MIN_NAK_INTERVAL_US: u64 = 20_000;
 
 /// The maximum number of runs of missing numbers in one NAK (section 4.8.2 has the report; the bound is our choice).
 pub const MAX_NAK_RUNS: usize = 32;
+
+/// The maximum number of words in the loss list of one NAK: two for each run (appendix A).
+pub const MAX_NAK_WORDS: usize = 2 * MAX_NAK_RUNS;
 
 /// The margin added to RTT + 4 x RTTVar before all packets in flight are retransmitted, in microseconds (our choice).
 pub const RESEND_MARGIN_US: u64 = 20_000;
