@@ -9,11 +9,12 @@ ghost use Rattle.srt_loss.specs.Text.{loss_words, range_of};
 
 use arrayvec::ArrayVec;
 use srt_types::Seq31;
+use srt_types::protocol_limits::{MAX_NAK_RUNS, MAX_NAK_WORDS};
 
 /// Returns the words of at most 32 runs, each a pair of its first and last number, both included. A run of one number
 /// is one word. A longer run is two words: its first number with the top bit set, and its last number. There are at
 /// most 64 words; in network byte order they are the content of a NAK. Linear in the number of runs.
-pub fn write(runs: &ArrayVec<(Seq31, Seq31), 32>) -> ArrayVec<u32, 64>
+pub fn write(runs: &ArrayVec<(Seq31, Seq31), MAX_NAK_RUNS>) -> ArrayVec<u32, MAX_NAK_WORDS>
     ensures value { result.items ≡ loss_words (map range_of runs.now.items) }
     // Reading the words in network byte order returns exactly these runs.
     ensures reads_back { All (λ r. span (range_of r) < 2 ^ 30) runs.now.items → losses_in (flat_map word result.items) ≡ Ok (map range_of runs.now.items) }

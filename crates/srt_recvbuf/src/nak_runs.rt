@@ -27,7 +27,7 @@ impl RecvBuf {
     /// below the highest received number, lowest first. Each is a pair of its first and its last number. Empty if
     /// `from` is outside front..=front + width. Linear in the distance from the first missing number, or from `from`
     /// if that is greater, to the highest received one; doesn't allocate.
-    pub fn runs(&self, from: Seq31) -> ArrayVec<(Seq31, Seq31), 32>
+    pub fn runs(&self, from: Seq31) -> ArrayVec<(Seq31, Seq31), MAX_NAK_RUNS>
         ensures { HoldsOf self.now (λ width initial r. words_of result.items ≡ said_runs width initial (word_of from) r) }
     {
         match from.offset_in(self.front, self.window.width() as u32 + 1) {
@@ -37,7 +37,7 @@ impl RecvBuf {
     }
 
     /// Returns the first 32 runs of missing places from `from` on and before `end`.
-    fn runs_at(&self, from: usize) -> ArrayVec<(Seq31, Seq31), 32>
+    fn runs_at(&self, from: usize) -> ArrayVec<(Seq31, Seq31), MAX_NAK_RUNS>
         requires { from ≤ self.now.end }
         ensures { AreRunsFrom from self.now result.items }
     {
