@@ -14,6 +14,9 @@ use crate::rounds::close;
 use crate::transposing::transposed;
 use std::simd::prelude::*;
 
+/// The size of the key stream for one packet, in bytes: 128 blocks, in batches of eight. The largest payload needs 1456.
+const KEY_STREAM: usize = 2048;
+
 /// The nonce of a packet, and two zeros where the counter goes.
 fn first_block(salt: &[u8; 16], number: u32) -> [u8; 16]
     ensures { result ≡ nonce salt.now number ++ 0 ∷ 0 ∷ [] }
@@ -74,7 +77,7 @@ fn paired(a: &[u64; 8], b: &[u64; 8]) -> [u64x2; 8]
 }
 
 /// Copies a block to the offset `at` of a key stream.
-fn write_block(stream: &mut [u8; 2048], at: usize, block: &[u8; 16])
+fn write_block(stream: &mut [u8; KEY_STREAM], at: usize, block: &[u8; 16])
     requires { at + 16 ≤ 2048 }
     ensures { take (at + 16) stream.new ≡ take at stream.old ++ block.now }
 {
@@ -82,7 +85,7 @@ fn write_block(stream: &mut [u8; 2048], at: usize, block: &[u8; 16])
 }
 
 /// Copies the four blocks that planes hold, whose transposition these words are, to the offset `at` of a key stream.
-fn write_blocks(stream: &mut [u8; 2048], at: usize, turn: usize, words: &[u64; 8])
+fn write_blocks(stream: &mut [u8; KEY_STREAM], at: usize, turn: usize, words: &[u64; 8])
     requires room { at + 64 ≤ 2048 }
     requires turns { turn < 4 }
     requires even { turn % 2 ≡ 0 }
@@ -100,7 +103,7 @@ fn write_blocks(stream: &mut [u8; 2048], at: usize, turn: usize, words: &[u64; 8
 }
 
 /// Appends eight blocks to a key stream that has `8 * batch` blocks; `base` holds the block with the counter 0.
-fn write_batch(stream: &mut [u8; 2048], keys: &RoundKeys, base: &[u64; 8], batch: usize)
+fn write_batch(stream: &mut [u8; KEY_STREAM], keys: &RoundKeys, base: &[u64; 8], batch: usize)
     requires batches { batch < 16 }
     requires whole { IsKeyLength (length (key_of keys.now)) }
     ensures { (block : List ℕ) → HoldsKey base.now 0 block →
@@ -118,13 +121,13 @@ fn write_batch(stream: &mut [u8; 2048], keys: &RoundKeys, base: &[u64; 8], batch
 }
 
 /// A key stream of `8 * batches` blocks; `block` is the one with the counter 0.
-fn key_stream(keys: &RoundKeys, block: &[u8; 16], batches: usize) -> [u8; 2048]
+fn key_stream(keys: &RoundKeys, block: &[u8; 16], batches: usize) -> [u8; KEY_STREAM]
     requires batches { batches ≤ 16 }
     requires whole { IsKeyLength (length (key_of keys.now)) }
     ensures { take (128 * batches) result ≡ numbered_stream (key_of keys.now) block.now (8 * batches) }
 {
     let base = spread(0, block);
-    let mut stream = [0u8; 2048];
+    let mut stream = [0u8; KEY_STREAM];
     for batch in 0..batches {
         write_batch(&mut stream, keys, &base, batch);
     }
