@@ -8,21 +8,24 @@ ghost use Rattle.srt_keys.specs.Hmac.{hmac_sha1, hmac_sha256, inner_key, outer_k
 use sha1::Sha1;
 use sha2::{Digest, Sha256};
 
+/// The size of a block of SHA-1 and of SHA-256, in bytes.
+const HASH_BLOCK: usize = 64;
+
 /// At most 64 bytes with zeros behind them.
-fn extended(bytes: &[u8]) -> [u8; 64]
+fn extended(bytes: &[u8]) -> [u8; HASH_BLOCK]
     requires { length bytes.now ≤ 64 }
     ensures { result ≡ bytes.now ++ replicate (64 - length bytes.now) 0 }
 {
-    let mut long = [0u8; 64];
+    let mut long = [0u8; HASH_BLOCK];
     long[..bytes.len()].copy_from_slice(bytes);
     long
 }
 
 /// The key with zeros behind it, or its hash if it is longer than 64 bytes.
-fn padded(key: &[u8]) -> [u8; 64]
+fn padded(key: &[u8]) -> [u8; HASH_BLOCK]
     ensures { result ≡ padded_key sha1 key.now }
 {
-    if key.len() > 64 {
+    if key.len() > HASH_BLOCK {
         extended(&Sha1::digest(key))
     } else {
         extended(key)
@@ -30,11 +33,11 @@ fn padded(key: &[u8]) -> [u8; 64]
 }
 
 /// Each byte added to `byte`, bit by bit.
-fn xored(bytes: &[u8; 64], byte: u8) -> [u8; 64]
+fn xored(bytes: &[u8; HASH_BLOCK], byte: u8) -> [u8; HASH_BLOCK]
     ensures { result ≡ xor_each byte bytes.now }
 {
-    let mut sums = [0u8; 64];
-    for i in 0..64 {
+    let mut sums = [0u8; HASH_BLOCK];
+    for i in 0..HASH_BLOCK {
         sums[i] = bytes[i] ^ byte;
     }
     sums
@@ -85,10 +88,10 @@ impl HmacKey {
 }
 
 /// The key with zeros behind it, or its SHA-256 hash if it is longer than 64 bytes.
-fn padded_for_sha256(key: &[u8]) -> [u8; 64]
+fn padded_for_sha256(key: &[u8]) -> [u8; HASH_BLOCK]
     ensures { result ≡ padded_key sha256 key.now }
 {
-    if key.len() > 64 {
+    if key.len() > HASH_BLOCK {
         extended(&Sha256::digest(key))
     } else {
         extended(key)

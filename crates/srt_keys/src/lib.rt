@@ -12,7 +12,7 @@ mod wrapping;
 
 pub use derive::kek;
 pub use hmac::{HmacKey, hmac_sha256};
-pub use wrapping::{unwrap, wrap};
+pub use wrapping::{MAX_UNWRAPPED, MAX_WRAPPED, unwrap, wrap};
 
 #[cfg(test)]
 mod tests;

@@ -10,6 +10,12 @@ ghost use Rattle.srt_keys.specs.Wrap.{initial_value, wrap_step, wrap_after, wrap
 
 use srt_aes::{RoundKeys, add_bytes};
 
+/// The maximum size of a text to be wrapped, in bytes: two keys of 32 bytes.
+pub const MAX_UNWRAPPED: usize = 64;
+
+/// The maximum size of a wrapped text, in bytes: its check value has 8.
+pub const MAX_WRAPPED: usize = MAX_UNWRAPPED + 8;
+
 /// Eight bytes in the order of a 64-bit block, with the number of a step added to them bit by bit.
 fn counted(block: &[u8], count: usize) -> [u8; 8]
     requires { length block.now ≡ 8 }
@@ -109,13 +115,13 @@ fn open_blocks(key: &RoundKeys, state: &mut [u8], blocks: usize)
 }
 
 /// The wrap of a text of whole 64-bit blocks, at most eight: the first bytes, 8 more than the text has.
-pub fn wrap(key: &RoundKeys, text: &[u8]) -> [u8; 72]
+pub fn wrap(key: &RoundKeys, text: &[u8]) -> [u8; MAX_WRAPPED]
     requires key { IsKeyLength (length (key_of key.now)) }
     requires whole { length text.now % 8 ≡ 0 }
     requires few { length text.now ≤ 64 }
     ensures { take (length text.now + 8) result ≡ wrap (key_of key.now) text.now }
 {
-    let mut state = [0xa6u8; 72];
+    let mut state = [0xa6u8; MAX_WRAPPED];
     let end = text.len() + 8;
     state[8..end].copy_from_slice(text);
     close_blocks(key, &mut state[..end], text.len() / 8);
@@ -123,7 +129,7 @@ pub fn wrap(key: &RoundKeys, text: &[u8]) -> [u8; 72]
 }
 
 /// What unwrapping makes of a wrapped text, in the first bytes: the check value, and the text behind it.
-fn opened(key: &RoundKeys, wrapped: &[u8]) -> [u8; 72]
+fn opened(key: &RoundKeys, wrapped: &[u8]) -> [u8; MAX_WRAPPED]
     requires key { IsKeyLength (length (key_of key.now)) }
     requires whole { length wrapped.now % 8 ≡ 0 }
     requires some { 8 ≤ length wrapped.now }
@@ -131,7 +137,7 @@ fn opened(key: &RoundKeys, wrapped: &[u8]) -> [u8; 72]
     ensures steps { take (length wrapped.now) result ≡ unwrapped (key_of key.now) wrapped.now }
     ensures long { length result ≡ 72 }
 {
-    let mut state = [0u8; 72];
+    let mut state = [0u8; MAX_WRAPPED];
     let end = wrapped.len();
     state[..end].copy_from_slice(wrapped);
     open_blocks(key, &mut state[..end], end / 8 - 1);
@@ -139,7 +145,7 @@ fn opened(key: &RoundKeys, wrapped: &[u8]) -> [u8; 72]
 }
 
 /// Whether the check value is the initial value.
-fn has_initial_value(state: &[u8; 72]) -> bool
+fn has_initial_value(state: &[u8; MAX_WRAPPED]) -> bool
     ensures { result ≡ bytes_eq (take 8 state.now) initial_value }
 {
     state[..8] == [0xa6; 8]
@@ -148,7 +154,7 @@ fn has_initial_value(state: &[u8; 72]) -> bool
 /// Writes the text that was wrapped to the front of `out`, and returns its length in bytes: 8 less than the wrapped one
 /// has. None if the key is another, or if the wrapped text was changed: the initial value that comes out is wrong, and
 /// nothing is written. The wrapped text has whole 64-bit blocks, one to nine.
-pub fn unwrap(key: &RoundKeys, wrapped: &[u8], out: &mut [u8; 64]) -> Option<usize>
+pub fn unwrap(key: &RoundKeys, wrapped: &[u8], out: &mut [u8; MAX_UNWRAPPED]) -> Option<usize>
     requires key { IsKeyLength (length (key_of key.now)) }
     requires whole { length wrapped.now % 8 ≡ 0 }
     requires some { 8 ≤ length wrapped.now }
