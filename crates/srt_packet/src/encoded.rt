@@ -9,12 +9,13 @@ use crate::key_codec::encode_key_packet;
 use crate::key_packet::KeyPacketRef;
 use crate::writing::{Packet, encode};
 use srt_aes::RoundKeys;
+use srt_types::protocol_limits::MAX_DATAGRAM;
 use srt_types::write_at;
 
 // An array with a separate length, so that a write touches only the bytes of the packet.
 #[derive(Drop)]
 struct PacketArray {
-    bytes: [u8; 1472],
+    bytes: [u8; MAX_DATAGRAM],
 }
 
 /// The encoded bytes of a packet to be sent: 16 to 1472, or none before the first write. A packet is encoded in place
@@ -42,7 +43,9 @@ impl EncodedPacket {
     {
         EncodedPacket {
             len: 0,
-            array: PacketArray { bytes: [0; 1472] },
+            array: PacketArray {
+                bytes: [0; MAX_DATAGRAM],
+            },
         }
     }
 
@@ -90,7 +93,7 @@ impl EncodedPacket {
     }
 
     /// Copies the bytes to the front of `out`, and returns their number. The rest of `out` is unchanged.
-    pub fn copy_to(&self, out: &mut [u8; 1472]) -> usize
+    pub fn copy_to(&self, out: &mut [u8; MAX_DATAGRAM]) -> usize
         ensures within { result ≤ 1472 }
         ensures written { take result out.new ≡ bytes_of self.now }
         ensures kept { drop result out.new ≡ drop result out.old }

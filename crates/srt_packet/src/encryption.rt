@@ -7,6 +7,7 @@ ghost use Rattle.srt_aes.specs.Keys.{key_of};
 ghost use Rattle.srt_packet.specs.Encryption.{is_in_clear, encrypted};
 
 use srt_aes::RoundKeys;
+use srt_types::protocol_limits::MAX_DATAGRAM;
 use srt_types::{read_word, write_at};
 
 /// Whether these bytes are a data packet whose payload isn't encrypted.
@@ -51,7 +52,7 @@ fn encrypt_packet(bytes: &mut [u8], encryption: u8, keys: &RoundKeys, salt: &[u8
 
 /// The same of the packet in the first bytes of an array.
 pub(crate) fn encrypt_front(
-    array: &mut [u8; 1472],
+    array: &mut [u8; MAX_DATAGRAM],
     len: usize,
     encryption: u8,
     keys: &RoundKeys,

@@ -96,7 +96,7 @@ fn word0(kind: KeyPacketKind) -> u32
 }
 
 /// Writes the four words of the header, and returns 16.
-fn write_header(kind: KeyPacketKind, stamp: u32, dest: u32, out: &mut [u8; 1472]) -> usize
+fn write_header(kind: KeyPacketKind, stamp: u32, dest: u32, out: &mut [u8; MAX_DATAGRAM]) -> usize
     ensures end { result ≡ 16 }
     ensures written { take result out.new ≡ word (key_word0 kind) ++ word 0 ++ word stamp ++ word dest }
     ensures kept { (k : ℕ) → result ≤ k → drop k out.new ≡ drop k out.old }
@@ -109,7 +109,7 @@ fn write_header(kind: KeyPacketKind, stamp: u32, dest: u32, out: &mut [u8; 1472]
 
 /// Writes a packet to the front of the buffer, and returns its length in bytes: 16, and those of the message, which has at
 /// most 1456. The rest of the buffer is unchanged. Word 1 is written as 0. Linear in the length; doesn't allocate.
-pub fn encode_key_packet(packet: &KeyPacketRef<'_>, out: &mut [u8; 1472]) -> usize
+pub fn encode_key_packet(packet: &KeyPacketRef<'_>, out: &mut [u8; MAX_DATAGRAM]) -> usize
     requires { length packet.now.info.now ≤ 1456 }
     ensures within { result ≤ 1472 }
     ensures len { result ≡ 16 + length packet.now.info.now }

@@ -7,6 +7,7 @@ ghost use Rattle.srt_packet.specs.Sent.{sent, CanBeSent};
 ghost use Rattle.srt_packet.specs.Text.{text, word0_of, word1_of, rest_of, IsWritable};
 
 use arrayvec::ArrayVec;
+use srt_types::protocol_limits::{MAX_ANSWER_WITH_KEYS, MAX_DATAGRAM, MAX_NAK_WORDS};
 use srt_types::{Msg26, PayloadRef, Seq31, write_at, write_words};
 
 /// The rates of received packets that a Full ACK reports (section 3.2.4).
@@ -36,7 +37,7 @@ pub enum Body<'a> {
         payload: PayloadRef<'a>,
     },
     /// A handshake: all bytes after the header, at most 192, those of an answer with keys (section 3.2.1).
-    Handshake(ArrayVec<u8, 192>),
+    Handshake(ArrayVec<u8, MAX_ANSWER_WITH_KEYS>),
     /// A keep-alive (section 3.2.3).
     KeepAlive,
     /// A Full ACK (section 3.2.4): seven words.
@@ -62,7 +63,7 @@ pub enum Body<'a> {
     /// A loss report (section 3.2.5).
     Nak {
         /// The words of the loss list (appendix A): 1 to 64. An empty list can't be encoded.
-        losses: ArrayVec<u32, 64>,
+        losses: ArrayVec<u32, MAX_NAK_WORDS>,
     },
     /// The acknowledgement of a Full ACK (section 3.2.8).
     AckAck {
@@ -166,7 +167,7 @@ fn write_rest(body: &Body<'_>, out: &mut [u8], at: usize) -> usize
 /// Writes a packet to the front of the buffer, and returns its length in bytes: 16 to 1472. The rest of the buffer is
 /// unchanged. The subtype of a control packet is written as 0. Linear in the length; doesn't allocate.
 #[inline(always)]
-pub fn encode(packet: &Packet<'_>, out: &mut [u8; 1472]) -> usize
+pub fn encode(packet: &Packet<'_>, out: &mut [u8; MAX_DATAGRAM]) -> usize
     requires { IsWritable packet.now.body }
     ensures within { result ≤ 1472 }
     ensures len { result ≡ length (text packet.now) }
