@@ -7,6 +7,7 @@ ghost use Rattle.srt_hs.specs.View.{handshake_of, text_of, text_words};
 
 use crate::{CongestionText, HsRef};
 use arrayvec::ArrayVec;
+use srt_types::protocol_limits::MAX_STREAM_ID;
 use srt_types::{read_word, write_at};
 
 /// Writes the bytes to the front of `out`, with each group of four in reverse order, and returns their number.
@@ -43,7 +44,7 @@ fn len_before_zeros(bytes: &[u8]) -> usize
 /// Writes the text of the Stream ID block to the front of `out`, and returns its length in bytes: 0 to 512, without the
 /// padding zeros. They are written too; `out` is unchanged after the length of the block. None if there is no such
 /// block; then nothing is written. The bytes need not be UTF-8. Linear in the length of the block.
-pub fn stream_id(hs: &HsRef<'_>, out: &mut [u8; 512]) -> Option<usize>
+pub fn stream_id(hs: &HsRef<'_>, out: &mut [u8; MAX_STREAM_ID]) -> Option<usize>
     ensures within { IfSome result (λ n. n ≤ 512) }
     ensures value { option_map (λ n. take n out.new) result ≡ (handshake_of hs.now).blocks.stream_id }
     ensures kept { IfSome hs.now.blocks.stream_id (λ s. drop (length s.contents.now) out.new ≡ drop (length s.contents.now) out.old) }

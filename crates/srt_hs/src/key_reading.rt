@@ -6,6 +6,7 @@ ghost use Rattle.srt_hs.specs.KeyMessage.{message_in, message_text};
 ghost use Rattle.srt_hs.specs.KeyView.{message_of, message_read};
 
 use crate::key_message::{KeyFault, KeyMessageRef, SentKeys};
+use srt_types::protocol_limits::MAX_KEY_MESSAGE;
 use srt_types::{read_word, write_at};
 
 /// The length of the wrapped keys, in bytes.
@@ -125,7 +126,7 @@ fn field(keys: SentKeys) -> u8
 
 /// Writes a message to the front of the buffer, and returns its length in bytes: 56 to 104. All that a reader doesn't check is
 /// 0. The rest of the buffer is unchanged. O(1).
-pub fn write_key_message(message: &KeyMessageRef<'_>, out: &mut [u8; 104]) -> usize
+pub fn write_key_message(message: &KeyMessageRef<'_>, out: &mut [u8; MAX_KEY_MESSAGE]) -> usize
     ensures within { result ≤ 104 }
     ensures written { take result out.new ≡ message_text (message_of message.now) }
     ensures kept { (k : ℕ) → result ≤ k → drop k out.new ≡ drop k out.old }

@@ -7,6 +7,7 @@ ghost use Rattle.srt_hs.specs.Reading.{with_block as block_added, with_first as 
 ghost use Rattle.srt_hs.specs.View.{blocks_of, first_of, handshake_of, seen, seen_blocks};
 
 use crate::{BlocksRef, CongestionRef, HsFault, HsKind, HsRef, HsReq, StreamIdRef};
+use srt_types::protocol_limits::MAX_STREAM_ID;
 use srt_types::read_word;
 
 /// Returns the 16-bit number that the two bytes at the offset `at` encode, in network byte order.
@@ -55,7 +56,7 @@ fn with_stream_id<'a>(before: BlocksRef<'a>, contents: &'a [u8]) -> Result<Block
     requires { length contents.now % 4 ≡ 0 }
     ensures { seen_blocks result ≡ stream_id_added (blocks_of before.entry) contents.now }
 {
-    if contents.len() > 512 {
+    if contents.len() > MAX_STREAM_ID {
         return Err(HsFault::BadLength);
     }
     if before.stream_id.is_some() {

@@ -6,6 +6,7 @@ ghost use Rattle.srt_hs.specs.Text.{answer_text, answer_with, encryption_text, f
 
 use crate::CongestionText;
 use crate::refusal_codes::{RefusalCode, code};
+use srt_types::protocol_limits::{MAX_ANSWER, MAX_ANSWER_WITH_KEYS};
 use srt_types::{Mode, write_at, write_words};
 
 /// The kind of an answer, and its content apart from the initial number. The other fields of the 48 bytes are fixed:
@@ -121,7 +122,7 @@ fn write_congestion(text: &CongestionText, out: &mut [u8], at: usize) -> usize
 /// Writes an answer, without the packet's header, to the front of the buffer, and returns its length in bytes: 48; for
 /// a conclusion 64, or 72 to 84 with a CONGESTION block. The rest of the buffer is unchanged. O(1).
 #[tactic(auto, unfolding(crate::specs::Text::answer_text))]
-pub fn write(answer: &HsAnswer, out: &mut [u8; 84]) -> usize
+pub fn write(answer: &HsAnswer, out: &mut [u8; MAX_ANSWER]) -> usize
     ensures within { result ≤ 84 }
     ensures written { take result out.new ≡ answer_text answer.now }
     ensures kept { (k : ℕ) → result ≤ k → drop k out.new ≡ drop k out.old }
@@ -185,12 +186,12 @@ fn write_keys(message: &[u8], out: &mut [u8], at: usize) -> usize
 }
 
 /// Writes an answer as [`write`] does, to the front of a longer buffer.
-fn write_without_keys(answer: &HsAnswer, out: &mut [u8; 192]) -> usize
+fn write_without_keys(answer: &HsAnswer, out: &mut [u8; MAX_ANSWER_WITH_KEYS]) -> usize
     ensures within { result ≤ 84 }
     ensures written { take result out.new ≡ answer_text answer.now }
     ensures kept { (k : ℕ) → result ≤ k → drop k out.new ≡ drop k out.old }
 {
-    let mut text = [0; 84];
+    let mut text = [0; MAX_ANSWER];
     let len = write(answer, &mut text);
     write_at(out, 0, &text[..len])
 }
@@ -200,7 +201,11 @@ fn write_without_keys(answer: &HsAnswer, out: &mut [u8; 192]) -> usize
 /// the answer repeats unchanged as a KMRSP block (section 3.2.2); the encryption field has its key length. Other answers have no keys, and
 /// are written as [`write`] does. The rest of the buffer is unchanged. O(1).
 #[tactic(auto, unfolding(crate::specs::Text::answer_with))]
-pub fn write_with_keys(answer: &HsAnswer, message: &[u8], out: &mut [u8; 192]) -> usize
+pub fn write_with_keys(
+    answer: &HsAnswer,
+    message: &[u8],
+    out: &mut [u8; MAX_ANSWER_WITH_KEYS],
+) -> usize
     requires some { 16 ≤ length message.now }
     requires most { length message.now ≤ 104 }
     ensures within { result ≤ 192 }
