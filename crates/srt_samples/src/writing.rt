@@ -9,6 +9,9 @@ use crate::handshakes::{Block, Handshake, Offer, Phase};
 use crate::samples::{Acknowledged, Body, Loss, Sample};
 use std::alloc::{AllocError, Global};
 
+/// The maximum length of the text in a block, in bytes, that of a Stream ID (section 3.2.1.3).
+const MAX_STREAM_ID: usize = 512;
+
 /// Appends bytes to a text.
 fn put(out: &mut Vec<u8>, bytes: &[u8]) -> Result<(), AllocError>
     ensures { OnOk result (out.new.items ≡ out.old.items ++ bytes.now) }
@@ -134,7 +137,7 @@ fn put_text(out: &mut Vec<u8>, kind: u16, text: &str) -> Result<(), AllocError>
     ensures { OnOk result (out.new.items ≡ out.old.items ++ text_bytes kind text.now) }
 {
     let bytes = text.as_bytes();
-    let count = (bytes.len().min(512) + 3) as u32 / 4;
+    let count = (bytes.len().min(MAX_STREAM_ID) + 3) as u32 / 4;
     put_word(out, u32::from(kind) * 0x1_0000 + count)?;
     put_groups(out, bytes, count)
 }
