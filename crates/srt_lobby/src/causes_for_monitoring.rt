@@ -16,6 +16,7 @@ use crate::Names;
 use crate::refusals::{reason, requests_secured};
 use srt_hs::{HsRef, stream_id};
 use srt_packet::{Kind, PacketRef, decode};
+use srt_types::protocol_limits::MAX_STREAM_ID;
 use srt_types::{NotAdmitted, Peer, Role, RoleAccess};
 
 /// Returns why a caller with this Stream ID isn't admitted in this role.
@@ -66,7 +67,7 @@ fn cause_by_text(names: &Names, peer: Peer, bytes: &[u8]) -> Option<NotAdmitted>
 fn cause_by_stream_id(names: &Names, peer: Peer, hs: &HsRef<'_>) -> Option<NotAdmitted>
     ensures { result ≡ cause_by_stream_id (names_of names.now) peer (handshake_of hs.now).blocks.stream_id }
 {
-    let mut text = [0; 512];
+    let mut text = [0; MAX_STREAM_ID];
     match stream_id(hs, &mut text) {
         Some(len) => cause_by_text(names, peer, &text[..len]),
         None => Some(NotAdmitted::NoName),

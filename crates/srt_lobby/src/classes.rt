@@ -3,6 +3,10 @@
 ghost use Rattle.std.specs.Prelude.{◌≡◌};
 ghost use Rattle.srt_lobby.specs.Numbers.{number_of};
 
+/// The size of an answer of the lobby, in bytes: the 16 of a packet's header and the 48 of a handshake without extension blocks
+/// (sections 3 and 3.2.1).
+pub const LOBBY_ANSWER: usize = 64;
+
 /// Why a datagram is dropped.
 #[derive(Clone, Copy, Debug, PartialEq, Eq)]
 pub enum Cause {
@@ -44,7 +48,7 @@ impl Cause {
 #[derive(Clone, Copy, Debug, PartialEq, Eq)]
 pub enum Class {
     /// It is answered with this handshake packet, which is sent to its sender; no state is stored.
-    Answer([u8; 64]),
+    Answer([u8; LOBBY_ANSWER]),
     /// It is for the route with this index, below the number of routes.
     Route(usize),
     /// It is dropped for this cause.

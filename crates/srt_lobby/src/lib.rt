@@ -31,7 +31,7 @@ mod new_name;
 mod refusals;
 
 pub use causes_for_monitoring::refusal_cause;
-pub use classes::{Cause, Class};
+pub use classes::{Cause, Class, LOBBY_ANSWER};
 pub use entry_faults::is_taken;
 pub use lobby::classify;
 pub use names::Names;

@@ -18,20 +18,21 @@ ghost use Rattle.srt_lobby.specs.Causes.{requests_secured};
 ghost use Rattle.srt_lobby.specs.Lobby.{by_kind, of_conclusion, of_handshake, of_body, to_session, of_packet, class_of};
 
 use crate::refusals::of_conclusion;
-use crate::{Cause, Class, Names};
+use crate::{Cause, Class, LOBBY_ANSWER, Names};
 use srt_cookie::{Secret, cookie, minute_of, right};
 use srt_hs::{AnswerKind, HsAnswer, HsKind, HsRef, RefusalCode, stream_id, write};
 use srt_packet::{Kind, PacketRef, decode};
+use srt_types::protocol_limits::MAX_ANSWER;
 use srt_types::{Peer, write_at};
 
 /// Returns the 64 bytes of a handshake packet with this answer, to the caller's socket `id`, with timestamp 0.
-fn answer(id: u32, initial: u32, what: AnswerKind) -> [u8; 64]
+fn answer(id: u32, initial: u32, what: AnswerKind) -> [u8; LOBBY_ANSWER]
     requires { blocks_text what ≡ [] }
     ensures { result ≡ answer_bytes id (record { initial = initial; what = what }) }
 {
-    let mut text = [0; 84];
+    let mut text = [0; MAX_ANSWER];
     let len = write(&HsAnswer { initial, what }, &mut text);
-    let mut out = [0; 64];
+    let mut out = [0; LOBBY_ANSWER];
     let end = write_at(&mut out, 0, &[0x80, 0, 0, 0, 0, 0, 0, 0, 0, 0, 0, 0]);
     let end = write_at(&mut out, end, &id.to_be_bytes());
     write_at(&mut out, end, &text[..len]);

@@ -1,5 +1,5 @@
 //! A conclusion with a valid cookie: every refusal of the lobby in its order, 1008, 1004, 1011, 1014, 1015 and 1002
-//! (draft-sharabayko-srt-01, section 4.3, table 7), or its route.
+//! (draft-sharabayko-srt-01, section 4.3, table 7), or its route. `refusal_codes.rt` of `srt_hs` has the order of all refusals.
 
 ghost use Rattle.std.specs.Prelude.{◌≡◌, slice_get};
 ghost use Rattle.srt_hs.specs.View.{handshake_of};
@@ -14,6 +14,7 @@ use crate::names::RequestedRole;
 use crate::{Class, Names};
 use srt_hs::{AnswerKind, HsRef, RefusalCode, stream_id};
 use srt_types::Peer;
+use srt_types::protocol_limits::MAX_STREAM_ID;
 
 fn refused(hs: &HsRef<'_>, code: RefusalCode) -> Class
     ensures { result ≡ is_refused (handshake_of hs.now) code }
@@ -75,7 +76,7 @@ fn is_secured_role(names: &Names, requested: Option<RequestedRole>) -> bool
 pub(crate) fn requests_secured(names: &Names, hs: &HsRef<'_>) -> bool
     ensures { result ≡ requests_secured (names_of names.now) (handshake_of hs.now).blocks.stream_id }
 {
-    let mut text = [0; 512];
+    let mut text = [0; MAX_STREAM_ID];
     match stream_id(hs, &mut text) {
         Some(len) => is_secured_role(names, role_named(names, &text[..len])),
         None => false,
@@ -128,7 +129,7 @@ fn of_stream_id(names: &Names, peer: Peer, info: &[u8], hs: &HsRef<'_>, bytes: &
 pub(crate) fn of_conclusion(names: &Names, peer: Peer, info: &[u8], hs: &HsRef<'_>) -> Class
     ensures { result ≡ of_conclusion (names_of names.now) peer (key_request_in info.now) (handshake_of hs.now) }
 {
-    let mut text = [0; 512];
+    let mut text = [0; MAX_STREAM_ID];
     match stream_id(hs, &mut text) {
         Some(len) => of_stream_id(names, peer, info, hs, &text[..len]),
         None => match reason(hs, false) {
