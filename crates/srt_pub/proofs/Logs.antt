@@ -9,7 +9,7 @@ use Rattle.srt_pub.specs.Publishing.{Terms, Full, Note, Sent, Report, FullAck, L
 use Rattle.srt_pub.specs.Publishing.{is_full_due, is_light_due, noted, nak_report, last_arrival, received_at, sample_of}
 use Rattle.srt_pub.specs.Publishing.{confirmed_notes, rating, follows, clock_samples, clock_if, clock_of}
 use Rattle.srt_timing.specs.Clock.{Sample, sampled}
-use Rattle.srt_timing.specs.declared.drift.Drift.{Drift}
+use Rattle.srt_timing.specs.declared.session_drift.Drift.{Drift}
 use Rattle.srt_packet.specs.declared.writing.Rates.{Rates}
 use Rattle.srt_pub.specs.Kept.{AcksStandFor, LogStandsFor, MeterStandsFor, clock_in}
 use Rattle.srt_pub.specs.declared.acknowledgements.Acks.{Acks}

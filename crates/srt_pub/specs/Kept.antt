@@ -6,7 +6,7 @@ use Rattle.srt_timing.specs.RoundTrip as times
 use Rattle.srt_timing.specs.declared.round_trip.Rtt.{Rtt}
 use Rattle.srt_timing.specs.Drift as clocks
 use Rattle.srt_timing.specs.declared.drift_windows.Clock.{Clock}
-use Rattle.srt_timing.specs.declared.drift.Drift.{Drift}
+use Rattle.srt_timing.specs.declared.session_drift.Drift.{Drift}
 use Rattle.srt_pub.specs.Publishing.{Terms, Full, Note, fulls, is_confirmed, latest_confirmed, says_pair, is_known, arrived_since_ack, time_of}
 use Rattle.srt_pub.specs.Publishing.{samples, last_sent, last_nak_of_all, last_arrival, received_at, rating, round_trip, clock_of}
 use Rattle.srt_pub.specs.declared.acknowledgements.Acks.{Acks}

@@ -8,9 +8,9 @@
 //! `AckBook::open` allocates.
 //!
 //! Deadlines: [`Base`] in `deadlines.rt` relates the sender's clock to the gateway's. `Base::new` returns it when a session
-//! opens; then `Base::deadline` returns the time at which a packet is due. [`Drift`] in `drift.rt` estimates from ACKACKs by
+//! opens; then `Base::deadline` returns the time at which a packet is due. [`Drift`] in `session_drift.rt` estimates from ACKACKs by
 //! how much the sender's clock is slow or fast since the opening, which corrects deadlines. [`too_late_before`] in
-//! `thresholds.rt` returns the threshold of too-late packet drop.
+//! `too_late.rt` returns the threshold of too-late packet drop.
 //!
 //! Round trips: [`Rtt`] in `round_trip.rt` has the smoothed round-trip time and its variance (RTTVar). A subscriber's session
 //! stores the values of the ACKs that it receives. `resend_after` is the timer of retransmission derived from them; that of NAKs is in `srt_pub`.
@@ -27,21 +27,21 @@
 
 mod book;
 mod deadlines;
-mod drift;
 mod drift_windows;
 pub mod laws;
 mod round_trip;
 mod sampled;
+mod session_drift;
 mod stamps;
-mod thresholds;
+mod too_late;
 
 pub use book::AckBook;
 pub use deadlines::Base;
-pub use drift::Drift;
 pub use round_trip::Rtt;
 pub use sampled::{Fold, SampledRtt};
+pub use session_drift::Drift;
 pub use stamps::since_conclusion;
-pub use thresholds::too_late_before;
+pub use too_late::too_late_before;
 
 #[cfg(test)]
 mod deadline_tests;

@@ -4,7 +4,7 @@ use Rattle.std.proofs.lemmas.Int.{to_z-of_z}
 use Rattle.srt_timing.specs.Clock.{Sample, IsNear, sampled, closed_if_long, with_sample, lateness}
 use Rattle.srt_timing.specs.declared.drift_windows.Window.{Window}
 use Rattle.srt_timing.proofs.Clocks.{kept, taken}
-use Rattle.srt_timing.proofs.drift.Drift.sample.Goals as goal
+use Rattle.srt_timing.proofs.session_drift.Drift.sample.Goals as goal
 
 pub closed_if_long-requires-clause-near : goal.closed_if_long-requires-clause-near
 closed_if_long-requires-clause-near c =
