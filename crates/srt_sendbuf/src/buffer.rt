@@ -3,7 +3,7 @@
 
 ghost use Rattle.std.specs.Prelude.{◌≡◌, ℕ, ◌+◌, ◌-◌, ◌*◌, ◌/◌, ◌<◌, ◌≤◌, ◌↔◌, true, false, Some, [], length, max, option_map, nat_lt, IsErr, IfOk, OnErr};
 ghost use Rattle.std.specs.List.Sorted.{IsNonDecreasingBy};
-ghost use Rattle.srt_types.specs.Window.{word_of};
+ghost use Rattle.srt_types.specs.Window.{number_word, word_of};
 ghost use Rattle.srt_types.specs.Counts.{message_of, message_number};
 ghost use Rattle.srt_types.specs.Runs.{ranges_from};
 ghost use Rattle.srt_loss.specs.Window.{is_in_part};
@@ -173,6 +173,15 @@ impl SendBuf {
     {
         let stored = self.ring.len();
         stored as u32
+    }
+
+    /// Returns the sequence number of the front: that of the first stored payload, or if none is stored, of the next one
+    /// that is queued. O(1).
+    pub fn front_number(&self) -> Seq31
+        ensures { ForWhatever self.now (λ width initial r. word_of result ≡ number_word initial (front r)) }
+    {
+        let number = self.front;
+        number
     }
 
     /// Whether all queued payloads are acknowledged. O(1).
