@@ -11,3 +11,6 @@ pub mod Credits
 pub mod Doubling
 pub mod Tries
 pub mod Waiting
+pub mod Carried
+pub mod OnePayload
+pub mod Bounds

@@ -1,13 +1,13 @@
 -- What a held session sends.
 use Rattle.std.proofs.Common.{◌≡◌, ℕ, zero, suc, ◌+◌, ◌-◌, ◌^◌, ◌<◌, ◌≤◌, Bool, true, false, ◌&&◌, ◌==◌, if◌then◌else◌, Option, None, Some, List, []}
-use Rattle.std.proofs.Common.{◌∷◌, ◌++◌, All, min, length, refl, sym, ap, ◌∙◌, arith}
+use Rattle.std.proofs.Common.{◌∷◌, ◌++◌, All, min, length, refl, ap, ◌∙◌, arith}
 use Rattle.std.specs.Prelude.{nat_lt, nat_le}
 use Rattle.std.proofs.lemmas.List.Elements.{All-nil, All-cons}
 use Rattle.srt_types.specs.Runs.{Run, numbers_from}
 use Rattle.srt_sendbuf.specs.Sending.{Queued, Sending, front, next, lost, all_lost}
 use Rattle.srt_sub.specs.Subscribing.{Terms, Report, Note, Renewed, Presumed, Opened, Subscribing}
 use Rattle.srt_sub.specs.Subscribing.{KeepAlive, drops, drops_of, unreported, flow_window, keep_alives, last_sent}
-use Rattle.srt_sub.specs.Subscribing.{media, most, again_of, new_of, due_of, reports_of, prepared, reports, resends, renewal_due, resend_due, has_waited}
+use Rattle.srt_sub.specs.Subscribing.{media, most, again_of, new_of, due_of, reports_of, reports, resends, renewal_due, resend_due, has_waited}
 use Rattle.srt_sub.specs.Held.{waiting, window_before, held, new_within, due_within, reports_of_within, reports_within, HoldsNewOnes}
 use Rattle.srt_sub.specs.Stands.{StandsIn, NotesBecome}
 use Rattle.srt_sub.specs.declared.history.History.{History}

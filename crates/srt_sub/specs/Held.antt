@@ -1,5 +1,5 @@
 -- A session that may send only its first payloads for the first time, as many as it has confirmed keys for (our choice).
-use Rattle.std.specs.Prelude.{◌≡◌, ℕ, ◌-◌, ◌^◌, ◌<◌, ◌≤◌, Bool, true, false, List, [], ◌∷◌, ◌++◌, All, min, length}
+use Rattle.std.specs.Prelude.{◌≡◌, ℕ, ◌-◌, ◌^◌, ◌<◌, ◌≤◌, Bool, true, false, List, ◌∷◌, ◌++◌, All, min, length}
 use Rattle.srt_types.specs.Capped.{capped}
 use Rattle.srt_types.specs.Runs.{numbers_from}
 use Rattle.srt_sendbuf.specs.Sending.{Sending, front, next}

@@ -12,4 +12,6 @@ pub mod EventPackets
 pub mod ResendLimit
 pub mod Tries
 pub mod Held
+pub mod Payloads
+pub mod SessionCalls
 pub mod inside

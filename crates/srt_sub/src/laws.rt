@@ -1,5 +1,6 @@
 //! Facts about the definitions. Each function has an empty body: its contract is the fact.
 
+ghost use Rattle.srt_sub.specs.SessionCalls.{OnePayloadEach, StaysBelow, FrontIsNear};
 ghost use Rattle.srt_sub.specs.Emission.{EmissionBegins, StandsLater};
 ghost use Rattle.srt_sub.specs.ResendLimit.{KeepsResendLimit};
 ghost use Rattle.srt_sub.specs.EventPackets.{SendsAtMost66};
@@ -45,4 +46,21 @@ pub fn resends_all_once(subscriber: &Subscriber)
 /// A session that is held sends what it sends otherwise, but for new packets beyond the bound (our choice).
 pub fn holding()
     ensures { HoldsNewOnes }
+{}
+
+/// Two data packets of a session whose payloads have one index have the same payload, at whatever times they are sent
+/// (our choice).
+pub fn payloads()
+    ensures { OnePayloadEach }
+{}
+
+/// A session that is held sends no payload whose index isn't below the bound, neither for the first time nor again (our
+/// choice).
+pub fn bounds()
+    ensures { StaysBelow }
+{}
+
+/// All payloads that can still be sent are among the last 8192 that were queued (our choice).
+pub fn window()
+    ensures { FrontIsNear }
 {}

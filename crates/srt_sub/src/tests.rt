@@ -3,6 +3,7 @@
 ghost use Rattle.std.specs.Prelude.{◌^◌, ◌<◌};
 
 mod holding;
+mod payloads;
 
 use crate::{Counts, Opening, Resending, Sendings, Statistics, Subscriber, Took};
 use arrayvec::ArrayVec;

@@ -1,4 +1,3 @@
-use Rattle.srt_sub.specs.Held.{released}
 use Rattle.srt_sub.proofs.Waiting.{reopened}
 use Rattle.srt_sub.proofs.session.Subscriber.release.Goals as goal
 
