@@ -1,12 +1,12 @@
 //! The results of the hub's calls.
 
-use srt_lobby::Cause;
+use srt_lobby::{Cause, LOBBY_ANSWER};
 
 /// The result of an arrival.
 #[derive(Clone, Copy, Debug, PartialEq, Eq)]
 pub enum Arrived {
     /// The lobby answers with this datagram, to be sent to the peer. No route is changed.
-    Answer([u8; 64]),
+    Answer([u8; LOBBY_ANSWER]),
     /// It is now the last item in the inbox of the route with this index.
     Accepted(usize),
     /// The inbox of the route with this index was full, and the datagram is dropped.
