@@ -11,7 +11,7 @@ ghost use Rattle.srt_config.specs.RouteNumbers.{numbers_of};
 use crate::fields::split_field;
 use crate::hexadecimal::{read_address, read_bytes};
 use srt_config::{RouteNumbers, read_number};
-use srt_types::product_limits::MAX_TAPE_LINE;
+use srt_types::product_limits::{MAX_TAPE_DATAGRAM, MAX_TAPE_LINE};
 use srt_types::{MOMENT_END, Mode, Peer};
 
 /// A route that is to be opened: the entry of its line, with any name and any numbers.
@@ -129,7 +129,7 @@ fn four_fields(text: &[u8]) -> Option<Four<'_>>
 
 /// Reads an arrival from the fields after the line's letter: moment, address, port and bytes. The datagram is written
 /// to the front of the buffer.
-fn read_arrival<'a>(text: &[u8], buffer: &mut [u8; 2048]) -> Option<TapeEvent<'a>>
+fn read_arrival<'a>(text: &[u8], buffer: &mut [u8; MAX_TAPE_DATAGRAM]) -> Option<TapeEvent<'a>>
     requires { length text.now ≤ 4096 }
     ensures value { option_map (event_read buffer.new) result ≡ arrival_in (fields_of text.now) }
     ensures sound { IfSome result (IsSound 0) }
@@ -259,7 +259,7 @@ fn read_kind<'a>(
     letter: &[u8],
     text: &'a [u8],
     routes: usize,
-    buffer: &mut [u8; 2048],
+    buffer: &mut [u8; MAX_TAPE_DATAGRAM],
 ) -> Option<TapeEvent<'a>>
     requires { length text.now ≤ 4096 }
     ensures value { option_map (event_read buffer.new) result ≡ event_in routes (letter.now ∷ fields_of text.now) }
@@ -278,7 +278,11 @@ fn read_kind<'a>(
 
 /// Reads the event of a line; None if it isn't one. A datagram is written to the front of the buffer.
 #[tactic(auto, using(crate::proofs::Letters::letter_alone))]
-fn read_fields<'a>(line: &'a [u8], routes: usize, buffer: &mut [u8; 2048]) -> Option<TapeEvent<'a>>
+fn read_fields<'a>(
+    line: &'a [u8],
+    routes: usize,
+    buffer: &mut [u8; MAX_TAPE_DATAGRAM],
+) -> Option<TapeEvent<'a>>
     requires { length line.now ≤ 4096 }
     ensures value { option_map (event_read buffer.new) result ≡ event_in routes (fields_of line.now) }
     ensures sound { IfSome result (IsSound routes) }
@@ -296,7 +300,7 @@ fn read_fields<'a>(line: &'a [u8], routes: usize, buffer: &mut [u8; 2048]) -> Op
 pub fn read_event<'a>(
     line: &'a [u8],
     routes: usize,
-    buffer: &mut [u8; 2048],
+    buffer: &mut [u8; MAX_TAPE_DATAGRAM],
 ) -> Option<TapeEvent<'a>>
     ensures value { option_map (event_read buffer.new) result ≡ event_of routes line.now }
     ensures sound { IfSome result (IsSound routes) }

@@ -24,7 +24,7 @@ use crate::texts::{
 use crate::writer::CountedWriter;
 use srt_config::Config;
 use srt_hub::{Doors, Gateway, Hub, Lobby, OutOfMemory, RouteStep, SrtGateway};
-use srt_types::product_limits::{MAX_TAPE_LINE, MAX_TAPE_LINES};
+use srt_types::product_limits::{MAX_TAPE_DATAGRAM, MAX_TAPE_LINE, MAX_TAPE_LINES};
 use srt_types::protocol_limits::MAX_DATAGRAM;
 use srt_types::{Access, Entry, OpenFault, Peer, Rules};
 use std::alloc::Global;
@@ -220,7 +220,7 @@ fn answer_closing<R: RouteStep, L: Doors>(
 #[derive(Drop)]
 struct Desk {
     alloc: Global,
-    datagram: [u8; 2048],
+    datagram: [u8; MAX_TAPE_DATAGRAM],
     packet: [u8; MAX_DATAGRAM],
     text: [u8; MAX_TEXT],
 }
@@ -364,7 +364,7 @@ pub fn replay_over<R: RouteStep, L: Doors, B: BufRead, W: Write>(
         line: [0; MAX_TAPE_LINE],
         desk: Desk {
             alloc,
-            datagram: [0; 2048],
+            datagram: [0; MAX_TAPE_DATAGRAM],
             packet: [0; MAX_DATAGRAM],
             text: [0; MAX_TEXT],
         },
