@@ -6,6 +6,7 @@ use crate::text::{Words, front};
 use srt_config::{parted, read_number};
 use srt_replay::{read_address, read_bytes};
 use srt_types::Peer;
+use srt_types::product_limits::{MAX_TAPE_DATAGRAM, MAX_TAPE_LINE};
 
 /// The most bytes that are shown of a line that no replay prints.
 const MAX_SHOWN: usize = 80;
@@ -25,8 +26,8 @@ fn put_cause(words: &mut Words, number: &[u8]) {
 }
 
 /// Reads the bytes of hexadecimal digits; None if they aren't pairs of digits. They are at the front of `datagram`.
-fn bytes_of<'a>(digits: &[u8], datagram: &'a mut [u8; 2048]) -> Option<&'a [u8]> {
-    if digits.len() > 4096 {
+fn bytes_of<'a>(digits: &[u8], datagram: &'a mut [u8; MAX_TAPE_DATAGRAM]) -> Option<&'a [u8]> {
+    if digits.len() > MAX_TAPE_LINE {
         return None;
     }
     let len = read_bytes(digits, datagram)?;
@@ -34,7 +35,7 @@ fn bytes_of<'a>(digits: &[u8], datagram: &'a mut [u8; 2048]) -> Option<&'a [u8]>
 }
 
 /// Puts the datagram of an answer. Returns whether the digits are bytes.
-fn put_answer(words: &mut Words, digits: &[u8], datagram: &mut [u8; 2048]) -> bool {
+fn put_answer(words: &mut Words, digits: &[u8], datagram: &mut [u8; MAX_TAPE_DATAGRAM]) -> bool {
     match bytes_of(digits, datagram) {
         Some(bytes) => {
             words.put(b"answer  ");
@@ -56,7 +57,12 @@ fn peer_of(ip: &[u8], port: &[u8]) -> Option<Peer> {
 }
 
 /// Puts a datagram that was sent. Returns whether its address and its bytes are right.
-fn put_datagram(words: &mut Words, peer: Peer, digits: &[u8], datagram: &mut [u8; 2048]) -> bool {
+fn put_datagram(
+    words: &mut Words,
+    peer: Peer,
+    digits: &[u8],
+    datagram: &mut [u8; MAX_TAPE_DATAGRAM],
+) -> bool {
     match bytes_of(digits, datagram) {
         Some(bytes) => {
             words.put(b"sent to ");
@@ -70,7 +76,7 @@ fn put_datagram(words: &mut Words, peer: Peer, digits: &[u8], datagram: &mut [u8
 }
 
 /// Puts a datagram that was sent, given by its address, port and bytes. Returns whether these have their form.
-fn put_sent(words: &mut Words, fields: &[u8], datagram: &mut [u8; 2048]) -> bool {
+fn put_sent(words: &mut Words, fields: &[u8], datagram: &mut [u8; MAX_TAPE_DATAGRAM]) -> bool {
     let Some(ip) = parted(b' ', fields) else {
         return false;
     };
@@ -91,7 +97,7 @@ fn put_dropped(words: &mut Words, line: &[u8], number: &[u8]) -> bool {
 }
 
 /// Puts a line with more than one word. Returns whether its fields have their form.
-fn put_fields(words: &mut Words, line: &[u8], datagram: &mut [u8; 2048]) -> bool {
+fn put_fields(words: &mut Words, line: &[u8], datagram: &mut [u8; MAX_TAPE_DATAGRAM]) -> bool {
     let Some(parts) = parted(b' ', line) else {
         words.put(line);
         return true;
@@ -108,7 +114,7 @@ fn put_fields(words: &mut Words, line: &[u8], datagram: &mut [u8; 2048]) -> bool
 }
 
 /// Puts a line of a replay's output. `datagram` is a buffer for the bytes of its datagram.
-pub(crate) fn put_output(words: &mut Words, line: &[u8], datagram: &mut [u8; 2048]) {
+pub(crate) fn put_output(words: &mut Words, line: &[u8], datagram: &mut [u8; MAX_TAPE_DATAGRAM]) {
     if !put_fields(words, line, datagram) {
         words.put(front(line, MAX_SHOWN));
         words.put(b" (no line of a replay)");

@@ -8,6 +8,7 @@ use crate::text::{Words, front};
 use memchr::memchr;
 use srt_config::RouteNumbers;
 use srt_replay::{NewRoute, TapeEvent};
+use srt_types::product_limits::MAX_TAPE_DATAGRAM;
 use srt_types::{Mode, Peer};
 
 /// The most bytes that are shown of a line that isn't an event.
@@ -55,7 +56,7 @@ fn put_opening(words: &mut Words, opening: NewRoute<'_>) {
 }
 
 /// Puts an event; the datagram of an arrival is at the front of `datagram`.
-pub(crate) fn put_event(words: &mut Words, event: TapeEvent<'_>, datagram: &[u8; 2048])
+pub(crate) fn put_event(words: &mut Words, event: TapeEvent<'_>, datagram: &[u8; MAX_TAPE_DATAGRAM])
     requires { IsSound 511 event }
 {
     match event {

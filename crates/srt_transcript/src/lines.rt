@@ -11,6 +11,9 @@ use srt_types::write_at;
 /// The greatest length of an explanation's line, in bytes, with its LF.
 pub(crate) const MAX_ENTRY: usize = 16_640;
 
+/// The width of the column of a line's number.
+const NUMBER_WIDTH: usize = 7;
+
 /// The bytes before the first LF.
 pub(crate) fn first_line(bytes: &[u8]) -> &[u8]
     ensures inside { NoLf result.now }
@@ -31,8 +34,8 @@ pub(crate) fn write_line(out: &mut [u8; MAX_ENTRY], number: u32, words: &[u8]) -
 {
     let mut buffer = Buffer::new();
     let digits = buffer.format(number).as_bytes();
-    let spaces = 7_usize.saturating_sub(digits.len());
-    let end = write_at(out, 0, &b"       "[..spaces]);
+    let spaces = NUMBER_WIDTH.saturating_sub(digits.len());
+    let end = write_at(out, 0, &[b' '; NUMBER_WIDTH][..spaces]);
     let end = write_at(out, end, digits);
     let end = write_at(out, end, b"  ");
     let end = write_at(out, end, words);

@@ -16,7 +16,7 @@ use crate::events::{put_event, put_long_line, put_no_event};
 use crate::lines::{MAX_ENTRY, first_line, write_answer, write_line};
 use crate::text::Words;
 use srt_replay::{Brought, CountedReader, CountedWriter, Taken, next_line, read_event};
-use srt_types::product_limits::{MAX_ROUTES, MAX_TAPE_LINE, MAX_TAPE_LINES};
+use srt_types::product_limits::{MAX_ROUTES, MAX_TAPE_DATAGRAM, MAX_TAPE_LINE, MAX_TAPE_LINES};
 use std::io::{BufRead, Write};
 use thiserror::Error;
 
@@ -60,7 +60,7 @@ struct Ended {
 /// What an explanation is made with: a buffer for the line's datagram, the words, and a buffer for the line to write.
 #[derive(Drop)]
 struct Desk {
-    datagram: [u8; 2048],
+    datagram: [u8; MAX_TAPE_DATAGRAM],
     words: Words,
     entry: [u8; MAX_ENTRY],
 }
@@ -88,7 +88,7 @@ fn describe(
     number: u32,
     has_lf: bool,
     words: &mut Words,
-    datagram: &mut [u8; 2048],
+    datagram: &mut [u8; MAX_TAPE_DATAGRAM],
 ) -> bool
     ensures kind { result ≡ is_event number line.now }
     ensures short { result ≡ true → number ≤ 1000000 }
@@ -394,7 +394,7 @@ pub fn transcribe<T: BufRead, O: BufRead, W: Write>(
     let mut work = Workspace {
         line: [0; MAX_TAPE_LINE],
         desk: Desk {
-            datagram: [0; 2048],
+            datagram: [0; MAX_TAPE_DATAGRAM],
             words: Words::new(),
             entry: [0; MAX_ENTRY],
         },
