@@ -8,7 +8,13 @@ use Rattle.srt_sendbuf.specs.Sending.{Queued, Sending, front, next, lost, all_lo
 use Rattle.srt_sub.specs.Subscribing.{Terms, Report, Note, Renewed, Presumed, Opened, Subscribing}
 use Rattle.srt_sub.specs.Subscribing.{KeepAlive, drops, drops_of, unreported, flow_window, keep_alives, last_sent}
 use Rattle.srt_sub.specs.Subscribing.{media, most, again_of, new_of, due_of, reports_of, reports, resends, renewal_due, resend_due, has_waited}
-use Rattle.srt_sub.specs.Held.{waiting, window_before, held, new_within, due_within, reports_of_within, reports_within, HoldsNewOnes}
+use Rattle.srt_types.specs.Window.{in_window, offset_of}
+use Rattle.std.proofs.lemmas.Bool.{ltb-true}
+use Rattle.std.proofs.Common.{max}
+use Rattle.srt_sendbuf.specs.Sending.{acknowledged_by, base}
+use Rattle.srt_sub.specs.Heard.{Ack}
+use Rattle.srt_sub.specs.Subscribing.{took, with_ack}
+use Rattle.srt_sub.specs.Held.{LeavesTheRest, waiting, window_before, held, new_within, due_within, reports_of_within, reports_within, HoldsNewOnes}
 use Rattle.srt_sub.specs.Stands.{StandsIn, NotesBecome}
 use Rattle.srt_sub.specs.declared.history.History.{History}
 use Rattle.srt_sub.specs.declared.session.Subscriber.{Subscriber}
@@ -212,6 +218,39 @@ all_sent terms time recent bound s le =
 
 pub holds_new_ones : HoldsNewOnes
 holds_new_ones = record { sends = sends_held; below = new_below; all = all_sent }
+
+-- an ACK's number is at most the next new one
+in_reach : (word low count : ℕ) (n : ℕ) → in_window word low (count + 1) ≡ Some n → n ≤ low + count
+unfolding in_window
+in_reach word low count n e =
+    by (nat_lt word (2 ^ 31)) (nat_lt (offset_of word low) (count + 1)) refl e
+  where
+    by : (a b : Bool) → nat_lt (offset_of word low) (count + 1) ≡ b → (if a && b then Some (low + offset_of word low) else None) ≡ Some n
+        → n ≤ low + count
+    by true true f k = let near = ltb-true _ _ f in let same : low + offset_of word low ≡ n = cc in omega (arith, near, same)
+    by true false f k = absurd cc
+    by false b f k = absurd cc
+
+acked_at_most : (time : ℕ) (more : List ℕ) (o : Option ℕ) (s : Subscribing)
+    → ((n : ℕ) → o ≡ Some n → n ≤ next s.sending) → (with_ack time more o s).sending.acked ≤ max s.sending.acked (next s.sending)
+acked_at_most time more None s h = omega arith
+acked_at_most time more (Some n) s h = let le = h n refl in omega (arith, le)
+
+only_sent : (time mark number : ℕ) (more : List ℕ) (s : Subscribing)
+    → (took time (Ack mark number more) s).sending.acked ≤ max s.sending.acked (next s.sending)
+only_sent time mark number more s =
+    acked_at_most time more (acknowledged_by number s.sending) s
+    (λ n e. let le = in_reach number (base s.sending) (next s.sending - base s.sending) n e in
+    omega (arith, le))
+
+pub leaves_the_rest : LeavesTheRest
+leaves_the_rest =
+    record {
+      holding = λ terms bound s. (refl, refl);
+      releasing = λ window s. (refl, refl);
+      expires = λ terms time bound s. (refl, refl);
+      acknowledged = only_sent;
+    }
 
 -- the session with another flow window
 pub reopened : (terms : Terms) (initial opening caller time given : ℕ) (s : Subscriber) (m : Subscribing)

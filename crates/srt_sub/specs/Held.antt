@@ -1,8 +1,10 @@
 -- A session that may send only its first payloads for the first time, as many as it has confirmed keys for (our choice).
-use Rattle.std.specs.Prelude.{◌≡◌, ℕ, ◌-◌, ◌^◌, ◌<◌, ◌≤◌, Bool, true, false, List, ◌∷◌, ◌++◌, All, min, length}
+use Rattle.std.specs.Prelude.{◌≡◌, ℕ, ◌-◌, ◌^◌, ◌<◌, ◌≤◌, Bool, true, false, List, ◌∷◌, ◌++◌, All, min, max, length}
 use Rattle.srt_types.specs.Capped.{capped}
 use Rattle.srt_types.specs.Runs.{numbers_from}
 use Rattle.srt_sendbuf.specs.Sending.{Sending, front, next}
+use Rattle.srt_sub.specs.Heard.{Ack}
+use Rattle.srt_sub.specs.Subscribing.{expired, took}
 use Rattle.srt_sub.specs.Subscribing.{Terms, Report, Opened, Subscribing, drops, flow_window, keep_alives, media, most, again_of, prepared, reports, resends}
 
 -- the number of payloads at the queue's end that wait, where this many may be sent for the first time; a subscriber counts
@@ -54,3 +56,14 @@ pub record HoldsNewOnes : Type 0 where
       → length s.queue < 2 ^ 64 → All (λ n. n < bound) (new_within bound places again window s)
   pub all : (terms : Terms) (time : ℕ) (recent : Bool) (bound : ℕ) (s : Subscribing)
       → length s.sending.queue ≤ bound → reports_within bound terms time recent s ≡ reports terms time recent s
+
+-- what waits in a held session stays as it is: holding and releasing change nothing that is queued, acknowledged, expired or
+-- lost, and so no room; what waits expires as always; and an ACK acknowledges only what was sent or has expired
+pub record LeavesTheRest : Type 0 where
+  pub holding : (terms : Terms) (bound : ℕ) (s : Subscribing) → ((held terms bound s).sending ≡ s.sending) × ((held terms bound s).given_up ≡ s.given_up)
+  pub releasing : (window : ℕ) (s : Subscribing) → ((released window s).sending ≡ s.sending) × ((released window s).given_up ≡ s.given_up)
+  pub expires : (terms : Terms) (time bound : ℕ) (s : Subscribing)
+      → ((expired terms time (held terms bound s)).sending ≡ (expired terms time s).sending)
+      × ((expired terms time (held terms bound s)).given_up ≡ (expired terms time s).given_up)
+  pub acknowledged : (time mark number : ℕ) (more : List ℕ) (s : Subscribing)
+      → (took time (Ack mark number more) s).sending.acked ≤ max s.sending.acked (next s.sending)

@@ -5,7 +5,7 @@ ghost use Rattle.srt_sub.specs.Emission.{EmissionBegins, StandsLater};
 ghost use Rattle.srt_sub.specs.ResendLimit.{KeepsResendLimit};
 ghost use Rattle.srt_sub.specs.EventPackets.{SendsAtMost66};
 ghost use Rattle.srt_sub.specs.Fresh.{ExpiresOnce};
-ghost use Rattle.srt_sub.specs.Held.{HoldsNewOnes};
+ghost use Rattle.srt_sub.specs.Held.{HoldsNewOnes, LeavesTheRest};
 ghost use Rattle.srt_sub.specs.Tries.{ResendsAllOnce, CountsTries, WaitsLongEnough, IsStillInSilence, ResendsAtEachTimeout};
 
 use crate::Subscriber;
@@ -43,9 +43,11 @@ pub fn resends_all_once(subscriber: &Subscriber)
     ensures { ResendsAllOnce subscriber.now }
 {}
 
-/// A session that is held sends what it sends otherwise, but for new packets beyond the bound (our choice).
+/// A session that is held sends what it sends otherwise, but for new packets beyond the bound. What waits takes room and
+/// expires as always, and no ACK acknowledges it (our choice).
 pub fn holding()
-    ensures { HoldsNewOnes }
+    ensures sends { HoldsNewOnes }
+    ensures rest { LeavesTheRest }
 {}
 
 /// Two data packets of a session whose payloads have one index have the same payload, at whatever times they are sent
