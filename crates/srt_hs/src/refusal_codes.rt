@@ -12,7 +12,8 @@ ghost use Rattle.srt_hs.specs.Text.{code_of};
 /// the initial number and the HSREQ (1004), a KMREQ for a role without a passphrase (1011), FILTER (1014), GROUP (1015),
 /// the Stream ID and its route (1002), and the keys for a role with a passphrase (1011). Then `srt_route` checks the flag
 /// STREAM (1012), the MTU and the window (1004), a third publisher (1002), the number of sessions of the caller's IP
-/// address (1003), a free slot (1003), and whether the free slots are reserved for publishers (1003).
+/// address (1003), a free slot (1003), whether the free slots are reserved for publishers (1003), and whether the keys can
+/// be unwrapped (1010).
 #[derive(Clone, Copy, Debug, PartialEq, Eq)]
 pub enum RefusalCode {
     /// 1002, `SRT_REJ_PEER`: the conclusion has no Stream ID block. Or its Stream ID has a fault: not UTF-8, a mode

@@ -19,6 +19,7 @@ pub mod Limited
 pub mod Activity
 pub mod Queues
 pub mod Following
+pub mod Secured
 pub mod Sound
 pub mod Sendables
 pub mod SessionRules

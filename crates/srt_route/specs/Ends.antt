@@ -18,7 +18,7 @@ use Rattle.srt_route.specs.declared.table.Table.{Table}
 use Rattle.srt_route.specs.declared.totals.Totals.{Totals}
 use Rattle.srt_route.specs.Past.{Past, Publishes, Subscribes, Agreed, has_left, took_past}
 use Rattle.srt_route.specs.Sessions.{Session, is_draining, is_open_in, is_over, advanced, stamp_in, terms_of, time_in}
-use Rattle.srt_route.specs.Route.{Route, is_for, after_delivery, clock_after, delivered, drain_of, has_whole_file, is_file_over, taken}
+use Rattle.srt_route.specs.Route.{Route, is_for, after_delivery, clock_after, heard_by, delivered, drain_of, has_whole_file, is_file_over, taken}
 use Rattle.srt_route.specs.Tables.{IsTable}
 use Rattle.srt_route.specs.Totals.{sums_to}
 use Rattle.srt_route.specs.Viewing.{IsView}
@@ -187,7 +187,8 @@ KeepsEndsIf false e index clock item sessions old new = EndsInEvent e index cloc
 
 -- the changes of what is kept by an item, where `route` is the route before it
 abbrev pub KeepsEnds : (e : Terms) (index : ℕ) → Item → Route → (old new : Kept) → Type 0
-KeepsEnds e index item route old new = KeepsEndsIf route.is_closed e index (clock_after item route) item route.sessions old new
+KeepsEnds e index item route old new =
+    KeepsEndsIf route.is_closed e index (clock_after item route) (heard_by e index item route) route.sessions old new
 
 -- the changes in a part of an event, for all sessions that a table represents
 abbrev pub Ends : (clock : ℕ) → (ending : (e : Terms) (index : ℕ) → List Session → Ending) → Table → (old new : Ledger) → Type 0

@@ -79,6 +79,7 @@ refusals_with refusals.Resource r = record r { resource = more r.resource }
 refusals_with refusals.Reserved r = record r { reserved = more r.reserved }
 refusals_with refusals.Rogue r = record r { rogue = more r.rogue }
 refusals_with refusals.MessageApi r = record r { message_api = more r.message_api }
+refusals_with refusals.Secret r = record r { secret = more r.secret }
 
 abbrev pub with_refusal : RefusalCause → Ledger → Ledger
 with_refusal cause ledger = record ledger { refusals = refusals_with cause ledger.refusals }
@@ -91,12 +92,14 @@ refused_for refusals.Resource r = r.resource
 refused_for refusals.Reserved r = r.reserved
 refused_for refusals.Rogue r = r.rogue
 refused_for refusals.MessageApi r = r.message_api
+refused_for refusals.Secret r = r.secret
 
 abbrev pub refused_by : RefusalCode → Refusals → ℕ
 refused_by codes.Peer r = r.peer
 refused_by codes.Resource r = both (both r.resource r.address) r.reserved
 refused_by codes.Rogue r = r.rogue
 refused_by codes.MessageApi r = r.message_api
+refused_by codes.BadSecret r = r.secret
 refused_by _ r = 0
 
 -- what a route keeps of ended sessions, and its counts

@@ -2,6 +2,7 @@ pub mod Opening
 pub mod Conclusions
 pub mod Past
 pub mod Sessions
+pub mod RouteKeys
 pub mod Route
 pub mod Rests
 pub mod Shifted
@@ -16,7 +17,6 @@ pub mod PublisherBuffers
 pub mod Seats
 pub mod Tables
 pub mod Admission
-pub mod RouteKeys
 pub mod SlotKeys
 pub mod StoredKeys
 pub mod Stages

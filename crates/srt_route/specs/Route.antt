@@ -22,28 +22,38 @@ use Rattle.srt_hs.specs.declared.refusal_codes.RefusalCode.{RefusalCode}
 use Rattle.srt_hs.specs.declared.refusal_codes.RefusalCode.TheVariants as codes
 use Rattle.srt_route.specs.declared.refusals.RefusalCause.{RefusalCause}
 use Rattle.srt_route.specs.declared.refusals.RefusalCause.TheVariants as causes
-use Rattle.srt_hs.specs.Text.{answer_text}
+use Rattle.srt_hs.specs.Text.{answer_text, answer_with}
 use Rattle.srt_route.specs.declared.conclusion_reading.Conclusion.{Conclusion}
 use Rattle.srt_route.specs.Conclusions.{conclusion_in}
+use Rattle.srt_route.specs.declared.slot_keys.KeyOpening.{KeyOpening}
+use Rattle.srt_route.specs.declared.slot_keys.KeyVerdict.{KeyVerdict}
+use Rattle.srt_route.specs.declared.slot_keys.KeyVerdict.TheVariants.{TooMany, WrongSecret, Opened}
+use Rattle.srt_route.specs.RouteKeys.{Brought, KeysOpened, RouteKeys, SlotKeys, Clear, brought_in, cookie_in, first_keys, has_secured_role, opening}
+use Rattle.srt_route.specs.RouteKeys.{passphrase_of}
+use Rattle.srt_route.specs.RouteKeys.{request_of}
 use Rattle.srt_route.specs.Past.{Report, report_text, past_of, least_with, loses_window, publisher_end, has_all, has_left, is_shutdown}
-use Rattle.srt_route.specs.Sessions.{Session, is_same_peer, session_id, answer_of, publishes, is_subscriber, open_publishers}
+use Rattle.srt_route.specs.Sessions.{Session, is_open_in, is_same_peer, id_of, session_id, answer_of, publishes, is_subscriber, open_publishers}
 use Rattle.srt_route.specs.Sessions.{active, is_active, by_slot, free_slot, free_slots, sessions_from, generation_of, time_in, is_idle, terms_of}
 use Rattle.srt_route.specs.Sessions.{advanced, took, answered_at_once, payloads}
 use Rattle.srt_route.specs.Sessions.{of_libsrt, with_end, passed, reports_at, reported, is_draining, settled, speaks}
 
--- a route's state: the clock in microseconds, every session that was ever opened, and whether the route was closed
+-- a route's state: the clock in microseconds, every session that was ever opened, whether the route was closed, and
+-- what it has for its secured roles
 pub record Route : Type 0 where
   pub clock : ℕ
   pub sessions : List Session
   pub is_closed : Bool
+  pub keys : RouteKeys
 
 abbrev pub opened : Route
-opened = record { clock = 0; sessions = []; is_closed = false }
+opened = record { clock = 0; sessions = []; is_closed = false; keys = first_keys }
 
--- what is sent to the socket with ID `caller`: the answer to its handshake, a report of a session with this initial
--- number, or the SHUTDOWN that ends a session; `time` is in microseconds since the session's opening
+-- what is sent to the socket with ID `caller`: the answer to its handshake, the same with the contents of a KMREQ block,
+-- a report of a session with this initial number, or the SHUTDOWN that ends a session; `time` is in microseconds since
+-- the session's opening
 pub data Output : Type 0 where
   Answers : (caller : ℕ) (answer : HsAnswer) → Output
+  AnswersWithKeys : (caller : ℕ) (request : List ℕ) (answer : HsAnswer) → Output
   Says : (caller initial time : ℕ) (report : Report) → Output
   Ends : (caller time : ℕ) → Output
 
@@ -54,6 +64,8 @@ pub record Reply : Type 0 where
 -- the bytes of an output; the timestamp of a handshake is 0 (our choice)
 abbrev pub output_text : Output → List ℕ
 output_text (Answers caller answer) = text (record { stamp = 0; dest = caller; body = out.Handshake (record { items = answer_text answer }) })
+output_text (AnswersWithKeys caller request answer) =
+    text (record { stamp = 0; dest = caller; body = out.Handshake (record { items = answer_with (Some request) answer }) })
 output_text (Says caller initial time report) = report_text caller initial time report
 output_text (Ends caller time) = text (record { stamp = time % 2 ^ 32; dest = caller; body = out.Shutdown })
 
@@ -109,6 +121,7 @@ code_of causes.Peer = codes.Peer
 code_of causes.Address = codes.Resource
 code_of causes.Resource = codes.Resource
 code_of causes.Reserved = codes.Resource
+code_of causes.Secret = codes.BadSecret
 
 -- the first cause to refuse a conclusion, free slots and limits aside; at most two publishers are open (our choice)
 abbrev pub refused : Mode → (publishers : ℕ) → Conclusion → Option RefusalCause
@@ -270,6 +283,128 @@ taken e index clock (Received datagram moment) sessions = read_taken e index clo
 taken e index clock (Tick moment) sessions = nothing_taken sessions
 taken e index clock (Close moment) sessions = closed e clock sessions
 
+-- what keys change about an item
+pub data Verdict : Type 0 where
+  -- nothing
+  Passes : Verdict
+  -- to the sessions it is a tick
+  Ignored : Verdict
+  -- the same, and the conclusion is refused since its keys can't be unwrapped
+  Refused : (peer : Peer) (c : Conclusion) → Verdict
+  -- its answer repeats the contents of the KMREQ block with which the session opened, if it has keys
+  Repeats : (request : Option (List ℕ)) → Verdict
+
+-- the same, with the route's keys after it
+pub record Judged : Type 0 where
+  pub verdict : Verdict
+  pub keys : RouteKeys
+
+abbrev pub as_before : RouteKeys → Judged
+as_before keys = record { verdict = Passes; keys = keys }
+
+-- the session that opens in a slot, of a caller with this cookie
+abbrev pub key_opening : (index clock : ℕ) → Peer → (cookie : ℕ) → Role → (slot generation : ℕ) → KeyOpening
+key_opening index clock peer cookie role slot generation =
+    record { clock = clock; peer = peer; cookie = cookie; role = role; id = id_of index generation slot; slot = slot }
+
+abbrev pub verdict_of : Peer → Conclusion → Brought → KeyVerdict → Verdict
+verdict_of peer c b TooMany = Ignored
+verdict_of peer c b WrongSecret = Refused peer c
+verdict_of peer c b Opened = Repeats (Some b.contents)
+
+abbrev pub judged_by : Peer → Conclusion → Brought → KeysOpened → Judged
+judged_by peer c b o = record { verdict = verdict_of peer c b o.verdict; keys = o.keys }
+
+-- a conclusion for a role with this passphrase, of a caller without an open session: keys are looked at where no other
+-- cause refuses it
+abbrev pub asked : (passphrase : List ℕ) → Brought → (index clock : ℕ) → Peer → (cookie : ℕ) → Conclusion → List Session → RouteKeys
+    → Result ℕ RefusalCause → Judged
+asked passphrase b index clock peer cookie c sessions keys (Err cause) = as_before keys
+asked passphrase b index clock peer cookie c sessions keys (Ok slot) =
+    judged_by peer c b (opening passphrase b (key_opening index clock peer cookie c.role slot (generation_of sessions slot)) keys)
+
+-- a conclusion, by the passphrase of its role, the keys that it brings and the caller's open session. One for a secured
+-- role that doesn't bring one message that reads is ignored
+abbrev pub conclusion_judged : (passphrase : Option (List ℕ)) → Option Brought → Terms → (index clock : ℕ) → Peer → (cookie : ℕ) → Conclusion
+    → List Session → RouteKeys → Option Session → Judged
+conclusion_judged (Some passphrase) None e index clock peer cookie c sessions keys o = record { verdict = Ignored; keys = keys }
+conclusion_judged (Some passphrase) (Some b) e index clock peer cookie c sessions keys (Some s) =
+    record { verdict = Repeats (request_of (keys.held s.slot)); keys = keys }
+conclusion_judged (Some passphrase) (Some b) e index clock peer cookie c sessions keys None =
+    asked passphrase b index clock peer cookie c sessions keys (decision e peer c sessions)
+conclusion_judged None b e index clock peer cookie c sessions keys (Some s) =
+    record { verdict = Repeats (request_of (keys.held s.slot)); keys = keys }
+conclusion_judged None b e index clock peer cookie c sessions keys None = as_before keys
+
+abbrev pub info_judged : Terms → (index clock : ℕ) → Peer → (info : List ℕ) → List Session → RouteKeys → Option Conclusion → Judged
+info_judged e index clock peer info sessions keys None = as_before keys
+info_judged e index clock peer info sessions keys (Some c) =
+    conclusion_judged (passphrase_of e c.role) (brought_in info) e index clock peer (cookie_in info) c sessions keys
+    (find (is_of peer c.caller) sessions)
+
+-- the bytes of a handshake, if a packet is one
+abbrev pub info_of : Body → List ℕ
+info_of (Handshake info) = info
+info_of _ = []
+
+abbrev pub packet_judged : Terms → (index clock : ℕ) → Peer → Packet → List Session → RouteKeys → Judged
+packet_judged e index clock peer packet sessions keys =
+    if packet.dest == 0 then info_judged e index clock peer (info_of packet.body) sessions keys (concludes packet.body) else as_before keys
+
+abbrev pub read_judged : Terms → (index clock : ℕ) → Peer → Result Packet PacketFault → List Session → RouteKeys → Judged
+read_judged e index clock peer (Ok packet) sessions keys = packet_judged e index clock peer packet sessions keys
+read_judged e index clock peer (Err fault) sessions keys = as_before keys
+
+abbrev pub item_judged : Terms → (index clock : ℕ) → Item → List Session → RouteKeys → Judged
+item_judged e index clock (Received datagram moment) sessions keys =
+    read_judged e index clock datagram.peer (packet_in datagram.bytes) sessions keys
+item_judged e index clock (Tick moment) sessions keys = as_before keys
+item_judged e index clock (Close moment) sessions keys = as_before keys
+
+-- the keys of the sessions that are open
+abbrev pub kept_at : Option Session → SlotKeys → SlotKeys
+kept_at None keys = Clear
+kept_at (Some s) keys = keys
+
+abbrev pub keys_kept : List Session → RouteKeys → RouteKeys
+keys_kept sessions keys = record keys { held = λ slot. kept_at (find (is_open_in slot) sessions) (keys.held slot) }
+
+-- what keys change about an item; nothing if no role is secured
+abbrev pub judged_if : (secured : Bool) → Terms → (index clock : ℕ) → Item → List Session → RouteKeys → Judged
+judged_if false e index clock item sessions keys = as_before keys
+judged_if true e index clock item sessions keys = item_judged e index clock item sessions (keys_kept sessions keys)
+
+abbrev pub judged : Terms → (index clock : ℕ) → Item → List Session → RouteKeys → Judged
+judged e index clock item sessions keys = judged_if (has_secured_role e) e index clock item sessions keys
+
+-- the item as the sessions process it
+abbrev pub heard_as : Verdict → Item → Item
+heard_as Passes item = item
+heard_as Ignored item = Tick (moment_of item)
+heard_as (Refused peer c) item = Tick (moment_of item)
+heard_as (Repeats request) item = item
+
+-- an answer that repeats the contents of a KMREQ block (section 3.2.2)
+abbrev pub output_with : (request : List ℕ) → Output → Output
+output_with request (Answers caller answer) = AnswersWithKeys caller request answer
+output_with request (AnswersWithKeys caller other answer) = AnswersWithKeys caller other answer
+output_with request (Says caller initial time report) = Says caller initial time report
+output_with request (Ends caller time) = Ends caller time
+
+abbrev pub reply_with : (request : List ℕ) → Reply → Reply
+reply_with request r = record { peer = r.peer; packet = output_with request r.packet }
+
+-- the answers to an item, from those of the sessions
+abbrev pub answers_as : Verdict → List Reply → List Reply
+answers_as Passes answers = answers
+answers_as Ignored answers = answers
+answers_as (Refused peer c) answers = answered peer c.caller (refusal c codes.BadSecret)
+answers_as (Repeats None) answers = answers
+answers_as (Repeats (Some request)) answers = map (reply_with request) answers
+
+abbrev pub taken_as : Verdict → Taken → Taken
+taken_as verdict t = record { sessions = t.sessions; answers = answers_as verdict t.answers }
+
 -- the smallest room of the open subscribers, in payloads; None if none is open
 abbrev pub least_room : Terms → List Session → Option ℕ
 least_room e sessions = fold (λ found s. least_with e.buffer found s.past) None (by_slot e sessions)
@@ -358,9 +493,17 @@ abbrev pub finished : Terms → (clock : ℕ) → (over : Bool) → Session → 
 finished e clock over s = finished_at (has_whole_file over s) e clock s
 
 -- the result of an item, on a route that wasn't closed: first the clock and the sessions' time advance, then the item
--- is processed (our choice)
+-- is processed as the route's keys have it (our choice)
+abbrev pub judgement : Terms → (index : ℕ) → Item → Route → Judged
+judgement e index item route = let clock = clock_after item route in judged e index clock item (advanced e clock route.sessions) route.keys
+
+abbrev pub heard_by : Terms → (index : ℕ) → Item → Route → Item
+heard_by e index item route = heard_as (judgement e index item route).verdict item
+
 abbrev pub taken_by : Terms → (index : ℕ) → Item → Route → Taken
-taken_by e index item route = let clock = clock_after item route in taken e index clock item (advanced e clock route.sessions)
+taken_by e index item route =
+    let clock = clock_after item route in
+    taken_as (judgement e index item route).verdict (taken e index clock (heard_by e index item route) (advanced e clock route.sessions))
 
 -- the sessions after the publishers' deliveries
 abbrev pub passed_by : Terms → (index : ℕ) → Item → Route → List Session
@@ -386,6 +529,10 @@ sessions_at false e index item route =
     let sessions = passed_by e index item route in
     map (finished e (clock_after item route) (is_file_over e sessions)) sessions
 
+abbrev pub keys_at : (is_closed : Bool) → Terms → (index : ℕ) → Item → Route → RouteKeys
+keys_at true e index item route = route.keys
+keys_at false e index item route = (judgement e index item route).keys
+
 abbrev pub closes : Item → Bool
 closes (Received datagram moment) = false
 closes (Tick moment) = false
@@ -398,6 +545,7 @@ with_input e index item route =
       clock = clock_after item route;
       sessions = sessions_at route.is_closed e index item route;
       is_closed = route.is_closed || closes item;
+      keys = keys_at route.is_closed e index item route;
     }
 
 -- the route after these items

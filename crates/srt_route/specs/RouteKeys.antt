@@ -1,5 +1,5 @@
 -- The keys of a route's sessions (section 3.2.2; what the draft leaves open is our choice).
-use Rattle.std.specs.Prelude.{ℕ, Bool, true, false, Option, None, Some, option_map, is_some, List, Result, Ok, Err, length, nat_lt, slice_index}
+use Rattle.std.specs.Prelude.{ℕ, Bool, true, false, Option, None, Some, option_map, List, Result, Ok, Err, length, nat_lt, slice_index}
 use Rattle.std.specs.Prelude.{◌==◌, ◌||◌, if◌then◌else◌}
 use Rattle.srt_types.specs.declared.shared.Role.{Role}
 use Rattle.srt_types.specs.declared.shared.Role.TheVariants.{Publish, Request}

@@ -6,7 +6,7 @@ use Rattle.srt_route.specs.declared.route.Route.{Route as TheRoute}
 use Rattle.srt_route.specs.Written.{written}
 use Rattle.srt_route.specs.Waits.{IsTrimmed, replies_of, places_of}
 use Rattle.srt_route.specs.Route.{Route, after}
-use Rattle.srt_route.specs.Stages.{HasRoom, Represents, buffers_in, is_closed}
+use Rattle.srt_route.specs.Stages.{HasKeys, HasRoom, Represents, buffers_in, is_closed}
 
 -- the datagrams that wait, the oldest first
 abbrev pub waiting : TheRoute → List Datagram
@@ -22,6 +22,7 @@ pub record IsRoute (e : Terms) (index : ℕ) (r : TheRoute) (m : Route) : Type 0
   pub stage_is : Represents e index r.clock r.stage m.sessions
   pub room : HasRoom r.stage e.sessions r.waiting
   pub closed_is : m.is_closed ≡ is_closed r.stage
+  pub keys_are : HasKeys e r.stage m.keys
 
 -- route `r` has no sessions' buffers, no boxes but those of the replies that wait, and no queue if none waits
 pub record HasGivenBack (r : TheRoute) : Type 0 where

@@ -1,5 +1,5 @@
 -- The keys that a route's fields represent.
-use Rattle.std.specs.Prelude.{◌≡◌, ℕ, ◌<◌, true, Option, option_map, length, slice_index_or, string_bytes}
+use Rattle.std.specs.Prelude.{◌≡◌, ℕ, ◌<◌, true, option_map, length, slice_index_or, string_bytes}
 use Rattle.srt_types.specs.declared.shared.Role.TheVariants.{Publish, Request}
 use Rattle.srt_types.specs.Terms.{Terms}
 use Rattle.srt_session_keys.specs.Limiter.{moments_of}

@@ -7,6 +7,7 @@ use Rattle.srt_packet.specs.declared.reading.PacketFault.{PacketFault}
 use Rattle.srt_packet.specs.Grammar.{Packet}
 use Rattle.srt_packet.specs.Reading.{packet_in}
 use Rattle.srt_route.specs.declared.refusals.RefusalCause.{RefusalCause}
+use Rattle.srt_route.specs.declared.refusals.RefusalCause.TheVariants as causes
 use Rattle.srt_route.specs.declared.admission.Admission.{Admission}
 use Rattle.srt_route.specs.declared.conclusion_reading.Conclusion.{Conclusion}
 use Rattle.srt_route.specs.declared.ledger.Ledger.{Ledger}
@@ -15,7 +16,7 @@ use Rattle.srt_route.specs.declared.route.Route.{Route as TheRoute}
 use Rattle.srt_route.specs.declared.table.Table.{Table}
 use Rattle.srt_route.specs.Admission.{admitted}
 use Rattle.srt_route.specs.Sessions.{Session, advanced}
-use Rattle.srt_route.specs.Route.{Route, clock_after, concludes, is_of}
+use Rattle.srt_route.specs.Route.{Route, Verdict, Passes, Ignored, Refused, Repeats, clock_after, concludes, heard_by, is_of, judgement}
 use Rattle.srt_route.specs.Tables.{IsTable}
 use Rattle.srt_route.specs.Ledgers.{more, refusals_with}
 
@@ -24,7 +25,7 @@ pub record Tally : Type 0 where
   pub refusals : Refusals
 
 abbrev pub no_tally : Tally
-no_tally = record { opened = 0; refusals = record { peer = 0; resource = 0; rogue = 0; message_api = 0; address = 0; reserved = 0 } }
+no_tally = record { opened = 0; refusals = record { peer = 0; resource = 0; rogue = 0; message_api = 0; address = 0; reserved = 0; secret = 0 } }
 
 abbrev pub tally_of : Ledger → Tally
 tally_of ledger = record { opened = ledger.opened; refusals = ledger.refusals }
@@ -58,9 +59,19 @@ item_tally e (Received datagram moment) sessions t = read_tally e datagram.peer 
 item_tally e (Tick moment) sessions t = t
 item_tally e (Close moment) sessions t = t
 
+-- a conclusion whose keys can't be unwrapped is counted as refused
+abbrev pub verdict_tally : Verdict → Tally → Tally
+verdict_tally Passes t = t
+verdict_tally Ignored t = t
+verdict_tally (Refused peer c) t = record t { refusals = refusals_with causes.Secret t.refusals }
+verdict_tally (Repeats request) t = t
+
 -- the counts after an item, where `route` is the route before it; after a route was closed nothing is counted
-abbrev pub tally_after : Terms → Item → Route → Tally → Tally
-tally_after e item route t = if route.is_closed then t else item_tally e item (advanced e (clock_after item route) route.sessions) t
+abbrev pub tally_after : Terms → (index : ℕ) → Item → Route → Tally → Tally
+tally_after e index item route t =
+    if route.is_closed then t
+    else verdict_tally (judgement e index item route).verdict
+    (item_tally e (heard_by e index item route) (advanced e (clock_after item route) route.sessions) t)
 
 -- the counts after a part of an event, for all sessions that a table represents
 abbrev pub Tallies : (clock : ℕ) → (Terms → List Session → Tally → Tally) → Table → (old new : Ledger) → Type 0

@@ -8,3 +8,4 @@ pub mod Files
 pub mod Drains
 pub mod Notes
 pub mod Event
+pub mod Secured

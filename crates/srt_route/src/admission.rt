@@ -83,7 +83,7 @@ fn is_reserved(reserved: u32, free: usize, publishers: usize, role: Role) -> boo
 
 /// Returns the lowest free slot and the agreement, or the first cause to refuse: one in the conclusion itself, then the
 /// limit of the caller's address, no free slot, and free slots that are reserved for publishers.
-fn admit(table: &Table, peer: Peer, c: &Conclusion) -> Result<Admission, RefusalCause>
+pub fn admit(table: &Table, peer: Peer, c: &Conclusion) -> Result<Admission, RefusalCause>
     ensures inside { IfOk result (λ a. a.at < length table.now.seats.items) }
     ensures value { Admits table.now peer c.now result }
 {

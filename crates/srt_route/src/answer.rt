@@ -4,15 +4,16 @@ ghost use Rattle.std.specs.Prelude.{◌≡◌};
 ghost use Rattle.srt_types.specs.Terms.{Terms};
 ghost use Rattle.srt_route.specs.Written.{written};
 ghost use Rattle.srt_route.specs.Sessions.{agreed};
-ghost use Rattle.srt_route.specs.Route.{Answers, refusal, sent};
+ghost use Rattle.srt_route.specs.Route.{Answers, AnswersWithKeys, refusal, sent};
 ghost use Rattle.srt_route.specs.Admission.{agreement_of};
 ghost use Rattle.srt_route.specs.declared.conclusion_reading.Conclusion.{Conclusion as TheConclusion};
 
 use crate::agreement::Agreement;
 use crate::conclusion_reading::Conclusion;
+use crate::key_text::KeyText;
 use crate::replies::Reply;
 use arrayvec::ArrayVec;
-use srt_hs::{AnswerKind, HsAnswer, RefusalCode, write};
+use srt_hs::{AnswerKind, HsAnswer, RefusalCode, write, write_with_keys};
 use srt_packet::{Body, Packet};
 use srt_types::Peer;
 
@@ -42,6 +43,29 @@ pub fn accepted(agreement: Agreement, window: u32, id: u32, c: Conclusion) -> Hs
             congestion: c.congestion,
         },
     }
+}
+
+/// Writes a handshake answer with the contents of a KMREQ block into `reply`, to the caller's socket with this ID
+/// (section 3.2.2).
+pub fn answer_with_keys_to(
+    reply: &mut Reply,
+    peer: Peer,
+    caller: u32,
+    answer: &HsAnswer,
+    request: &KeyText,
+)
+    ensures { written reply.new ≡ sent (record { peer = peer; packet = AnswersWithKeys caller request.now.bytes.items answer.now }) }
+{
+    let mut out = [0u8; 192];
+    let len = write_with_keys(answer, request.bytes.as_slice(), &mut out);
+    let mut info = ArrayVec::new();
+    let _ = info.try_extend_from_slice(&out[..len]);
+    reply.peer = peer;
+    reply.packet.write(&Packet {
+        stamp: 0,
+        dest: caller,
+        body: Body::Handshake(info),
+    });
 }
 
 /// Writes a handshake answer into `reply`, to the caller's socket with this ID. Its timestamp is 0 (our choice).

@@ -132,7 +132,7 @@ fn to_session(
 
 /// Processes a packet. With destination 0 only a conclusion is accepted; any other destination names a session. Returns
 /// true if `reply` has an answer.
-fn to_destination(
+pub fn to_destination(
     table: &mut Table,
     ledger: &mut Ledger,
     arrival: Arrival,

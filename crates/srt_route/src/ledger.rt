@@ -66,6 +66,8 @@ pub(crate) struct Refusals {
     pub address: u64,
     /// 1003: the free slots are reserved for publishers.
     pub reserved: u64,
+    /// 1010: the keys can't be unwrapped.
+    pub secret: u64,
 }
 
 /// What a route keeps of ended sessions and of refusals.
@@ -153,6 +155,7 @@ impl Ledger {
                 message_api: 0,
                 address: 0,
                 reserved: 0,
+                secret: 0,
             },
         }
     }
@@ -178,6 +181,7 @@ impl Ledger {
             RefusalCause::MessageApi => {
                 refusals.message_api = refusals.message_api.saturating_add(1)
             }
+            RefusalCause::Secret => refusals.secret = refusals.secret.saturating_add(1),
         }
     }
 
@@ -192,6 +196,7 @@ impl Ledger {
             RefusalCause::Reserved => self.refusals.reserved,
             RefusalCause::Rogue => self.refusals.rogue,
             RefusalCause::MessageApi => self.refusals.message_api,
+            RefusalCause::Secret => self.refusals.secret,
         }
     }
 
@@ -208,8 +213,8 @@ impl Ledger {
                 .saturating_add(self.refusals.reserved),
             RefusalCode::Rogue => self.refusals.rogue,
             RefusalCode::MessageApi => self.refusals.message_api,
+            RefusalCode::BadSecret => self.refusals.secret,
             RefusalCode::Version => 0,
-            RefusalCode::BadSecret => 0,
             RefusalCode::Unsecure => 0,
             RefusalCode::Filter => 0,
             RefusalCode::Group => 0,

@@ -22,7 +22,7 @@
 //! - 2: `idle.rt` ends idle sessions, drops what is too late, and lets the standby take over.
 //! - 3: `dispatch.rt` processes a packet of a session, a conclusion or a Close (`closing.rt`). For conclusions,
 //!   `conclusion_reading.rt` reads them, `admission.rt` checks for each refusal, `refusals.rt` has the causes, `agreement.rt`
-//!   the negotiated values and `answer.rt` the answer.
+//!   the negotiated values and `answer.rt` the answer. If a role has a passphrase, `secured.rt` judges a conclusion before.
 //! - 4: `delivery.rt` delivers payloads, and `draining.rt` ends sessions that have drained.
 //! - 5 and 6: `transmit.rt` sends the publishers' packets and then the subscribers'.
 //!
@@ -60,6 +60,7 @@ mod resting;
 mod route;
 mod route_keys;
 mod seat;
+mod secured;
 mod slot_keys;
 mod socket_ids;
 mod stage;
@@ -89,5 +90,7 @@ mod ledger_tests;
 mod resend_tests;
 #[cfg(test)]
 mod rules_tests;
+#[cfg(test)]
+mod secured_tests;
 #[cfg(test)]
 mod tests;

@@ -21,6 +21,8 @@ pub enum RefusalCause {
     Resource,
     /// A subscriber, while the free slots are reserved for publishers: 1003.
     Reserved,
+    /// Its keys can't be unwrapped: the caller has another passphrase: 1010 (SRT_REJ_BADSECRET).
+    Secret,
 }
 
 impl RefusalCause {
@@ -35,6 +37,7 @@ impl RefusalCause {
             RefusalCause::Address => RefusalCode::Resource,
             RefusalCause::Resource => RefusalCode::Resource,
             RefusalCause::Reserved => RefusalCode::Resource,
+            RefusalCause::Secret => RefusalCode::BadSecret,
         }
     }
 }

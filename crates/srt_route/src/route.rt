@@ -4,11 +4,12 @@ ghost use Rattle.std.specs.Prelude.{◌≡◌, ◌<◌, ◌^◌, max};
 ghost use Rattle.srt_types.specs.Items.{input_of, moment_of};
 ghost use Rattle.srt_route.specs.Route.{closes};
 
-use crate::event::process;
+use crate::event::{Event, process};
 use crate::ledger::Ledger;
 use crate::opening::check_entry;
 use crate::replies::Reply;
 use crate::reply_queue::{ReplyQueue, ScratchBoxes};
+use crate::route_keys::RouteKeys;
 use crate::stage::{Stage, generations_of};
 use crate::table::Table;
 use srt_types::{Entry, Item, OpenFault};
@@ -123,10 +124,17 @@ impl Route {
         let Ok(scratch) = ScratchBoxes::open(alloc) else {
             return Err(OpenFault::OutOfMemory);
         };
+        let Ok(keys) = RouteKeys::open(alloc, entry) else {
+            return Err(OpenFault::OutOfMemory);
+        };
         Ok(Route {
             clock,
             waiting,
-            stage: Stage::Open { table, scratch },
+            stage: Stage::Open {
+                table,
+                keys,
+                scratch,
+            },
             ledger: Ledger::new(),
         })
     }
@@ -145,7 +153,7 @@ impl Route {
         ensures ends { (e : Terms) (index : ℕ) (items : List TheItem) → stands self.old e index items →
             KeepsEnds e index (input_of item.now) (after e index items) (kept_in self.old) (kept_in self.new) }
         ensures tally { (e : Terms) (index : ℕ) (items : List TheItem) →
-            stands self.old e index items → tally_in self.new ≡ tally_after e (input_of item.now) (after e index items) (tally_in self.old) }
+            stands self.old e index items → tally_in self.new ≡ tally_after e index (input_of item.now) (after e index items) (tally_in self.old) }
         ensures sums { SumsGrow (totals_of_ended self.old) (totals_of_ended self.new) }
         ensures released { (e : Terms) (index : ℕ) (items : List TheItem) → stands self.old e index items →
             (after e index (input_of item.now ∷ items)).is_closed ≡ true → HasGivenBack self.new }
@@ -153,13 +161,21 @@ impl Route {
         // 1: the clock is monotonic. After a Close nothing else happens.
         self.clock = later(self.clock, moment(item));
         match &mut self.stage {
-            Stage::Open { table, scratch } => {
+            Stage::Open {
+                table,
+                keys,
+                scratch,
+            } => {
+                let event = Event {
+                    clock: self.clock,
+                    item,
+                };
                 process(
                     table,
+                    keys,
                     scratch,
                     &mut self.ledger,
-                    self.clock,
-                    item,
+                    event,
                     &mut self.waiting,
                 );
                 if !closes(item) {

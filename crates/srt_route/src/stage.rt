@@ -4,6 +4,7 @@ ghost use Rattle.std.specs.Prelude.{◌≡◌, ◌<◌, ◌≤◌, ℕ, length, 
 ghost use Rattle.srt_route.specs.declared.seat.Seat.{Seat as TheSeat};
 
 use crate::reply_queue::ScratchBoxes;
+use crate::route_keys::RouteKeys;
 use crate::seat::Seat;
 use crate::table::Table;
 use srt_types::product_limits::MAX_SESSIONS;
@@ -15,6 +16,8 @@ pub(crate) enum Stage {
     Open {
         /// The sessions and their buffers.
         table: Table,
+        /// What it has for its secured roles.
+        keys: RouteKeys,
         /// The boxes into which an event writes its packets.
         scratch: ScratchBoxes,
     },

@@ -1,3 +1,3 @@
 mod Limited
-mod Delayed
+pub mod Delayed
 mod Lengths

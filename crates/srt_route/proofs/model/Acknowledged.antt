@@ -34,7 +34,7 @@ use Rattle.srt_route.specs.Sessions.{is_recent, open_publishers}
 use Rattle.srt_route.specs.Route.{Route, after, after_delivery, arrived, clock_after, concluded, concludes, considered, decision, delivered, delivery}
 use Rattle.srt_route.specs.Route.{drain_end, drain_if, drain_of, ended, finished, finished_at, gives_some, has_whole_file, heard_if, is_file_over}
 use Rattle.srt_route.specs.Route.{is_for, is_of, least_room, packet_end, packet_taken, passed_by, read_taken, room_if, sessions_at, settled_by, taken}
-use Rattle.srt_route.specs.Route.{taken_by, took_if, took_packet, without_destination}
+use Rattle.srt_route.specs.Route.{taken_by, took_if, took_packet, without_destination, heard_by}
 use Rattle.srt_route.specs.Acknowledged.{DeliversInOrder, DeliversOn, DeliversOnIn, EndsAtOnce, EndsDrained, EndsWithAll, HasDeliveredIn, FeedsAll}
 use Rattle.srt_route.specs.Acknowledged.{GetsAll, IsFed, IsReported, IsReportedIn, PointsStay}
 use Rattle.srt_route.proofs.model.Lists.{Each, each_found, each_mapped}
@@ -203,7 +203,7 @@ sessions_keep false e index item m mode h =
     let over = is_file_over e (passed_by e index item m) in
     each_mapped (Kept e) (Kept e) (finished e clock over) (λ s k. finished_keeps (has_whole_file over s) e clock s k) (passed_by e index item m)
     (delivery_keep e clock (taken_by e index item m).sessions mode
-    (taken_keep e index clock item (advanced e clock m.sessions) mode (advanced_keep e clock m.sessions h)))
+    (taken_keep e index clock (heard_by e index item m) (advanced e clock m.sessions) mode (advanced_keep e clock m.sessions h)))
 
 all_keep : (e : Terms) (index : ℕ) (items : List Item) → e.mode ≡ Buffer → Each (Kept e) (after e index items).sessions
 all_keep e index [] mode = tt
@@ -215,7 +215,7 @@ pub taken_all_keep : (e : Terms) (index : ℕ) (items : List Item) (item : Item)
 taken_all_keep e index items item mode =
     let m = after e index items in
     let clock = clock_after item m in
-    taken_keep e index clock item (advanced e clock m.sessions) mode (advanced_keep e clock m.sessions (all_keep e index items mode))
+    taken_keep e index clock (heard_by e index item m) (advanced e clock m.sessions) mode (advanced_keep e clock m.sessions (all_keep e index items mode))
 
 -- a property of each element of a list
 each_so : (P Q : Session → Type 0) → ((s : Session) → P s → Q s) → (ss : List Session) → Each P ss → lists.Each Q ss

@@ -4,7 +4,7 @@ use Rattle.std.proofs.Common.{refl, sym, ap, ◌∙◌, arith}
 use Rattle.std.proofs.lemmas.Bool.{and_from, and_parts, eq-eqb, eqb-true, ne_eqb}
 use Rattle.srt_route.specs.Activity.{OneIsActive, OneDelivers, StaysActive, StandbyLeads, OpensBehind, OneIsActiveAmong, is_active_publisher}
 use Rattle.srt_route.specs.Sessions.{Session, active, advanced, aged, has_slot, is_active, is_open_in, is_publisher, open_publishers, publishes}
-use Rattle.srt_route.specs.Route.{after, clock_after, passed_by, taken_by}
+use Rattle.srt_route.specs.Route.{after, clock_after, passed_by, taken_by, heard_by}
 use Rattle.srt_route.specs.Tables.{AreAlone}
 use Rattle.srt_route.proofs.model.Lists.{how_many, one_more}
 use Rattle.srt_route.proofs.model.Marking.{standby_leads}
@@ -77,7 +77,7 @@ one_delivers e index items item =
     let clock = clock_after item m in
     one_among e.sessions (passed_by e index item m)
     (after_delivery_alone e clock (taken_by e index item m).sessions
-    (taken_alone e index clock item (advanced e clock m.sessions) (advanced_alone e clock m.sessions (are_alone e index items))))
+    (taken_alone e index clock (heard_by e index item m) (advanced e clock m.sessions) (advanced_alone e clock m.sessions (are_alone e index items))))
 
 pub stays : StaysActive
 stays e clock ss s is lives =

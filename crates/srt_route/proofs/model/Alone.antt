@@ -21,7 +21,7 @@ use Rattle.srt_route.specs.Route.{Route, decision, opens, considered, concluded,
 use Rattle.srt_route.specs.Route.{after_delivery, drain_end, drain_of, finished, gives_some, is_file_over, packet_end, settled_by, took_packet}
 use Rattle.srt_route.specs.Sessions.{open_publishers, settled}
 use Rattle.srt_route.specs.Route.{without_destination, arrived, packet_taken, read_taken, taken, ended, least_room, delivery, room_if}
-use Rattle.srt_route.specs.Route.{delivered, taken_by, passed_by, sessions_at, clock_after, after}
+use Rattle.srt_route.specs.Route.{delivered, taken_by, passed_by, sessions_at, clock_after, after, heard_by}
 use Rattle.srt_route.specs.Tables.{AreAlone}
 use Rattle.srt_route.specs.Bounds.{TwoPublish, NoMoreThanSlots, OneInASlot, NoneElsewhere, OneOfACaller}
 use Rattle.srt_route.proofs.model.Lists.{how_many, one_more}
@@ -137,7 +137,7 @@ sessions_alone true e index item m alone = alone
 sessions_alone false e index item m alone =
     let clock = clock_after item m in
     let ss = (taken_by e index item m).sessions in
-    let taken_are = taken_alone e index clock item (advanced e clock m.sessions) (advanced_alone e clock m.sessions alone) in
+    let taken_are = taken_alone e index clock (heard_by e index item m) (advanced e clock m.sessions) (advanced_alone e clock m.sessions alone) in
     let over = is_file_over e (passed_by e index item m) in
     alone_kept (finished e clock over) (finishes e clock over) e.sessions (passed_by e index item m) (after_delivery_alone e clock ss taken_are)
 

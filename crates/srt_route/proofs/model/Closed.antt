@@ -1,5 +1,5 @@
 -- A closed route has no open session, and replies to nothing.
-use Rattle.std.proofs.Common.{◌≡◌, ℕ, Bool, true, false, ◌||◌, ◌&&◌, Option, None, Some, List, [], ◌∷◌, map, refl, ap, ◌∙◌}
+use Rattle.std.proofs.Common.{◌≡◌, ℕ, Bool, true, false, ◌||◌, ◌&&◌, Option, None, Some, List, [], ◌∷◌, map, refl, sym, ap, subst, ◌∙◌}
 use Rattle.std.specs.List.{list_any}
 use Rattle.srt_types.specs.declared.shared.Callers.{Callers}
 use Rattle.srt_types.specs.declared.shared.Callers.TheVariants.{Draft, Libsrt}
@@ -9,7 +9,9 @@ use Rattle.srt_route.specs.Past.{has_left}
 use Rattle.srt_route.specs.Sessions.{Session, is_active, time_in, advanced, passed_at, passed, reported_at, terms_of}
 use Rattle.srt_route.specs.Sessions.{open_publishers, settled, settled_at, with_end}
 use Rattle.srt_route.specs.Route.{after_delivery, drain_end, finished, finished_at, gives_some, has_whole_file, is_file_over, settled_by}
-use Rattle.srt_route.specs.Route.{Route, ended, closes, clock_after, least_room, delivery, room_if, delivered, replies_at, sessions_at, sent, after}
+use Rattle.srt_route.specs.Route.{Route, ended, closes, clock_after, least_room, delivery, room_if, delivered, replies_at, sessions_at, sent, taken, taken_by}
+use Rattle.srt_route.specs.Route.{after}
+use Rattle.srt_route.proofs.model.Secured.{closing_is_heard}
 use Rattle.srt_route.specs.Closed.{ClosesOnce, ClosedHasNoSession, ClosedIsQuiet}
 
 abbrev pub none_open : List Session → Bool
@@ -85,11 +87,13 @@ ends_all false e index (Received datagram moment) m earlier h = cc
 ends_all false e index (Tick moment) m earlier h = cc
 ends_all false e index (Close moment) m earlier h =
     let clock = clock_after (Close moment) m in
-    let ss = map ended (advanced e clock m.sessions) in
+    let ss = (taken_by e index (Close moment) m).sessions in
     let later = after_delivery e clock ss in
     let over = is_file_over e later in
     still_none (finished e clock over) (λ s none. finished_stays (has_whole_file over s) e clock s none) later
-    (after_delivery_none e clock ss (each_ended (advanced e clock m.sessions)))
+    (after_delivery_none e clock ss
+    (subst (λ (i : Item). none_open (taken e index clock i (advanced e clock m.sessions)).sessions ≡ false) (sym (closing_is_heard e index moment m))
+    (each_ended (advanced e clock m.sessions))))
 
 pub has_no_session : ClosedHasNoSession
 has_no_session e index [] h = refl

@@ -10,7 +10,7 @@ use Rattle.srt_types.specs.declared.shared.Callers.TheVariants.{Draft, Libsrt}
 use Rattle.srt_types.specs.declared.shared.Peer.{Peer}
 use Rattle.srt_types.specs.Runs.{Run, numbers_from}
 use Rattle.srt_types.specs.Terms.{Terms}
-use Rattle.srt_types.specs.Items.{Item, Received, Tick, Close}
+use Rattle.srt_types.specs.Items.{Item, Received, Tick, Close, moment_of}
 use Rattle.srt_packet.specs.declared.reading.PacketFault.{PacketFault}
 use Rattle.srt_packet.specs.Grammar.{Packet, Body}
 use Rattle.srt_packet.specs.Reading.{packet_in}
@@ -26,7 +26,8 @@ use Rattle.srt_route.specs.Sessions.{Session, is_draining, is_subscriber, is_ope
 use Rattle.srt_route.specs.Sessions.{publishes}
 use Rattle.srt_route.specs.Route.{Taken, Reply, sent, decision, considered, concluded, is_of, is_for, concludes, without_destination}
 use Rattle.srt_route.specs.Route.{arrived, answered_by, said_by, packet_taken, read_taken, taken, shutdown_to, Route, after, clock_after}
-use Rattle.srt_route.specs.Route.{taken_by, passed_by, replies_at, packets_at, packets_where, RepliesHavePlaces}
+use Rattle.srt_route.specs.Route.{taken_by, passed_by, replies_at, packets_at, packets_where, RepliesHavePlaces, Verdict, Passes, Ignored, Refused, Repeats}
+use Rattle.srt_route.specs.Route.{answers_as, heard_as, judgement, reply_with}
 use Rattle.srt_route.specs.Route.{after_delivery, ended, has_whole_file, idle_notified, is_file_over, lost_notified, served, served_at, notified_if}
 use Rattle.srt_route.proofs.model.FileEnds.{whole_subscribes}
 use Rattle.srt_route.proofs.model.Closed.{after_delivery_none, each_ended, none_open}
@@ -337,6 +338,19 @@ taken_few e index clock (Close moment) ss =
       none_picked ts (numbers_from 0 e.sessions) (after_delivery_none e clock (map ended ss) (each_ended ss)),
     )
 
+-- the same of the answers as keys have them: a refusal is one where the sessions have none
+answers_few : (v : Verdict) (e : Terms) (index clock : ℕ) (item : Item) (ss : List Session)
+    → length (answers_as v (taken e index clock (heard_as v item) ss).answers)
+    + packets_after e clock (after_delivery e clock (taken e index clock (heard_as v item) ss).sessions)
+    ≤ 1 + 65 * e.sessions
+answers_few Passes e index clock item ss = taken_few e index clock item ss
+answers_few Ignored e index clock item ss = taken_few e index clock (Tick (moment_of item)) ss
+answers_few (Refused peer c) e index clock item ss =
+    let ts = after_delivery e clock ss in omega (arith, all_said e clock (is_file_over e ts) (by_slot e ts), few_by_slot e ts)
+answers_few (Repeats None) e index clock item ss = taken_few e index clock item ss
+answers_few (Repeats (Some request)) e index clock item ss =
+    omega (arith, length-map (taken e index clock item ss).answers (reply_with request), taken_few e index clock item ss)
+
 replies_few : (is_closed : Bool) (e : Terms) (index : ℕ) (item : Item) (m : Route)
     → length (map sent (replies_at is_closed e index item m)) ≤ 4 + 66 * e.sessions
 replies_few true e index item m = omega arith
@@ -355,7 +369,7 @@ replies_few false e index item m =
       length-append idle answers,
       idle_few e clock (by_slot e m.sessions),
       few_by_slot e m.sessions,
-      taken_few e index clock item (advanced e clock m.sessions),
+      answers_few (judgement e index item m).verdict e index clock item (advanced e clock m.sessions),
     )
 
 pub replies_have_places : RepliesHavePlaces

@@ -18,7 +18,7 @@ use Rattle.srt_route.specs.Sessions.{passed_at, reported_at, takes_over, terms_o
 use Rattle.srt_route.specs.Route.{Route, after, after_delivery, arrived, clock_after, concluded, concludes, considered, decision, delivered}
 use Rattle.srt_route.specs.Route.{delivery, drain_if, drain_of, ended, finished, finished_at, gives_some, has_whole_file, heard_if, is_file_over}
 use Rattle.srt_route.specs.Route.{is_for, is_of, least_room, packet_end, packet_taken, passed_by, read_taken, room_if, sessions_at, settled_by}
-use Rattle.srt_route.specs.Route.{taken, taken_by, took_if, took_packet, without_destination}
+use Rattle.srt_route.specs.Route.{taken, taken_by, took_if, took_packet, without_destination, heard_by}
 use Rattle.srt_route.specs.Drafts.{NoneDrains}
 use Rattle.srt_route.proofs.model.Lists.{Each, each_mapped}
 
@@ -146,7 +146,7 @@ sessions_stay false e index item m draft h =
     let over = is_file_over e (passed_by e index item m) in
     each_mapped Stays Stays (finished e clock over) (λ s k. finished_stays (has_whole_file over s) e clock s k) (passed_by e index item m)
     (delivery_stay e clock (taken_by e index item m).sessions draft
-    (taken_stay e index clock item (advanced e clock m.sessions) draft (advanced_stay e clock m.sessions h)))
+    (taken_stay e index clock (heard_by e index item m) (advanced e clock m.sessions) draft (advanced_stay e clock m.sessions h)))
 
 all_stay : (e : Terms) (index : ℕ) (items : List Item) → e.rules.callers ≡ Draft → Each Stays (after e index items).sessions
 all_stay e index [] draft = tt

@@ -12,16 +12,17 @@ use Rattle.srt_route.specs.declared.seat.Session.{Session as TheSession}
 use Rattle.srt_route.specs.declared.seat.Seat.{Seat}
 use Rattle.srt_route.specs.declared.table.Table.{Table}
 use Rattle.srt_route.specs.Past.{has_left}
-use Rattle.srt_route.specs.Sessions.{Session, by_slot, is_active, is_open_in, time_in, passed_at, reported_at, terms_of}
+use Rattle.srt_route.specs.Sessions.{Session, advanced, by_slot, is_active, is_open_in, time_in, passed_at, reported_at, terms_of}
 use Rattle.srt_route.specs.Sessions.{open_publishers, settled, settled_at, with_end}
 use Rattle.srt_route.specs.Route.{after_delivery, drain_end, gives_some, settled_by}
-use Rattle.srt_route.specs.Route.{Route, sent, ended, shutdown_to, closes, clock_after, passed_by, sessions_at, taken_by, least_room}
+use Rattle.srt_route.specs.Route.{Route, sent, ended, shutdown_to, closes, clock_after, passed_by, sessions_at, taken, taken_by, least_room}
 use Rattle.srt_route.specs.Route.{room_if, delivery, delivered, after, finished_at, has_whole_file, is_file_over, notified_if}
 use Rattle.srt_route.specs.Tables.{IsSession, IsStored, IsSeat, IsTable, with_stored}
 use Rattle.srt_route.specs.inside.OneSession.{shutdowns_if, shutdowns_to}
 use Rattle.srt_route.specs.inside.Reports.{AreSaid}
 use Rattle.srt_route.proofs.model.Lists.{Each, each_mapped}
 use Rattle.srt_route.proofs.model.Found.{Keeps, changed}
+use Rattle.srt_route.proofs.model.Secured.{closing_is_heard}
 use Rattle.srt_route.proofs.model.TakeOver.{KeepsMarks}
 use Rattle.srt_route.proofs.stored.Kept.{Becomes, table_stands}
 use Rattle.srt_route.proofs.steps.Delivered.{from_places}
@@ -172,7 +173,9 @@ after_delivery_ended e clock ss h =
 taken_ended : (e : Terms) (index : ℕ) (item : Item) (m : Route) → closes item ≡ true → Each HasEnded (taken_by e index item m).sessions
 taken_ended e index (Received d moment) m h = absurd (let bad : false ≡ true = h in cc)
 taken_ended e index (Tick moment) m h = absurd (let bad : false ≡ true = h in cc)
-taken_ended e index (Close moment) m h = all_end _
+taken_ended e index (Close moment) m h =
+    let clock = clock_after (Close moment) m in
+    subst (λ (i : Item). Each HasEnded (taken e index clock i (advanced e clock m.sessions)).sessions) (sym (closing_is_heard e index moment m)) (all_end _)
 
 more_ended : (e : Terms) (index : ℕ) (item : Item) (m : Route) (was : Bool)
     → (was ≡ true → Each HasEnded m.sessions) → (was || closes item) ≡ true → Each HasEnded (sessions_at was e index item m)

@@ -18,6 +18,7 @@ use Rattle.srt_route.specs.Sessions.{Session, active, advanced, aged, generation
 use Rattle.srt_route.specs.Sessions.{passed_at, publishes, takes_over, time_end, time_in, with_end}
 use Rattle.srt_route.specs.Route.{Route, after, arrived, clock_after, concluded, concludes, considered, decision, delivery, ended, heard_if}
 use Rattle.srt_route.specs.Route.{is_for, is_of, least_room, packet_taken, passed_by, read_taken, room_if, session_opened, sessions_at, taken, taken_by}
+use Rattle.srt_route.specs.Route.{heard_by}
 use Rattle.srt_route.specs.Route.{delivered, drain_end, drain_of, finished, gives_some, is_file_over, packet_end, settled_by, took_packet}
 use Rattle.srt_route.specs.Route.{without_destination}
 use Rattle.srt_route.specs.Sessions.{open_publishers, settled}
@@ -345,7 +346,8 @@ numbered_event false e index item m h =
     let clock = clock_after item m in
     let ss = (taken_by e index item m).sessions in
     let taken_are =
-    numbered_taken (advanced e clock m.sessions) ss (taken_is e index clock item (advanced e clock m.sessions)) (numbered_advanced e clock m.sessions h) in
+    numbered_taken (advanced e clock m.sessions) ss (taken_is e index clock (heard_by e index item m) (advanced e clock m.sessions))
+    (numbered_advanced e clock m.sessions h) in
     let passing = passes_calmly e clock ss in
     let over = is_file_over e (passed_by e index item m) in
     let given = gives_some e clock ss in
@@ -371,7 +373,7 @@ over_event e index item m s t alone numbered is none found generation =
     (subst (λ (ts : List Session). active ts ≡ Some last.session) (sym passed_is)
     (forth settle (settles_calmly e.rules.callers (end_in e given clock fed) e given clock) fed next.session last.session
     (forth pass (passes_calmly e clock ss) ss middle.session next.session
-    (over_item e.sessions early ss first middle.session (taken_is e index clock item early) early_alone
+    (over_item e.sessions early ss first middle.session (taken_is e index clock (heard_by e index item m) early) early_alone
     (numbered_advanced e clock m.sessions numbered) early_active
     (subst (λ (n : ℕ). find (is_open_in n) ss ≡ Some middle.session) (sym slot) middle.found)
     (middle.generation_is ∙ (next.generation_is ∙ (last.generation_is ∙ (generation ∙ sym ((times_calmly end e clock).generation s))))))
@@ -413,7 +415,7 @@ over_event e index item m s t alone numbered is none found generation =
     early_alone = advanced_alone e clock m.sessions alone
 
     taken_are : AreAlone e.sessions ss
-    taken_are = taken_alone e index clock item early early_alone
+    taken_are = taken_alone e index clock (heard_by e index item m) early early_alone
 
     last : Before (finished e clock over) (passed_by e index item m) s.slot t
     last =
@@ -454,7 +456,7 @@ over_event e index item m s t alone numbered is none found generation =
     )
 
     stays : StillThere early s.slot
-    stays = still_there e.sessions early ss s.slot middle.session (taken_is e index clock item early) early_alone middle.found number
+    stays = still_there e.sessions early ss s.slot middle.session (taken_is e index clock (heard_by e index item m) early) early_alone middle.found number
 
     then_open : first.is_open ≡ true
     then_open =

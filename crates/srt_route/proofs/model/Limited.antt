@@ -24,7 +24,7 @@ use Rattle.srt_route.specs.Sessions.{Session, advanced, aged, free_slot, free_sl
 use Rattle.srt_route.specs.Sessions.{is_subscriber, marked, marked_if, open_publishers, passed, publishes, sessions_from, takes_over, time_end, with_end}
 use Rattle.srt_route.specs.Route.{Route, after, arrived, clock_after, concluded, concludes, considered, decided, decision, ended, heard_if}
 use Rattle.srt_route.specs.Route.{differ, is_buffer, is_crowded, is_for, is_of, is_reserved, least_room, delivery, room_if, packet_taken, passed_by, read_taken}
-use Rattle.srt_route.specs.Route.{refused, session_opened, sessions_at, taken, taken_by, took_packet, without_destination}
+use Rattle.srt_route.specs.Route.{refused, session_opened, sessions_at, taken, taken_by, took_packet, without_destination, heard_by}
 use Rattle.srt_route.specs.Route.{delivered, drain_end, drain_of, finished, gives_some, is_file_over, packet_end, settled_by}
 use Rattle.srt_route.specs.Sessions.{settled}
 use Rattle.srt_route.specs.Tables.{AreAlone}
@@ -133,7 +133,8 @@ module _ (e : Terms) (test : Session → Bool) (bound : ℕ) (stays : Stays test
       let clock = clock_after item m in
       let ss = (taken_by e index item m).sessions in
       let taken_few =
-      taken_within index clock item (advanced e clock m.sessions) (advanced_alone e clock m.sessions alone) (advanced_within clock m.sessions few) in
+      taken_within index clock (heard_by e index item m) (advanced e clock m.sessions) (advanced_alone e clock m.sessions alone)
+      (advanced_within clock m.sessions few) in
       let over = is_file_over e (passed_by e index item m) in
       kept (finished e clock over) (finishes e clock over) (passed_by e index item m)
       (settled_within e.rules.callers clock (gives_some e clock ss) (delivered e clock ss)

@@ -25,7 +25,7 @@ use Rattle.srt_route.specs.Sessions.{is_recent, with_end, open_publishers}
 use Rattle.srt_route.specs.Route.{session_opened, Route, after, arrived, clock_after, concluded, concludes, considered, decision, delivered, delivery}
 use Rattle.srt_route.specs.Route.{drain_end, drain_of, ended, finished, finished_at, gives_some, has_whole_file, heard_if, is_file_over, is_for}
 use Rattle.srt_route.specs.Route.{is_of, least_room, packet_end, packet_taken, passed_by, read_taken, room_if, sessions_at, settled_by, taken}
-use Rattle.srt_route.specs.Route.{taken_by, took_if, took_packet, without_destination}
+use Rattle.srt_route.specs.Route.{taken_by, took_if, took_packet, without_destination, heard_by}
 use Rattle.srt_route.specs.Acknowledged.{AreAllBelow, DeliversAll, OneAloneDelivers, number_in, numbers_at, numbers_delivered, numbers_in, numbers_of}
 use Rattle.srt_route.specs.Acknowledged.{opened_as}
 use Rattle.srt_route.specs.declared.conclusion_reading.Conclusion.{Conclusion}
@@ -300,7 +300,7 @@ sessions_keep numbers place false e index item m mode kept h =
     at_mapped more place (finished e clock over) (λ s k. finished_keeps more place (has_whole_file over s) e clock s k) (passed_by e index item m)
     (settled_keep more place e.rules.callers e clock (gives_some e clock ss) (delivered e clock ss)
     (delivered_keep numbers place e clock ss mode kept
-    (taken_keep numbers place e index clock item (advanced e clock m.sessions) mode (advanced_keep numbers place e clock m.sessions h))))
+    (taken_keep numbers place e index clock (heard_by e index item m) (advanced e clock m.sessions) mode (advanced_keep numbers place e clock m.sessions h))))
 
 all_reported : (e : Terms) (index : ℕ) (items : List Item) (place : ℕ)
     → e.mode ≡ Buffer → At (numbers_delivered e index items place) place (after e index items).sessions

@@ -22,6 +22,7 @@ use Rattle.srt_route.specs.Sessions.{Session, advanced, aged, aged_at, generatio
 use Rattle.srt_route.specs.Sessions.{reported, reported_at, stamp_in, takes_over, terms_of, time_end, time_in, with_end}
 use Rattle.srt_route.specs.Route.{Route, after, arrived, clock_after, concluded, concludes, considered, decision, delivered, delivery, ended, heard_if}
 use Rattle.srt_route.specs.Route.{is_for, is_of, least_room, packet_taken, passed_by, read_taken, room_if, session_opened, sessions_at, taken, taken_by}
+use Rattle.srt_route.specs.Route.{heard_by}
 use Rattle.srt_route.specs.Route.{drain_end, drain_of, finished, finished_at, gives_some, has_whole_file, is_file_over, packet_end, settled_by}
 use Rattle.srt_route.specs.Route.{took_if, took_packet, without_destination}
 use Rattle.srt_route.specs.Sessions.{is_draining, is_recent, open_publishers, settled, settled_at}
@@ -444,7 +445,8 @@ sessions_on false e index item m =
     (go_behind given (finished e clock over) (finishes_queues e clock over) (advanced e clock m.sessions) (passed_by e index item m)
     (settled_on given e.rules.callers e clock (gives_some e clock (taken_by e index item m).sessions) (advanced e clock m.sessions)
     (delivered e clock (taken_by e index item m).sessions)
-    (fed_on e clock (advanced e clock m.sessions) (taken_by e index item m).sessions (taken_on e index clock item (advanced e clock m.sessions)))))))
+    (fed_on e clock (advanced e clock m.sessions) (taken_by e index item m).sessions
+    (taken_on e index clock (heard_by e index item m) (advanced e clock m.sessions)))))))
 
 pub queues_go_on : QueuesGoOn
 queues_go_on e index items item = let m = after e index items in sessions_on m.is_closed e index item m

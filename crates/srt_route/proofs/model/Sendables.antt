@@ -1,6 +1,7 @@
 -- Each reply is written as a packet that can be sent.
-use Rattle.std.proofs.Common.{◌≡◌, ℕ, ◌+◌, ◌%◌, ◌^◌, ◌<◌, ◌≤◌, Bool, true, false, cond, List, [], ◌∷◌, ◌++◌, length, map, ap, ◌∙◌, arith}
+use Rattle.std.proofs.Common.{Some, None, ◌≡◌, ℕ, ◌+◌, ◌%◌, ◌^◌, ◌<◌, ◌≤◌, Bool, true, false, cond, List, [], ◌∷◌, ◌++◌, length, map, ap, ◌∙◌, arith}
 use Rattle.std.specs.Prelude.{All}
+use Rattle.std.proofs.lemmas.List.{length-append}
 use Rattle.std.proofs.lemmas.List.Elements.{All-nil, All-cons}
 use Rattle.srt_types.specs.Words.{word, words}
 use Rattle.srt_types.specs.Counts.{message_number, ack_number}
@@ -14,19 +15,24 @@ use Rattle.srt_packet.specs.Text.{text}
 use Rattle.srt_packet.specs.Sent.{CanBeSent}
 use Rattle.srt_packet.specs.Reading.{packet_in}
 use Rattle.srt_packet.proofs.Sent.{sent_is_read}
-use Rattle.srt_hs.specs.Text.{answer_text}
+use Rattle.srt_hs.specs.declared.writing.AnswerKind.{AnswerKind}
+use Rattle.srt_hs.specs.declared.writing.AnswerKind.TheVariants.{Induction, Refusal, Conclusion}
+use Rattle.srt_hs.specs.declared.writing.HsAnswer.{HsAnswer}
+use Rattle.srt_hs.specs.Text.{answer_text, answer_with, congestion_text, keyed_text}
+use Rattle.srt_hs.specs.View.{text_words}
 use Rattle.srt_types.specs.Window.{number_word}
 use Rattle.srt_pub.specs.Publishing as publisher
 use Rattle.srt_pub.specs.Says.{losses_said, says}
 use Rattle.srt_sub.specs.Subscribing as subscriber
 use Rattle.srt_sub.specs.Says.{packet_text}
 use Rattle.srt_route.specs.Past.{ToPublisher, ToSubscriber}
-use Rattle.srt_route.specs.Route.{Output, Answers, Says, Ends, Reply, output_text, sent, after, replies_to}
+use Rattle.srt_route.specs.Route.{Output, Answers, AnswersWithKeys, Says, Ends, Reply, output_text, sent, after, replies_to}
+use Rattle.srt_route.specs.ShiftLaws.{IsReadable}
 use Rattle.srt_route.specs.Sendable.{IsSendable, PublishersSendPackets, SubscribersSendPackets, AnswersArePackets, RepliesArePackets}
 use Rattle.srt_route.proofs.model.Lists.{Each, each_mapped}
 use Rattle.srt_route.proofs.renumbering.ShiftedOutput.{same_four, losses_some, losses_few}
 use Rattle.srt_route.proofs.renumbering.ShiftedAnswers.{what_fits}
-use Rattle.srt_route.proofs.model.Sound.{IsSaid, replies_said}
+use Rattle.srt_route.proofs.model.Sound.{IsSent, replies_sent}
 
 made : (bytes : List ℕ) (p : Packet) → CanBeSent p → bytes ≡ text p → IsSendable bytes
 made bytes p can e = record { packet = p; can_be_sent = can; text_is = e; read_is = ap packet_in e ∙ sent_is_read p can }
@@ -131,8 +137,27 @@ answers_send caller a h =
     (record { stamp = omega arith; dest = omega arith; word1 = omega arith; rest = what_fits a.initial a.what h; body = tt })
     (lows 0x8000_0000 0 0 caller (answer_text a))
 
-outputs_send : (output : Output) → IsSaid output → IsSendable (output_text output)
+-- the same with the contents of a KMREQ block
+keyed_fits : (request : List ℕ) (initial : ℕ) (what : AnswerKind) → IsReadable what → length request ≤ 104
+    → length (keyed_text request initial what) ≤ 1456
+unfolding answer_text
+keyed_fits request initial (Induction cookie) h short = what_fits initial (Induction cookie) h
+keyed_fits request initial (Refusal code) h short = what_fits initial (Refusal code) h
+keyed_fits request initial (Conclusion mtu window id mode recv_ms send_ms None) h short = omega (arith, short, length-append request [])
+keyed_fits request initial (Conclusion mtu window id mode recv_ms send_ms (Some words)) h short =
+    omega (arith, h, short, length_of_words (text_words words), length-append request (congestion_text (Some (text_words words))))
+
+keyed_send : (caller : ℕ) (request : List ℕ) (a : HsAnswer) → IsReadable a.what → length request ≤ 104
+    → IsSendable (output_text (AnswersWithKeys caller request a))
+unfolding answer_with
+keyed_send caller request a h short =
+    made _ (record { stamp = 0; dest = caller % 2 ^ 32; body = out.Handshake (record { items = keyed_text request a.initial a.what }) })
+    (record { stamp = omega arith; dest = omega arith; word1 = omega arith; rest = keyed_fits request a.initial a.what h short; body = tt })
+    (lows 0x8000_0000 0 0 caller (keyed_text request a.initial a.what))
+
+outputs_send : (output : Output) → IsSent output → IsSendable (output_text output)
 outputs_send (Answers caller answer) h = answers_send caller answer h
+outputs_send (AnswersWithKeys caller request answer) h = keyed_send caller request answer h.0 h.1
 outputs_send (Says caller initial time (ToPublisher report)) h = publishers_send caller initial time report h
 outputs_send (Says caller initial time (ToSubscriber report)) h = subscribers_send caller initial time report h
 outputs_send (Ends caller time) h =
@@ -149,4 +174,4 @@ replies_send e index [] = All-nil (λ d. IsSendable d.bytes)
 replies_send e index (item ∷ items) =
     let replies = replies_to e index item (after e index items) in
     each_all (λ d. IsSendable d.bytes) (map sent replies)
-    (each_mapped (λ (x : Reply). IsSaid x.packet) (λ d. IsSendable d.bytes) sent (λ x h. outputs_send x.packet h) replies (replies_said e index items item))
+    (each_mapped (λ (x : Reply). IsSent x.packet) (λ d. IsSendable d.bytes) sent (λ x h. outputs_send x.packet h) replies (replies_sent e index items item))

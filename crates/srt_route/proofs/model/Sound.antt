@@ -1,7 +1,7 @@
 -- Whatever its items are, all replies of a route can be sent and read: payloads have valid lengths, loss lists have
 -- runs, and congestion control blocks have few words.
 use Rattle.std.proofs.Common.{◌≡◌, ℕ, ◌-◌, ◌^◌, ◌<◌, ◌≤◌, ◌==◌, ◌&&◌, not, Bool, true, false, cond, Option, None, Some, List, [], ◌∷◌, ◌++◌}
-use Rattle.std.proofs.Common.{map, length, min, Result, Ok, Err, refl, ap, subst, arith}
+use Rattle.std.proofs.Common.{map, length, min, Result, Ok, Err, refl, sym, ap, subst, arith}
 use Rattle.std.specs.Prelude.{⊤, IfSome, IfOk, find, filter_map, take_while, slice_get, drop, int_le, pos, ℤ, nat_le, nat_lt}
 use Rattle.std.specs.List.{flat_map}
 use Rattle.std.proofs.lemmas.List.{length-take, length-drop}
@@ -34,16 +34,19 @@ use Rattle.srt_route.specs.Past.{answers_to, loses_window, payload_of, payloads_
 use Rattle.srt_route.specs.Sessions.{Session, is_publisher, is_subscriber, active, is_active, is_open_in, by_slot}
 use Rattle.srt_route.specs.Sessions.{time_in, stamp_in, is_idle, is_over, terms_of, aged_at, aged, advanced, marked, marked_if, takes_over}
 use Rattle.srt_route.specs.Sessions.{is_recent, passed_at, passed, reported_at}
-use Rattle.srt_route.specs.Route.{Output, Answers, Says, Ends, Reply, Taken, closed, ended, shutdown_to, decision, is_of, heard_if, opens}
+use Rattle.srt_route.specs.RouteKeys.{has_secured_role}
+use Rattle.srt_route.specs.Route.{Verdict, Passes, Ignored, Refused, Repeats, answers_as, judgement, output_with, reply_with}
+use Rattle.srt_route.specs.Route.{Output, Answers, AnswersWithKeys, Says, Ends, Reply, Taken, closed, ended, shutdown_to, decision, is_of, heard_if, opens}
 use Rattle.srt_route.specs.Route.{finished, finished_at, has_whole_file, idle_notified, is_file_over, lost_notified, packet_end, served, served_at, notified_if}
 use Rattle.srt_route.specs.Route.{drain_end, drain_of, gives_some, settled_by, took_packet}
 use Rattle.srt_route.specs.Sessions.{is_draining, open_publishers, settled as session_settled, settled_at, speaks, time_end, with_end}
 use Rattle.srt_route.specs.Route.{considered, concluded, is_for, took_if, said_by, answered_by, arrived, concludes, without_destination}
 use Rattle.srt_route.specs.Route.{packet_taken, read_taken, taken, least_room, delivery_of, delivery, room_if, delivered, packets_at}
-use Rattle.srt_route.specs.Route.{packets_where, clock_after, taken_by, passed_by, replies_at, replies_to, sessions_at, after}
+use Rattle.srt_route.specs.Route.{packets_where, clock_after, taken_by, passed_by, replies_at, replies_to, sessions_at, after, heard_by}
 use Rattle.srt_route.specs.ShiftLaws.{IsPublishersReport, IsSubscribersReport, HasFewWords, IsReadable}
 use Rattle.srt_packet.proofs.Agreement.{packet_found}
 use Rattle.srt_route.proofs.renumbering.ShiftedAnswers.{conclusions_have_few}
+use Rattle.srt_route.proofs.model.Secured.{IsShortVerdict, clear_passes, verdict_short}
 use Rattle.srt_route.proofs.model.Standbys.{each_active}
 use Rattle.srt_route.proofs.model.Lists.{Each, each_append, each_take, each_while, each_mapped, each_flat, each_found, each_picked, each_at}
 use Rattle.srt_route.proofs.renumbering.Relabelled.{all_replies}
@@ -72,11 +75,49 @@ IsSaidReport (ToSubscriber report) = IsSubscribersReport report
 
 abbrev pub IsSaid : Output → Type 0
 IsSaid (Answers caller answer) = IsReadable answer.what
+IsSaid (AnswersWithKeys caller request answer) = ⊥
 IsSaid (Says caller initial time report) = IsSaidReport report
 IsSaid (Ends caller time) = ⊤
 
-abbrev IsSaidReply : Reply → Type 0
+abbrev pub IsSaidReply : Reply → Type 0
 IsSaidReply x = IsSaid x.packet
+
+-- the same of what is sent with keys
+abbrev pub IsSent : Output → Type 0
+IsSent (Answers caller answer) = IsReadable answer.what
+IsSent (AnswersWithKeys caller request answer) = IsReadable answer.what × (length request ≤ 104)
+IsSent (Says caller initial time report) = IsSaidReport report
+IsSent (Ends caller time) = ⊤
+
+abbrev pub IsSentReply : Reply → Type 0
+IsSentReply x = IsSent x.packet
+
+said_is_sent : (o : Output) → IsSaid o → IsSent o
+said_is_sent (Answers caller answer) h = h
+said_is_sent (AnswersWithKeys caller request answer) h = absurd h
+said_is_sent (Says caller initial time report) h = h
+said_is_sent (Ends caller time) h = tt
+
+all_sent : (xs : List Reply) → Each IsSaidReply xs → Each IsSentReply xs
+all_sent [] h = tt
+all_sent (x ∷ xs) h = (said_is_sent x.packet h.0, all_sent xs h.1)
+
+with_sent : (request : List ℕ) (o : Output) → length request ≤ 104 → IsSaid o → IsSent (output_with request o)
+with_sent request (Answers caller answer) short h = (h, short)
+with_sent request (AnswersWithKeys caller other answer) short h = absurd h
+with_sent request (Says caller initial time report) short h = h
+with_sent request (Ends caller time) short h = tt
+
+all_with_sent : (request : List ℕ) (xs : List Reply) → length request ≤ 104 → Each IsSaidReply xs → Each IsSentReply (map (reply_with request) xs)
+all_with_sent request [] short h = tt
+all_with_sent request (x ∷ xs) short h = (with_sent request x.packet short h.0, all_with_sent request xs short h.1)
+
+answers_sent : (v : Verdict) (xs : List Reply) → IsShortVerdict v → Each IsSaidReply xs → Each IsSentReply (answers_as v xs)
+answers_sent Passes xs short h = all_sent xs h
+answers_sent Ignored xs short h = all_sent xs h
+answers_sent (Refused peer c) xs short h = (tt, tt)
+answers_sent (Repeats None) xs short h = all_sent xs h
+answers_sent (Repeats (Some request)) xs short h = all_with_sent request xs short h
 
 -- a session ages
 opened_sound : (role : Role) → IsSoundPast (past_of role)
@@ -579,12 +620,13 @@ advanced_sound e clock ss h =
     (marked_if (takes_over e clock later) later)
     (marked_sound (takes_over e clock later) later (each_mapped IsSound IsSound (aged e clock) (λ s sound. aged_sound e clock s sound) ss h))
 
-taken_by_sound : (e : Terms) (index : ℕ) (items : List Item) (item : Item)
-    → Each IsSound (after e index items).sessions → IsSoundTaken (taken_by e index item (after e index items))
-taken_by_sound e index items item h =
+heard_item_sound : (e : Terms) (index : ℕ) (items : List Item) (item : Item) → Each IsSound (after e index items).sessions
+    → let m = after e index items in
+    IsSoundTaken (taken e index (clock_after item m) (heard_by e index item m) (advanced e (clock_after item m) m.sessions))
+heard_item_sound e index items item h =
     let m = after e index items in
     let clock = clock_after item m in
-    taken_sound e index clock item (advanced e clock m.sessions) (advanced_sound e clock m.sessions h)
+    taken_sound e index clock (heard_by e index item m) (advanced e clock m.sessions) (advanced_sound e clock m.sessions h)
 
 passed_by_sound : (e : Terms) (index : ℕ) (items : List Item) (item : Item)
     → Each IsSound (after e index items).sessions → Each IsSound (passed_by e index item (after e index items))
@@ -593,7 +635,7 @@ passed_by_sound e index items item h =
     let clock = clock_after item m in
     let ss = (taken_by e index item m).sessions in
     settled_sound e.rules.callers e clock (gives_some e clock ss) (delivered e clock ss)
-    (delivered_sound e clock ss (taken_by_sound e index items item h).sessions)
+    (delivered_sound e clock ss (heard_item_sound e index items item h).sessions)
 
 sessions_sound : (is_closed : Bool) (e : Terms) (index : ℕ) (items : List Item) (item : Item)
     → Each IsSound (after e index items).sessions → Each IsSound (sessions_at is_closed e index item (after e index items))
@@ -609,10 +651,11 @@ after_sound : (e : Terms) (index : ℕ) (items : List Item) → Each IsSound (af
 after_sound e index [] = tt
 after_sound e index (item ∷ items) = sessions_sound (after e index items).is_closed e index items item (after_sound e index items)
 
-replies_at_said : (is_closed : Bool) (e : Terms) (index : ℕ) (items : List Item) (item : Item)
-    → Each IsSaidReply (replies_at is_closed e index item (after e index items))
-replies_at_said true e index items item = tt
-replies_at_said false e index items item =
+-- the replies to an item, from the answers to it
+replies_at_are : (P : Reply → Type 0) → ((x : Reply) → IsSaidReply x → P x) → (is_closed : Bool) (e : Terms) (index : ℕ) (items : List Item) (item : Item)
+    → Each P (taken_by e index item (after e index items)).answers → Each P (replies_at is_closed e index item (after e index items))
+replies_at_are P so true e index items item answers = tt
+replies_at_are P so false e index items item answers =
     let m = after e index items in
     let clock = clock_after item m in
     let ss = passed_by e index item m in
@@ -621,19 +664,36 @@ replies_at_said false e index items item =
     let first = (taken_by e index item m).answers in
     let second = packets_where e clock speaks ss in
     let third = served e clock (is_file_over e ss) ss in
-    each_append IsSaidReply (idle ++ first ++ second) third
-    (each_append IsSaidReply (idle ++ first) second
-    (each_append IsSaidReply idle first (silence_said e clock (by_slot e m.sessions))
-    (taken_by_sound e index items item (after_sound e index items)).answers)
-    (all_packets_said e clock speaks ss sound))
-    (all_served_said e clock (is_file_over e ss) ss sound)
+    each_append P (idle ++ first ++ second) third
+    (each_append P (idle ++ first) second (each_append P idle first (each P so idle (silence_said e clock (by_slot e m.sessions))) answers)
+    (each P so second (all_packets_said e clock speaks ss sound)))
+    (each P so third (all_served_said e clock (is_file_over e ss) ss sound))
+  where
+    each : (Q : Reply → Type 0) → ((x : Reply) → IsSaidReply x → Q x) → (xs : List Reply) → Each IsSaidReply xs → Each Q xs
+    each Q f [] h = tt
+    each Q f (x ∷ xs) h = (f x h.0, each Q f xs h.1)
 
-pub replies_said : (e : Terms) (index : ℕ) (items : List Item) (item : Item)
+pub replies_sent : (e : Terms) (index : ℕ) (items : List Item) (item : Item)
+    → Each (λ (x : Reply). IsSent x.packet) (replies_to e index item (after e index items))
+replies_sent e index items item =
+    let m = after e index items in
+    let clock = clock_after item m in
+    replies_at_are IsSentReply (λ x h. said_is_sent x.packet h) m.is_closed e index items item
+    (answers_sent (judgement e index item m).verdict (taken e index clock (heard_by e index item m) (advanced e clock m.sessions)).answers
+    (verdict_short e index items item) (heard_item_sound e index items item (after_sound e index items)).answers)
+
+-- of a route without a secured role, without keys
+replies_said : (e : Terms) (index : ℕ) (items : List Item) (item : Item) → has_secured_role e ≡ false
     → Each (λ (x : Reply). IsSaid x.packet) (replies_to e index item (after e index items))
-replies_said e index items item = replies_at_said (after e index items).is_closed e index items item
+replies_said e index items item clear =
+    let m = after e index items in
+    let clock = clock_after item m in
+    replies_at_are IsSaidReply (λ x h. h) m.is_closed e index items item
+    (subst (λ (v : Verdict). Each IsSaidReply (answers_as v (taken e index clock (heard_by e index item m) (advanced e clock m.sessions)).answers))
+    (sym (clear_passes e index item m clear)) (heard_item_sound e index items item (after_sound e index items)).answers)
 
-pub all_said : (e : Terms) (index : ℕ) (items : List Item) → Each (λ (x : Reply). IsSaid x.packet) (all_replies e index items)
-all_said e index [] = tt
-all_said e index (item ∷ items) =
-    each_append IsSaidReply (all_replies e index items) (replies_to e index item (after e index items)) (all_said e index items)
-    (replies_said e index items item)
+pub all_said : (e : Terms) (index : ℕ) (items : List Item) → has_secured_role e ≡ false → Each (λ (x : Reply). IsSaid x.packet) (all_replies e index items)
+all_said e index [] clear = tt
+all_said e index (item ∷ items) clear =
+    each_append IsSaidReply (all_replies e index items) (replies_to e index item (after e index items)) (all_said e index items clear)
+    (replies_said e index items item clear)

@@ -35,7 +35,7 @@ use Rattle.srt_route.specs.Past.{has_left}
 use Rattle.srt_route.proofs.model.Found.{for_open}
 use Rattle.srt_types.specs.declared.shared.Callers.{Callers}
 use Rattle.srt_types.specs.declared.shared.Callers.TheVariants.{Draft, Libsrt}
-use Rattle.srt_route.specs.Route.{delivery, room_if, delivered, taken_by, passed_by, Route, sessions_at, clock_after, after}
+use Rattle.srt_route.specs.Route.{delivery, room_if, delivered, taken_by, passed_by, Route, sessions_at, clock_after, after, heard_by}
 
 -- no older session is open in an open session's slot
 abbrev pub AreApart : List Session → Type 0
@@ -719,7 +719,8 @@ sessions_few false e index item m few =
     let clock = clock_after item m in
     let taken = taken_by e index item m in
     finished_few e clock (is_file_over e (passed_by e index item m)) (passed_by e index item m)
-    (after_delivery_few e clock taken.sessions (taken_few e index clock item (advanced e clock m.sessions) (advanced_few e clock m.sessions few)))
+    (after_delivery_few e clock taken.sessions
+    (taken_few e index clock (heard_by e index item m) (advanced e clock m.sessions) (advanced_few e clock m.sessions few)))
 
 pub two_at_most : (e : Terms) (index : ℕ) (items : List Item) → AreFew (after e index items).sessions
 two_at_most e index [] = omega arith

@@ -1,6 +1,6 @@
 -- A route with the same items, but other sequence numbers, other timestamps or later times.
 use Rattle.std.proofs.Common.{◌≡◌, ℕ, ◌+◌, ◌-◌, Bool, true, false, cond, ◌&&◌, ◌||◌, not, Option, None, Some, List, [], ◌∷◌, ◌++◌, map, max}
-use Rattle.std.proofs.Common.{Result, Ok, Err, refl, sym, ap, ◌∙◌, ◌≤◌, arith}
+use Rattle.std.proofs.Common.{Result, Ok, Err, refl, sym, ap, subst, ◌∙◌, ◌≤◌, arith}
 use Rattle.std.specs.Prelude.{⊤, find, filter, option_map, nat_le, nat_lt, fold, length, ◌==◌}
 use Rattle.std.specs.List.{flat_map}
 use Rattle.std.specs.Option.{is_some}
@@ -11,10 +11,12 @@ use Rattle.srt_types.specs.declared.shared.Callers.TheVariants.{Draft, Libsrt}
 use Rattle.srt_types.specs.declared.shared.Mode.{Mode}
 use Rattle.srt_types.specs.declared.shared.Mode.TheVariants.{Live, Buffer}
 use Rattle.srt_types.specs.declared.shared.Peer.{Peer}
+use Rattle.srt_types.specs.declared.shared.Role.{Role}
+use Rattle.srt_types.specs.declared.shared.Role.TheVariants.{Publish, Request}
 use Rattle.srt_types.specs.Lift.{stamped_from}
 use Rattle.srt_types.specs.Runs.{numbers_from}
 use Rattle.srt_types.specs.Terms.{Terms}
-use Rattle.srt_types.specs.Items.{Datagram, Item, Received, Tick, Close}
+use Rattle.srt_types.specs.Items.{Datagram, Item, Received, Tick, Close, moment_of}
 use Rattle.srt_packet.specs.declared.reading.PacketFault.{PacketFault}
 use Rattle.srt_packet.specs.Grammar.{Packet}
 use Rattle.srt_packet.specs.Reading.{packet_in}
@@ -32,7 +34,7 @@ use Rattle.srt_route.specs.Sessions.{Session, is_publisher, is_subscriber, open_
 use Rattle.srt_route.specs.Sessions.{free_slot, generation_of, time_in, stamp_in, is_idle, aged_at, aged, terms_of, took_at, took}
 use Rattle.srt_route.specs.Sessions.{advanced, free_slots, has_failed, is_from, is_silent, is_standby, marked, marked_if, sessions_from, standby}
 use Rattle.srt_route.specs.Sessions.{takeover_us, takes_over, takes_over_after, answered_at_once, passed_at, passed, reports_at, reported_at, reported}
-use Rattle.srt_route.specs.Route.{Route, Taken, Output, Answers, Says, Ends, Reply, clock_after, closes, ended, shutdown_to, closed}
+use Rattle.srt_route.specs.Route.{Route, Taken, Output, Answers, AnswersWithKeys, Says, Ends, Reply, clock_after, closes, ended, shutdown_to, closed}
 use Rattle.srt_route.specs.Route.{decided, decision, idle_notified, is_crowded, is_reserved, lost_notified, notified_if}
 use Rattle.srt_route.specs.Route.{session_opened, with_session, opens, considered, refused, is_of, heard_if, concluded, is_for, took_if}
 use Rattle.srt_route.specs.Route.{said_by, answered_by, arrived, concludes, without_destination, packet_taken, read_taken, taken}
@@ -43,6 +45,16 @@ use Rattle.srt_route.specs.Sessions.{drains_open, ends_unless, is_draining, is_o
 use Rattle.srt_route.specs.Sessions.{number_draining}
 use Rattle.srt_route.specs.Sessions.{of_libsrt, renewed, session_id, settled, settled_at, silent_end, speaks, takes_over_if, time_end, with_end}
 use Rattle.srt_route.specs.Route.{after_delivery, drain_end, drain_if, drain_of, gives_some, is_some_payload, settled_by}
+use Rattle.srt_session_keys.specs.Limiter.{Moments, Request as Derivation, delayed, is_admitted, moments_after, moments_with}
+use Rattle.srt_session_keys.specs.Source.{Pool}
+use Rattle.srt_session_keys.specs.Wrapping.{StreamKeys, brings}
+use Rattle.srt_session_keys.proofs.Delayed.{delays_change_nothing}
+use Rattle.srt_route.specs.declared.slot_keys.KeyOpening.{KeyOpening}
+use Rattle.srt_route.specs.RouteKeys.{Brought, RouteKeys, SlotKeys, brought_in, cookie_in, derivation_of, first_keys, has_secured_role, kek_for, keys_opened}
+use Rattle.srt_route.specs.RouteKeys.{opened_with, opening, opening_if, passphrase_of, pool_opened, request_of, subscriber_by}
+use Rattle.srt_route.specs.Route.{Judged, Verdict, Passes, Ignored, Refused, Repeats, answers_as, asked, conclusion_judged, heard_as, info_judged}
+use Rattle.srt_route.specs.Route.{info_of, item_judged, judged_by, judged_if, judgement, kept_at, key_opening, keys_at, keys_kept, output_with, packet_judged}
+use Rattle.srt_route.specs.Route.{read_judged, reply_with, taken_as as taken_with}
 use Rattle.srt_route.proofs.model.Standbys.{publishers_through, active_through, is_active_through}
 use Rattle.srt_route.proofs.model.Lists.{map_through, any_through, filter_same, filter_through, find_through, find_same, flat_through, picked_through}
 use Rattle.srt_route.proofs.model.Lists.{fold_through}
@@ -77,6 +89,7 @@ changed_answer r a = record a { initial = r.initial a.initial }
 
 abbrev pub changed_output : Change → Output → Output
 changed_output r (Answers caller answer) = Answers caller (changed_answer r answer)
+changed_output r (AnswersWithKeys caller request answer) = AnswersWithKeys caller request (changed_answer r answer)
 changed_output r (Says caller initial time report) = Says caller (r.initial initial) time report
 changed_output r (Ends caller time) = Ends caller time
 
@@ -91,6 +104,8 @@ pub record IsChangedPacket (r : Change) (q p : Packet) : Type 0 where
   pub subscriber_hears : (initial : ℕ) → to_subscriber.heard_from (r.initial initial) q.body ≡ to_subscriber.heard_from initial p.body
   pub shutdown_is : is_shutdown q.body ≡ is_shutdown p.body
   pub concludes_is : concludes q.body ≡ option_map (changed_conclusion r) (concludes p.body)
+  pub brought_is : brought_in (info_of q.body) ≡ brought_in (info_of p.body)
+  pub cookie_is : cookie_in (info_of q.body) ≡ cookie_in (info_of p.body)
 
 abbrev pub IsChangedReading : Change → Result Packet PacketFault → Result Packet PacketFault → Type 0
 IsChangedReading r (Ok q) (Ok p) = IsChangedPacket r q p
@@ -751,11 +766,266 @@ idle_notified_same e r clock ss =
     (λ s. ap (λ b. notified_if e.rules.callers b (clock + r.later) (changed_session r s)) (idle_same r clock s)
     ∙ notified_if_same r e.rules.callers (is_idle s clock) clock s) (by_slot e ss)
 
+-- the limit on derivations has the same requests, later
+record AreDelayed (later : ℕ) (n m : Moments) : Type 0 where
+  requests : List Derivation
+  first_is : m ≡ moments_after requests
+  later_is : n ≡ moments_after (map (delayed later) requests)
+
+same_admitted : (later : ℕ) (n m : Moments) (q : Derivation) → AreDelayed later n m → is_admitted n (delayed later q) ≡ is_admitted m q
+same_admitted later n m q h =
+    ap (λ x. is_admitted x (delayed later q)) h.later_is ∙ delays_change_nothing later h.requests q ∙ ap (λ x. is_admitted x q) (sym h.first_is)
+
+still_delayed : (later : ℕ) (n m : Moments) (q : Derivation) → AreDelayed later n m → AreDelayed later (moments_with (delayed later q) n) (moments_with q m)
+unfolding moments_after
+still_delayed later n m q h =
+    record {
+      requests = q ∷ h.requests;
+      first_is = ap (moments_with q) h.first_is;
+      later_is = ap (moments_with (delayed later q)) h.later_is;
+    }
+
+not_delayed : (later : ℕ) (m : Moments) → m ≡ moments_after [] → AreDelayed later m m
+not_delayed later m is = record { requests = []; first_is = is; later_is = is }
+
+-- the same keys in each slot
+record AreChangedKeys (r : Change) (n m : RouteKeys) : Type 0 where
+  moments_are : AreDelayed r.later n.moments m.moments
+  pool_is : n.pool ≡ m.pool
+  held_is : (slot : ℕ) → n.held slot ≡ m.held slot
+
+abbrev changed_verdict : Change → Verdict → Verdict
+changed_verdict r Passes = Passes
+changed_verdict r Ignored = Ignored
+changed_verdict r (Refused peer c) = Refused peer (changed_conclusion r c)
+changed_verdict r (Repeats request) = Repeats request
+
+record IsChangedJudged (r : Change) (k j : Judged) : Type 0 where
+  verdict_is : k.verdict ≡ changed_verdict r j.verdict
+  keys_are : AreChangedKeys r k.keys j.keys
+
+-- the keys of a session that opens don't depend on the time
+abbrev later_opening : Change → KeyOpening → KeyOpening
+later_opening r o = record o { clock = o.clock + r.later }
+
+same_subscriber : (r : Change) (brought : Option StreamKeys) (kek : List ℕ) (b : Brought) (o : KeyOpening) (pool : Pool)
+    → subscriber_by brought kek b.contents b.message (later_opening r o) pool ≡ subscriber_by brought kek b.contents b.message o pool
+same_subscriber r None kek b o pool = refl
+same_subscriber r (Some brought) kek b o pool = refl
+
+same_opened : (r : Change) (role : Role) (kek : List ℕ) (b : Brought) (o : KeyOpening) (pool : Pool)
+    → keys_opened role kek b (later_opening r o) pool ≡ keys_opened role kek b o pool
+same_opened r Publish kek b o pool = refl
+same_opened r Request kek b o pool = same_subscriber r (brings kek b.message) kek b o pool
+
+same_pool : (r : Change) (role : Role) (o : KeyOpening) (pool : Pool) → pool_opened role (later_opening r o) pool ≡ pool_opened role o pool
+same_pool r Publish o pool = refl
+same_pool r Request o pool = refl
+
+with_same : (r : Change) (peer : Peer) (c : Conclusion) (b : Brought) (o : KeyOpening) (n m : RouteKeys) (new : Option SlotKeys) → AreChangedKeys r n m
+    → IsChangedJudged r (judged_by peer (changed_conclusion r c) b (opened_with (later_opening r o) n new)) (judged_by peer c b (opened_with o m new))
+with_same r peer c b o n m None h = record { verdict_is = refl; keys_are = h }
+with_same r peer c b o n m (Some new) h =
+    record {
+      verdict_is = refl;
+      keys_are = record {
+        moments_are = h.moments_are;
+        pool_is = same_pool r o.role o n.pool ∙ ap (pool_opened o.role o) h.pool_is;
+        held_is = λ slot. ap (λ (old : SlotKeys). cond (slot == o.slot) new old) (h.held_is slot);
+      };
+    }
+
+opening_same : (r : Change) (admitted : Bool) (passphrase : List ℕ) (peer : Peer) (c : Conclusion) (b : Brought) (o : KeyOpening) (n m : RouteKeys)
+    → AreChangedKeys r n m
+    → IsChangedJudged r (judged_by peer (changed_conclusion r c) b (opening_if admitted passphrase b (later_opening r o) n))
+    (judged_by peer c b (opening_if admitted passphrase b o m))
+opening_same r true passphrase peer c b o n m h =
+    let q = derivation_of o in
+    let kek = kek_for passphrase b.message in
+    let after : RouteKeys = record n { moments = moments_with (delayed r.later q) n.moments } in
+    let before : RouteKeys = record m { moments = moments_with q m.moments } in
+    let changed : AreChangedKeys r after before =
+    record { moments_are = still_delayed r.later n.moments m.moments q h.moments_are; pool_is = h.pool_is; held_is = h.held_is } in
+    let same : keys_opened o.role kek b (later_opening r o) n.pool ≡ keys_opened o.role kek b o m.pool =
+    same_opened r o.role kek b o n.pool ∙ ap (λ (pool : Pool). keys_opened o.role kek b o pool) h.pool_is in
+    subst
+    (λ (x : Option SlotKeys). IsChangedJudged r (judged_by peer (changed_conclusion r c) b (opened_with (later_opening r o) after x))
+    (judged_by peer c b (opened_with o before (keys_opened o.role kek b o m.pool))))
+    (sym same) (with_same r peer c b o after before (keys_opened o.role kek b o m.pool) changed)
+opening_same r false passphrase peer c b o n m h = record { verdict_is = refl; keys_are = h }
+
+asked_same : (e : Terms) (index : ℕ) (r : Change) (clock : ℕ) (passphrase : List ℕ) (b : Brought) (peer : Peer) (cookie : ℕ) (c : Conclusion)
+    (ss : List Session) (n m : RouteKeys) (d : Result ℕ RefusalCause) → AreChangedKeys r n m
+    → IsChangedJudged r (asked passphrase b index (clock + r.later) peer cookie (changed_conclusion r c) (map (changed_session r) ss) n d)
+    (asked passphrase b index clock peer cookie c ss m d)
+asked_same e index r clock passphrase b peer cookie c ss n m (Err cause) h = record { verdict_is = refl; keys_are = h }
+asked_same e index r clock passphrase b peer cookie c ss n m (Ok slot) h =
+    let o = key_opening index clock peer cookie c.role slot (generation_of ss slot) in
+    let is = judged_by peer c b (opening passphrase b o m) in
+    subst
+    (λ (g : ℕ). IsChangedJudged r
+    (judged_by peer (changed_conclusion r c) b (opening passphrase b (key_opening index (clock + r.later) peer cookie c.role slot g) n)) is)
+    (sym (generation_same r ss slot))
+    (subst
+    (λ (admitted : Bool). IsChangedJudged r (judged_by peer (changed_conclusion r c) b (opening_if admitted passphrase b (later_opening r o) n)) is)
+    (sym (same_admitted r.later n.moments m.moments (derivation_of o) h.moments_are))
+    (opening_same r (is_admitted m.moments (derivation_of o)) passphrase peer c b o n m h))
+
+conclusion_same : (e : Terms) (index : ℕ) (r : Change) (clock : ℕ) (passphrase : Option (List ℕ)) (b : Option Brought) (peer : Peer) (cookie : ℕ)
+    (c : Conclusion) (ss : List Session) (n m : RouteKeys) (found : Option Session) → AreChangedKeys r n m
+    → IsChangedJudged r
+    (conclusion_judged passphrase b e index (clock + r.later) peer cookie (changed_conclusion r c) (map (changed_session r) ss) n
+    (option_map (changed_session r) found))
+    (conclusion_judged passphrase b e index clock peer cookie c ss m found)
+conclusion_same e index r clock (Some p) None peer cookie c ss n m found h = record { verdict_is = refl; keys_are = h }
+conclusion_same e index r clock (Some p) (Some b) peer cookie c ss n m (Some s) h =
+    record { verdict_is = ap (λ (k : SlotKeys). Repeats (request_of k)) (h.held_is s.slot); keys_are = h }
+conclusion_same e index r clock (Some p) (Some b) peer cookie c ss n m None h =
+    subst
+    (λ (d : Result ℕ RefusalCause).
+    IsChangedJudged r (asked p b index (clock + r.later) peer cookie (changed_conclusion r c) (map (changed_session r) ss) n d)
+    (asked p b index clock peer cookie c ss m (decision e peer c ss)))
+    (sym (decision_same e r peer c ss)) (asked_same e index r clock p b peer cookie c ss n m (decision e peer c ss) h)
+conclusion_same e index r clock None b peer cookie c ss n m (Some s) h =
+    record { verdict_is = ap (λ (k : SlotKeys). Repeats (request_of k)) (h.held_is s.slot); keys_are = h }
+conclusion_same e index r clock None b peer cookie c ss n m None h = record { verdict_is = refl; keys_are = h }
+
+info_same : (e : Terms) (index : ℕ) (r : Change) (clock : ℕ) (peer : Peer) (other info : List ℕ) (ss : List Session) (n m : RouteKeys)
+    (o : Option Conclusion) → brought_in other ≡ brought_in info → cookie_in other ≡ cookie_in info → AreChangedKeys r n m
+    → IsChangedJudged r (info_judged e index (clock + r.later) peer other (map (changed_session r) ss) n (option_map (changed_conclusion r) o))
+    (info_judged e index clock peer info ss m o)
+info_same e index r clock peer other info ss n m None brought cookie h = record { verdict_is = refl; keys_are = h }
+info_same e index r clock peer other info ss n m (Some c) brought cookie h =
+    let ts = map (changed_session r) ss in
+    let is = conclusion_judged (passphrase_of e c.role) (brought_in info) e index clock peer (cookie_in info) c ss m (find (is_of peer c.caller) ss) in
+    subst
+    (λ (b : Option Brought). IsChangedJudged r
+    (conclusion_judged (passphrase_of e c.role) b e index (clock + r.later) peer (cookie_in other) (changed_conclusion r c) ts n
+    (find (is_of peer c.caller) ts))
+    is)
+    (sym brought)
+    (subst
+    (λ (x : ℕ). IsChangedJudged r
+    (conclusion_judged (passphrase_of e c.role) (brought_in info) e index (clock + r.later) peer x (changed_conclusion r c) ts n
+    (find (is_of peer c.caller) ts))
+    is)
+    (sym cookie)
+    (subst
+    (λ (found : Option Session). IsChangedJudged r
+    (conclusion_judged (passphrase_of e c.role) (brought_in info) e index (clock + r.later) peer (cookie_in info) (changed_conclusion r c) ts n found)
+    is)
+    (sym (find_through (changed_session r) (is_of peer c.caller) (is_of peer c.caller) (of_same r peer c.caller) ss))
+    (conclusion_same e index r clock (passphrase_of e c.role) (brought_in info) peer (cookie_in info) c ss n m (find (is_of peer c.caller) ss) h)))
+
+packet_judged_same : (e : Terms) (index : ℕ) (r : Change) (clock : ℕ) (peer : Peer) (q p : Packet) (ss : List Session) (n m : RouteKeys)
+    → IsChangedPacket r q p → AreChangedKeys r n m
+    → IsChangedJudged r (packet_judged e index (clock + r.later) peer q (map (changed_session r) ss) n) (packet_judged e index clock peer p ss m)
+packet_judged_same e index r clock peer q p ss n m h k =
+    subst
+    (λ (d : ℕ). IsChangedJudged r (cond (d == 0) (others (concludes q.body)) (record { verdict = Passes; keys = n }))
+    (packet_judged e index clock peer p ss m))
+    (sym h.dest_is) (by (p.dest == 0))
+  where
+    others : Option Conclusion → Judged
+    others o = info_judged e index (clock + r.later) peer (info_of q.body) (map (changed_session r) ss) n o
+
+    by : (b : Bool)
+        → IsChangedJudged r (cond b (others (concludes q.body)) (record { verdict = Passes; keys = n }))
+        (cond b (info_judged e index clock peer (info_of p.body) ss m (concludes p.body)) (record { verdict = Passes; keys = m }))
+    by true =
+        subst (λ (o : Option Conclusion). IsChangedJudged r (others o) (info_judged e index clock peer (info_of p.body) ss m (concludes p.body)))
+        (sym h.concludes_is)
+        (info_same e index r clock peer (info_of q.body) (info_of p.body) ss n m (concludes p.body) h.brought_is h.cookie_is k)
+    by false = record { verdict_is = refl; keys_are = k }
+
+read_judged_same : (e : Terms) (index : ℕ) (r : Change) (clock : ℕ) (peer : Peer) (q p : Result Packet PacketFault) (ss : List Session) (n m : RouteKeys)
+    → IsChangedReading r q p → AreChangedKeys r n m
+    → IsChangedJudged r (read_judged e index (clock + r.later) peer q (map (changed_session r) ss) n) (read_judged e index clock peer p ss m)
+read_judged_same e index r clock peer (Ok q) (Ok p) ss n m h k = packet_judged_same e index r clock peer q p ss n m h k
+read_judged_same e index r clock peer (Err f) (Err g) ss n m h k = record { verdict_is = refl; keys_are = k }
+read_judged_same e index r clock peer (Ok q) (Err g) ss n m h k = absurd h
+read_judged_same e index r clock peer (Err f) (Ok p) ss n m h k = absurd h
+
+item_judged_same : (e : Terms) (index : ℕ) (r : Change) (clock : ℕ) (j i : Item) (ss : List Session) (n m : RouteKeys) → IsChangedItem r j i
+    → AreChangedKeys r n m
+    → IsChangedJudged r (item_judged e index (clock + r.later) j (map (changed_session r) ss) n) (item_judged e index clock i ss m)
+item_judged_same e index r clock (Received d y) (Received c x) ss n m h k =
+    subst
+    (λ (peer : Peer). IsChangedJudged r (read_judged e index (clock + r.later) peer (packet_in d.bytes) (map (changed_session r) ss) n)
+    (read_judged e index clock c.peer (packet_in c.bytes) ss m))
+    (sym h.0.peer_is) (read_judged_same e index r clock c.peer (packet_in d.bytes) (packet_in c.bytes) ss n m h.0.reading_is k)
+item_judged_same e index r clock (Tick y) (Tick x) ss n m h k = record { verdict_is = refl; keys_are = k }
+item_judged_same e index r clock (Close y) (Close x) ss n m h k = record { verdict_is = refl; keys_are = k }
+item_judged_same e index r clock (Received d y) (Tick x) ss n m h k = absurd h
+item_judged_same e index r clock (Tick y) (Received c x) ss n m h k = absurd h
+item_judged_same e index r clock (Received d y) (Close x) ss n m h k = absurd h
+item_judged_same e index r clock (Tick y) (Close x) ss n m h k = absurd h
+item_judged_same e index r clock (Close y) (Received c x) ss n m h k = absurd h
+item_judged_same e index r clock (Close y) (Tick x) ss n m h k = absurd h
+
+kept_here : (r : Change) (o : Option Session) (k : SlotKeys) → kept_at (option_map (changed_session r) o) k ≡ kept_at o k
+kept_here r None k = refl
+kept_here r (Some s) k = refl
+
+kept_same : (r : Change) (ss : List Session) (n m : RouteKeys) → AreChangedKeys r n m
+    → AreChangedKeys r (keys_kept (map (changed_session r) ss) n) (keys_kept ss m)
+kept_same r ss n m h =
+    record {
+      moments_are = h.moments_are;
+      pool_is = h.pool_is;
+      held_is = λ slot. ap (λ (o : Option Session). kept_at o (n.held slot))
+          (find_through (changed_session r) (is_open_in slot) (is_open_in slot) (λ s. refl) ss)
+          ∙ kept_here r (find (is_open_in slot) ss) (n.held slot)
+          ∙ ap (λ (k : SlotKeys). kept_at (find (is_open_in slot) ss) k) (h.held_is slot);
+    }
+
+judged_same : (secured : Bool) (e : Terms) (index : ℕ) (r : Change) (clock : ℕ) (j i : Item) (ss : List Session) (n m : RouteKeys) → IsChangedItem r j i
+    → AreChangedKeys r n m
+    → IsChangedJudged r (judged_if secured e index (clock + r.later) j (map (changed_session r) ss) n) (judged_if secured e index clock i ss m)
+judged_same false e index r clock j i ss n m h k = record { verdict_is = refl; keys_are = k }
+judged_same true e index r clock j i ss n m h k =
+    item_judged_same e index r clock j i ss (keys_kept (map (changed_session r) ss) n) (keys_kept ss m) h (kept_same r ss n m k)
+
+-- the item as the sessions process it, and the answers to it
+moment_same : (r : Change) (j i : Item) → IsChangedItem r j i → moment_of j ≡ moment_of i + r.later
+moment_same r (Received d y) (Received c x) h = h.1
+moment_same r (Tick y) (Tick x) h = h
+moment_same r (Close y) (Close x) h = h
+moment_same r (Received d y) (Tick x) h = absurd h
+moment_same r (Tick y) (Received c x) h = absurd h
+moment_same r (Received d y) (Close x) h = absurd h
+moment_same r (Tick y) (Close x) h = absurd h
+moment_same r (Close y) (Received c x) h = absurd h
+moment_same r (Close y) (Tick x) h = absurd h
+
+heard_same : (r : Change) (v : Verdict) (j i : Item) → IsChangedItem r j i → IsChangedItem r (heard_as (changed_verdict r v) j) (heard_as v i)
+heard_same r Passes j i h = h
+heard_same r Ignored j i h = moment_same r j i h
+heard_same r (Refused peer c) j i h = moment_same r j i h
+heard_same r (Repeats request) j i h = h
+
+with_keys_same : (r : Change) (request : List ℕ) (o : Output) → output_with request (changed_output r o) ≡ changed_output r (output_with request o)
+with_keys_same r request (Answers caller answer) = refl
+with_keys_same r request (AnswersWithKeys caller other answer) = refl
+with_keys_same r request (Says caller initial time report) = refl
+with_keys_same r request (Ends caller time) = refl
+
+answers_with_same : (r : Change) (v : Verdict) (xs : List Reply)
+    → answers_as (changed_verdict r v) (map (changed_reply r) xs) ≡ map (changed_reply r) (answers_as v xs)
+answers_with_same r Passes xs = refl
+answers_with_same r Ignored xs = refl
+answers_with_same r (Refused peer c) xs = refl
+answers_with_same r (Repeats None) xs = refl
+answers_with_same r (Repeats (Some request)) xs =
+    map_through (changed_reply r) (reply_with request) (reply_with request) (changed_reply r)
+    (λ x. ap (λ (o : Output). record { peer = x.peer; packet = o }) (with_keys_same r request x.packet)) xs
+
 -- before the first item the clock is 0 in both
 record IsChangedRoute (r : Change) (n m : Route) : Type 0 where
   clock_is : (moment : ℕ) → max n.clock (moment + r.later) ≡ max m.clock moment + r.later
   sessions_are : n.sessions ≡ map (changed_session r) m.sessions
   closed_is : n.is_closed ≡ m.is_closed
+  keys_are : AreChangedKeys r n.keys m.keys
 
 clock_same : (r : Change) (j i : Item) (n m : Route) → IsChangedItem r j i → IsChangedRoute r n m → clock_after j n ≡ clock_after i m + r.later
 clock_same r (Received d y) (Received c x) n m h k = ap (λ z. max n.clock z) h.1 ∙ k.clock_is x
@@ -779,14 +1049,32 @@ closes_same r (Tick y) (Close x) h = absurd h
 closes_same r (Close y) (Received c x) h = absurd h
 closes_same r (Close y) (Tick x) h = absurd h
 
+judgement_same : (e : Terms) (index : ℕ) (r : Change) (j i : Item) (n m : Route) → IsChangedItem r j i → IsChangedRoute r n m
+    → IsChangedJudged r (judgement e index j n) (judgement e index i m)
+judgement_same e index r j i n m h k =
+    let clock = clock_after i m in
+    let is = judgement e index i m in
+    subst (λ (t : ℕ). IsChangedJudged r (judged_if (has_secured_role e) e index t j (advanced e t n.sessions) n.keys) is)
+    (sym (clock_same r j i n m h k))
+    (subst (λ (ss : List Session). IsChangedJudged r (judged_if (has_secured_role e) e index (clock + r.later) j ss n.keys) is)
+    (sym (ap (λ ss. advanced e (clock + r.later) ss) k.sessions_are ∙ advanced_same e r clock m.sessions))
+    (judged_same (has_secured_role e) e index r clock j i (advanced e clock m.sessions) n.keys m.keys h k.keys_are))
+
 taken_by_same : (e : Terms) (index : ℕ) (r : Change) (j i : Item) (n m : Route)
     → IsChangedItem r j i → IsChangedRoute r n m → taken_by e index j n ≡ changed_taken r (taken_by e index i m)
 taken_by_same e index r j i n m h k =
     let clock = clock_after i m in
-    ap (λ t. taken e index t j (advanced e t n.sessions)) (clock_same r j i n m h k)
-    ∙ ap (λ ss. taken e index (clock + r.later) j (advanced e (clock + r.later) ss)) k.sessions_are
-    ∙ ap (λ ss. taken e index (clock + r.later) j ss) (advanced_same e r clock m.sessions)
-    ∙ taken_same e index r clock j i h (advanced e clock m.sessions)
+    let ss = advanced e clock m.sessions in
+    let v = (judgement e index i m).verdict in
+    let w = changed_verdict r v in
+    ap (λ (x : Verdict). taken_with x (taken e index (clock_after j n) (heard_as x j) (advanced e (clock_after j n) n.sessions)))
+    (judgement_same e index r j i n m h k).verdict_is
+    ∙ ap (λ t. taken_with w (taken e index t (heard_as w j) (advanced e t n.sessions))) (clock_same r j i n m h k)
+    ∙ ap (λ xs. taken_with w (taken e index (clock + r.later) (heard_as w j) (advanced e (clock + r.later) xs))) k.sessions_are
+    ∙ ap (λ xs. taken_with w (taken e index (clock + r.later) (heard_as w j) xs)) (advanced_same e r clock m.sessions)
+    ∙ ap (taken_with w) (taken_same e index r clock (heard_as w j) (heard_as v i) (heard_same r v j i h) ss)
+    ∙ ap (λ (xs : List Reply). taken_as (map (changed_session r) (taken e index clock (heard_as v i) ss).sessions) xs)
+    (answers_with_same r v (taken e index clock (heard_as v i) ss).answers)
 
 passed_by_same : (e : Terms) (index : ℕ) (r : Change) (j i : Item) (n m : Route)
     → IsChangedItem r j i → IsChangedRoute r n m → passed_by e index j n ≡ map (changed_session r) (passed_by e index i m)
@@ -814,6 +1102,11 @@ sessions_same false e index r j i n m h k =
     ∙ map_through (changed_session r) (finished e (clock + r.later) over) (finished e clock over) (changed_session r)
     (λ s. finished_here e r clock (has_whole_file over s) s) ss
 
+keys_same : (is_closed : Bool) (e : Terms) (index : ℕ) (r : Change) (j i : Item) (n m : Route) → IsChangedItem r j i → IsChangedRoute r n m
+    → AreChangedKeys r (keys_at is_closed e index j n) (keys_at is_closed e index i m)
+keys_same true e index r j i n m h k = k.keys_are
+keys_same false e index r j i n m h k = (judgement_same e index r j i n m h k).keys_are
+
 notified_same : (e : Terms) (index : ℕ) (r : Change) (j i : Item) (n m : Route)
     → IsChangedItem r j i → IsChangedRoute r n m → IsChangedRoute r (with_input e index j n) (with_input e index i m)
 notified_same e index r j i n m h k =
@@ -821,6 +1114,8 @@ notified_same e index r j i n m h k =
       clock_is = λ moment. goes_on (clock_after j n) (clock_after i m) r.later moment (clock_same r j i n m h k);
       sessions_are = ap (λ b. sessions_at b e index j n) k.closed_is ∙ sessions_same m.is_closed e index r j i n m h k;
       closed_is = ap (λ b. b || closes j) k.closed_is ∙ ap (λ b. m.is_closed || b) (closes_same r j i h);
+      keys_are = subst (λ (b : Bool). AreChangedKeys r (keys_at b e index j n) (keys_at m.is_closed e index i m)) (sym k.closed_is)
+          (keys_same m.is_closed e index r j i n m h k);
     }
 
 replies_at_same : (is_closed : Bool) (e : Terms) (index : ℕ) (r : Change) (j i : Item) (n m : Route) → IsChangedItem r j i
@@ -882,8 +1177,18 @@ replies_same e index r j i n m h k = ap (λ b. replies_at b e index j n) k.close
 at_first : (later moment : ℕ) → max 0 (moment + later) ≡ max 0 moment + later
 at_first later moment = omega arith
 
+none_requested : first_keys.moments ≡ moments_after []
+unfolding moments_after
+none_requested = refl
+
 after_same : (e : Terms) (index : ℕ) (r : Change) (js is : List Item) → AreChanged r js is → IsChangedRoute r (after e index js) (after e index is)
-after_same e index r [] [] h = record { clock_is = at_first r.later; sessions_are = refl; closed_is = refl }
+after_same e index r [] [] h =
+    record {
+      clock_is = at_first r.later;
+      sessions_are = refl;
+      closed_is = refl;
+      keys_are = record { moments_are = not_delayed r.later first_keys.moments none_requested; pool_is = refl; held_is = λ slot. refl };
+    }
 after_same e index r (j ∷ js) (i ∷ is) h = notified_same e index r j i (after e index js) (after e index is) h.0 (after_same e index r js is h.1)
 after_same e index r [] (i ∷ is) h = absurd h
 after_same e index r (j ∷ js) [] h = absurd h

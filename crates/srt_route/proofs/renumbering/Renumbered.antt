@@ -12,7 +12,9 @@ use Rattle.srt_packet.specs.Text.{text}
 use Rattle.srt_packet.specs.declared.writing.Body.TheVariants as out
 use Rattle.srt_route.specs.declared.conclusion_reading.Conclusion.{Conclusion}
 use Rattle.srt_route.specs.Past.{is_shutdown, ToPublisher, ToSubscriber}
-use Rattle.srt_route.specs.Route.{Output, Answers, Says, Ends, Reply, output_text, sent, concludes, after, replies_to, reply, solo}
+use Rattle.srt_route.specs.RouteKeys.{brought_in, cookie_in}
+use Rattle.srt_route.specs.Route.{info_of}
+use Rattle.srt_route.specs.Route.{Output, Answers, AnswersWithKeys, Says, Ends, Reply, output_text, sent, concludes, after, replies_to, reply, solo}
 use Rattle.srt_route.specs.Shifted.{shifted, shifted_body, shifted_reading, renumbered, renumbered_datagram, renumbered_item}
 use Rattle.srt_route.specs.Shifted.{restamped_datagram, restamped_item, moved_item}
 use Rattle.srt_route.specs.ShiftLaws.{restamped_reading}
@@ -20,7 +22,7 @@ use Rattle.srt_route.specs.Relabel.{Renumbers, Restamps, Moves}
 use Rattle.srt_route.proofs.renumbering.ShiftedWords.{stamps_stay}
 use Rattle.srt_route.proofs.renumbering.ShiftedPackets.{packets_shift}
 use Rattle.srt_route.proofs.renumbering.Restamped.{packets_restamp}
-use Rattle.srt_route.proofs.renumbering.ShiftedHandshakes.{conclusions_shift}
+use Rattle.srt_route.proofs.renumbering.ShiftedHandshakes.{conclusions_shift, cookie_stays, keys_stay}
 use Rattle.srt_route.proofs.renumbering.ShiftedHeard.{publishers_hear, subscribers_hear}
 use Rattle.srt_route.proofs.renumbering.ShiftedOutput.{publishers_say, subscribers_say}
 use Rattle.srt_route.proofs.renumbering.ShiftedAnswers.{answers_say}
@@ -74,6 +76,8 @@ restamped_read by (Ok p) =
       subscriber_hears = λ i. refl;
       shutdown_is = refl;
       concludes_is = restamp_keeps by (concludes p.body);
+      brought_is = refl;
+      cookie_is = refl;
     }
 restamped_read by (Err fault) = tt
 
@@ -86,6 +90,8 @@ moved_read by (Ok p) =
       subscriber_hears = λ i. refl;
       shutdown_is = refl;
       concludes_is = move_keeps by (concludes p.body);
+      brought_is = refl;
+      cookie_is = refl;
     }
 moved_read by (Err fault) = tt
 
@@ -115,6 +121,32 @@ concludes_shifts by (DropRequest message first last) = refl
 concludes_shifts by PeerError = refl
 concludes_shifts by UserDefined = refl
 
+brought_stays : (by : ℕ) (body : Body) → brought_in (info_of (shifted_body by body)) ≡ brought_in (info_of body)
+brought_stays by (Data number encryption payload) = refl
+brought_stays by (Handshake info) = keys_stay by info
+brought_stays by KeepAlive = refl
+brought_stays by (Ack number info) = refl
+brought_stays by (Nak info) = refl
+brought_stays by CongestionWarning = refl
+brought_stays by Shutdown = refl
+brought_stays by (AckAck number) = refl
+brought_stays by (DropRequest message first last) = refl
+brought_stays by PeerError = refl
+brought_stays by UserDefined = refl
+
+cookie_of_stays : (by : ℕ) (body : Body) → cookie_in (info_of (shifted_body by body)) ≡ cookie_in (info_of body)
+cookie_of_stays by (Data number encryption payload) = refl
+cookie_of_stays by (Handshake info) = cookie_stays by info
+cookie_of_stays by KeepAlive = refl
+cookie_of_stays by (Ack number info) = refl
+cookie_of_stays by (Nak info) = refl
+cookie_of_stays by CongestionWarning = refl
+cookie_of_stays by Shutdown = refl
+cookie_of_stays by (AckAck number) = refl
+cookie_of_stays by (DropRequest message first last) = refl
+cookie_of_stays by PeerError = refl
+cookie_of_stays by UserDefined = refl
+
 renumbered_read : (by : ℕ) (read : Result Packet PacketFault) → IsChangedReading (renumber by) (shifted_reading by read) read
 renumbered_read by (Ok p) =
     record {
@@ -124,6 +156,8 @@ renumbered_read by (Ok p) =
       subscriber_hears = λ i. subscribers_hear by i p.body;
       shutdown_is = shutdown_stays by p.body;
       concludes_is = concludes_shifts by p.body;
+      brought_is = brought_stays by p.body;
+      cookie_is = cookie_of_stays by p.body;
     }
 renumbered_read by (Err fault) = tt
 
@@ -169,6 +203,7 @@ all_changed r change is (item ∷ items) = (is item, all_changed r change is ite
 -- if no number changes, no reply does
 same_output : (r : Change) → ((n : ℕ) → r.initial n ≡ n) → (x : Output) → changed_output r x ≡ x
 same_output r numbers (Answers caller a) = ap (λ n. Answers caller (record a { initial = n })) (numbers a.initial)
+same_output r numbers (AnswersWithKeys caller request a) = ap (λ n. AnswersWithKeys caller request (record a { initial = n })) (numbers a.initial)
 same_output r numbers (Says caller initial time report) = ap (λ n. Says caller n time report) (numbers initial)
 same_output r numbers (Ends caller time) = refl
 
@@ -199,6 +234,7 @@ shutdown_says by stamp dest = refl
 -- an output with other numbers is the same bytes with those numbers
 output_shifts : (by : ℕ) (x : Output) → IsSaid x → output_text (changed_output (renumber by) x) ≡ renumbered by (output_text x)
 output_shifts by (Answers caller a) h = sym (answers_say by caller a h)
+output_shifts by (AnswersWithKeys caller request a) h = absurd h
 output_shifts by (Says caller initial time (ToPublisher report)) h = sym (publishers_say by caller initial time report h)
 output_shifts by (Says caller initial time (ToSubscriber report)) h = sym (subscribers_say by caller initial time report h)
 output_shifts by (Ends caller time) h = sym (shutdown_says by (time % 2 ^ 32) caller)
@@ -211,9 +247,9 @@ all_shift by (x ∷ xs) h =
     ∙ ap (λ ys. renumbered_datagram by (sent x) ∷ ys) (all_shift by xs h.1)
 
 pub renumbers : Renumbers
-renumbers e index by items =
+renumbers e index by items clear =
     let changed = all_changed (renumber by) (renumbered_item by) (renumbered_item_is by) items in
     solo_is e index (map (renumbered_item by) items)
     ∙ ap (λ xs. map sent xs) (all_same e index (renumber by) (map (renumbered_item by) items) items changed)
-    ∙ all_shift by (all_replies e index items) (all_said e index items)
+    ∙ all_shift by (all_replies e index items) (all_said e index items clear)
     ∙ ap (λ xs. map (renumbered_datagram by) xs) (sym (solo_is e index items))

@@ -7,7 +7,9 @@ use Rattle.srt_hs.specs.declared.handshake.HsReq.{HsReq}
 use Rattle.srt_hs.specs.declared.handshake.HsFault.{HsFault}
 use Rattle.srt_hs.specs.Grammar.{Handshake, kind_of, Spells}
 use Rattle.srt_hs.specs.Reading.{handshake_in}
+use Rattle.srt_hs.specs.KeyRequest.{key_request_in}
 use Rattle.srt_hs.proofs.Spelled.{reading_is_spelling}
+use Rattle.srt_route.specs.RouteKeys.{brought_by, brought_in, cookie_in}
 use Rattle.srt_route.specs.Conclusions.{with_blocks, is_conclusion, conclusion_of, conclusion_read, conclusion_in, role_requested}
 use Rattle.srt_route.specs.Shifted.{shifted, with_word, shifted_at, shifted_handshake}
 use Rattle.srt_route.specs.ShiftLaws.{with_initial, shifted_greeting, shifted_conclusion, HandshakesShift, ConclusionsShift}
@@ -82,3 +84,35 @@ conclusion_read_shifts by (Err fault) = refl
 pub conclusions_shift : ConclusionsShift
 unfolding conclusion_in
 conclusions_shift by info = ap conclusion_read (handshakes_shift by info) ∙ conclusion_read_shifts by (handshake_in info)
+
+-- its KMREQ blocks and its cookie stay
+request_stays : (by : ℕ) (info : List ℕ) (r : Result Handshake HsFault)
+    → handshake_in info ≡ r → key_request_in (cond (is_ok r) (shifted_at by 8 info) info) ≡ key_request_in info
+request_stays by info (Ok hs) e =
+    let s = (reading_is_spelling info hs).0 e in
+    let n = shifted by (word_at info 8) in
+    let inside : 8 ≤ length info = omega (arith, s.whole) in
+    rw (
+      length_with 8 n info (omega (arith, s.whole)),
+      word_after 8 n 20 info inside (omega arith),
+      rest_after 8 n 48 info (omega (arith, s.whole)) (omega arith),
+    )
+    refl
+request_stays by info (Err fault) e = refl
+
+pub keys_stay : (by : ℕ) (info : List ℕ) → brought_in (shifted_handshake by info) ≡ brought_in info
+unfolding shifted_handshake
+keys_stay by info = ap brought_by (request_stays by info (handshake_in info) refl)
+
+stays_in : (by : ℕ) (info : List ℕ) (r : Result Handshake HsFault)
+    → handshake_in info ≡ r → cookie_in (cond (is_ok r) (shifted_at by 8 info) info) ≡ cookie_in info
+stays_in by info (Ok hs) e =
+    let s = (reading_is_spelling info hs).0 e in
+    let n = shifted by (word_at info 8) in
+    let inside : 8 ≤ length info = omega (arith, s.whole) in
+    rw (length_with 8 n info (omega (arith, s.whole)), word_after 8 n 28 info inside (omega arith)) refl
+stays_in by info (Err fault) e = refl
+
+pub cookie_stays : (by : ℕ) (info : List ℕ) → cookie_in (shifted_handshake by info) ≡ cookie_in info
+unfolding shifted_handshake
+cookie_stays by info = stays_in by info (handshake_in info) refl

@@ -8,6 +8,7 @@ use Rattle.srt_sub.specs.declared.session.Subscriber.{Subscriber}
 use Rattle.srt_route.specs.declared.reply_queue.ReplyQueue.{ReplyQueue}
 use Rattle.srt_route.specs.declared.reply_queue.ScratchBoxes.{ScratchBoxes}
 use Rattle.srt_route.specs.declared.route.Route.{Route as TheRoute}
+use Rattle.srt_route.specs.declared.route_keys.RouteKeys.{RouteKeys}
 use Rattle.srt_route.specs.declared.seat.Seat.{Seat}
 use Rattle.srt_route.specs.declared.stage.Stage.{Stage}
 use Rattle.srt_route.specs.declared.stage.Stage.TheVariants.{Open, Closed}
@@ -17,7 +18,7 @@ use Rattle.srt_route.specs.Buffers.{IsSeated}
 use Rattle.srt_route.specs.Waits.{IsTrimmed}
 use Rattle.srt_route.specs.Sessions.{Session, generation_of, is_open_in, open_publishers}
 use Rattle.srt_route.specs.Route.{Route, after, closes, sessions_at}
-use Rattle.srt_route.specs.Stages.{AreGenerations, HasRoom, Represents, buffers_in, is_closed}
+use Rattle.srt_route.specs.Stages.{AreGenerations, HasKeys, HasRoom, Represents, buffers_in, is_closed}
 use Rattle.srt_route.specs.Stands.{HasGivenBack, IsRoute, places}
 use Rattle.srt_route.specs.Tables.{IsTable}
 use Rattle.srt_route.specs.Totals.{AddUp}
@@ -65,21 +66,21 @@ none_added e index ss (suc slots) ended h = record {
 }
 
 -- a route's stage, and what it represents then
-pub was_open : (e : Terms) (index : ℕ) (r : TheRoute) (m : Route) (table : Table) (scratch : ScratchBoxes)
-    → IsRoute e index r m → r.stage ≡ Open table scratch → m.is_closed ≡ false
-was_open e index r m table scratch h is = h.closed_is ∙ ap is_closed is
+pub was_open : (e : Terms) (index : ℕ) (r : TheRoute) (m : Route) (table : Table) (keys : RouteKeys) (scratch : ScratchBoxes)
+    → IsRoute e index r m → r.stage ≡ Open table keys scratch → m.is_closed ≡ false
+was_open e index r m table keys scratch h is = h.closed_is ∙ ap is_closed is
 
 pub was_closed : (e : Terms) (index : ℕ) (r : TheRoute) (m : Route) (generations : List ℕ)
     → IsRoute e index r m → r.stage ≡ Closed generations → m.is_closed ≡ true
 was_closed e index r m generations h is = h.closed_is ∙ ap is_closed is
 
-pub table_of : (e : Terms) (index : ℕ) (r : TheRoute) (m : Route) (table : Table) (scratch : ScratchBoxes)
-    → IsRoute e index r m → r.stage ≡ Open table scratch → IsTable e index r.clock table m.sessions
-table_of e index r m table scratch h is = subst (λ (s : Stage). Represents e index r.clock s m.sessions) is h.stage_is
+pub table_of : (e : Terms) (index : ℕ) (r : TheRoute) (m : Route) (table : Table) (keys : RouteKeys) (scratch : ScratchBoxes)
+    → IsRoute e index r m → r.stage ≡ Open table keys scratch → IsTable e index r.clock table m.sessions
+table_of e index r m table keys scratch h is = subst (λ (s : Stage). Represents e index r.clock s m.sessions) is h.stage_is
 
-pub room_of : (e : Terms) (index : ℕ) (r : TheRoute) (m : Route) (table : Table) (scratch : ScratchBoxes)
-    → IsRoute e index r m → r.stage ≡ Open table scratch → 4 + 66 * e.sessions ≤ places r
-room_of e index r m table scratch h is = subst (λ (s : Stage). HasRoom s e.sessions r.waiting) is h.room
+pub room_of : (e : Terms) (index : ℕ) (r : TheRoute) (m : Route) (table : Table) (keys : RouteKeys) (scratch : ScratchBoxes)
+    → IsRoute e index r m → r.stage ≡ Open table keys scratch → 4 + 66 * e.sessions ≤ places r
+room_of e index r m table keys scratch h is = subst (λ (s : Stage). HasRoom s e.sessions r.waiting) is h.room
 
 pub left_of : (e : Terms) (index : ℕ) (r : TheRoute) (m : Route) (generations : List ℕ)
     → IsRoute e index r m → r.stage ≡ Closed generations → AreGenerations e.sessions generations m.sessions
@@ -98,12 +99,13 @@ all_ended e index items r generations h is =
     closed_ended e index items (was_closed e index r (after e index items) generations h is)
 
 -- before an event on an open route
-pub comes_before : (e : Terms) (index clock : ℕ) (item : Item) (r : TheRoute) (m : Route) (table : Table) (scratch : ScratchBoxes)
-    → IsRoute e index r m → r.stage ≡ Open table scratch → clock ≡ max r.clock (moment_of item) → IsBefore e index clock item table m
-comes_before e index clock item r m table scratch h is moment = record {
-  is_open = was_open e index r m table scratch h is;
+pub comes_before : (e : Terms) (index clock : ℕ) (item : Item) (r : TheRoute) (m : Route) (table : Table) (keys : RouteKeys) (scratch : ScratchBoxes)
+    → IsRoute e index r m → r.stage ≡ Open table keys scratch → clock ≡ max r.clock (moment_of item) → IsBefore e index clock item table keys m
+comes_before e index clock item r m table keys scratch h is moment = record {
+  is_open = was_open e index r m table keys scratch h is;
   clock_is = moment ∙ ap (λ (n : ℕ). max n (moment_of item)) h.clock_is;
-  table_is = subst (λ (n : ℕ). IsTable e index n table m.sessions) h.clock_is (table_of e index r m table scratch h is);
+  table_is = subst (λ (n : ℕ). IsTable e index n table m.sessions) h.clock_is (table_of e index r m table keys scratch h is);
+  keys_are = subst (λ (s : Stage). HasKeys e s m.keys) is h.keys_are;
 }
 
 -- in a closed route only the clock advances
@@ -122,6 +124,7 @@ stays_closed e index items item old new generations h is moment same queue =
           subst (λ (s : Stage). HasRoom s e.sessions new.waiting) (sym same)
           (subst (λ (w : ReplyQueue). HasRoom old.stage e.sessions w) (sym queue) h.room);
       closed_is = ap (λ (b : Bool). b || closes item) closed ∙ sym (ap is_closed (same ∙ is));
+      keys_are = subst (λ (s : Stage). HasKeys e s (after e index (item ∷ items)).keys) (sym (same ∙ is)) tt;
     }
 
 -- the route after the event that closes it
@@ -134,6 +137,7 @@ closes_down e index items item r generations is clock is_open left trimmed shut 
   stage_is = subst (λ (s : Stage). Represents e index r.clock s (after e index (item ∷ items)).sessions) (sym is) left;
   room = subst (λ (s : Stage). HasRoom s e.sessions r.waiting) (sym is) trimmed;
   closed_is = ap (λ (b : Bool). b || closes item) is_open ∙ (shut ∙ sym (ap is_closed is));
+  keys_are = subst (λ (s : Stage). HasKeys e s (after e index (item ∷ items)).keys) (sym is) tt;
 }
 
 -- the buffers of a slot's open session: if there is one, the route wasn't closed
@@ -142,8 +146,8 @@ pub seat_in : (e : Terms) (index : ℕ) (items : List Item) (r : TheRoute) → I
 seat_in e index items r h slot s found = by r.stage refl
   where
     by : (stage : Stage) → r.stage ≡ stage → (p : Publisher) × (x : Subscriber) × IsSeated e r.clock p x s
-    by (Open table scratch) is =
-        seat_of e index r.clock table (after e index items).sessions (table_of e index r (after e index items) table scratch h is) slot s found
+    by (Open table keys scratch) is =
+        seat_of e index r.clock table (after e index items).sessions (table_of e index r (after e index items) table keys scratch h is) slot s found
     by (Closed generations) is =
         let none = none_open slot (after e index items).sessions (all_ended e index items r generations h is) in
         absurd (let bad : None ≡ Some s = sym none ∙ found in cc)

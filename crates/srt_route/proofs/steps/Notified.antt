@@ -27,8 +27,8 @@ use Rattle.srt_route.specs.declared.ledger.EndCause.TheVariants as causes
 use Rattle.srt_route.specs.declared.ledger.EndedSession.{EndedSession}
 use Rattle.srt_route.specs.declared.ledger.Ledger.{Ledger}
 use Rattle.srt_route.specs.Past.{Past, Publishes, Subscribes, Agreed, has_all, has_left, is_shutdown, took_past}
-use Rattle.srt_route.specs.Sessions.{Session, is_active, is_draining, is_open_in, is_over_at, is_subscriber, publishes, stamp_in, terms_of, time_in}
-use Rattle.srt_route.specs.Route.{Route, drain_if, drain_of, has_whole_file, is_for, clock_after, is_file_over}
+use Rattle.srt_route.specs.Sessions.{Session, advanced, is_active, is_draining, is_open_in, is_over_at, is_subscriber, publishes, stamp_in, terms_of, time_in}
+use Rattle.srt_route.specs.Route.{Route, drain_if, drain_of, has_whole_file, heard_as, heard_by, is_for, judged, clock_after, is_file_over}
 use Rattle.srt_route.specs.Buffers.{IsPast, IsSeated}
 use Rattle.srt_route.specs.Parts.{role_of}
 use Rattle.srt_route.specs.PublisherBuffers.{place_of}
@@ -503,12 +503,16 @@ subscriber_notified e index clock peer packet table ss at x t s cause old new is
 
 -- an event of a route that wasn't closed, and one of a closed route
 pub event_kept : (e : Terms) (index clock : ℕ) (item : Item) (m : Route) (old new : Kept)
-    → m.is_closed ≡ false → clock ≡ clock_after item m → EndsInEvent e index clock item m.sessions old new → KeepsEnds e index item m old new
+    → m.is_closed ≡ false → clock ≡ clock_after item m
+    → EndsInEvent e index clock (heard_as (judged e index clock item (advanced e clock m.sessions) m.keys).verdict item) m.sessions old new
+    → KeepsEnds e index item m old new
 event_kept e index clock item m old new open_is clock_is h =
-    subst (λ (b : Bool). KeepsEndsIf b e index (clock_after item m) item m.sessions old new) (sym open_is)
-    (subst (λ (n : ℕ). EndsInEvent e index n item m.sessions old new) clock_is h)
+    subst (λ (b : Bool). KeepsEndsIf b e index (clock_after item m) (heard_by e index item m) m.sessions old new) (sym open_is)
+    (subst
+    (λ (n : ℕ). EndsInEvent e index n (heard_as (judged e index n item (advanced e n m.sessions) m.keys).verdict item) m.sessions old new)
+    clock_is h)
 
 pub closed_kept : (e : Terms) (index : ℕ) (item : Item) (m : Route) (kept : Kept) → m.is_closed ≡ true → KeepsEnds e index item m kept kept
 closed_kept e index item m kept closed =
-    subst (λ (b : Bool). KeepsEndsIf b e index (clock_after item m) item m.sessions kept kept) (sym closed)
+    subst (λ (b : Bool). KeepsEndsIf b e index (clock_after item m) (heard_by e index item m) m.sessions kept kept) (sym closed)
     (record { ended = λ slot. refl; totals = refl })

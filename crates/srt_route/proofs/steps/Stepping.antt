@@ -1,5 +1,5 @@
 -- One more item.
-use Rattle.std.proofs.Common.{◌≡◌, ℕ, ◌<◌, ◌≤◌, ◌^◌, ◌+◌, ◌*◌, false, List, [], ◌∷◌, ◌++◌, length, map, sym, ap, subst, ◌∙◌, append_assoc, arith}
+use Rattle.std.proofs.Common.{◌≡◌, ℕ, ◌≤◌, ◌+◌, ◌*◌, false, List, [], ◌∷◌, ◌++◌, length, map, sym, ap, subst, ◌∙◌, append_assoc, arith}
 use Rattle.std.proofs.lemmas.List.{length-map, map-append}
 use Rattle.srt_types.specs.Terms.{Terms}
 use Rattle.srt_types.specs.Items.{Item, Datagram}
@@ -7,13 +7,15 @@ use Rattle.srt_route.specs.declared.reply_queue.ReplyQueue.{ReplyQueue}
 use Rattle.srt_route.specs.declared.table.Table.{Table}
 use Rattle.srt_route.specs.Written.{written}
 use Rattle.srt_route.specs.Sessions.{Session, speaks, advanced}
-use Rattle.srt_route.specs.Route.{Reply, Route, idle_notified, sent, clock_after, taken, taken_by, passed_by}
+use Rattle.srt_route.specs.declared.route_keys.RouteKeys.{RouteKeys}
+use Rattle.srt_route.specs.StoredKeys.{AreKeys}
+use Rattle.srt_route.specs.Route.{Reply, Route, Taken, idle_notified, sent, clock_after, heard_as, judged, keys_at, taken, taken_as, taken_by, passed_by}
 use Rattle.srt_route.specs.Route.{after_delivery, finished, is_file_over, packets_where, served, replies_at, replies_to, sessions_at, reply, with_input}
 use Rattle.srt_route.specs.Tables.{IsTable}
 use Rattle.srt_route.specs.inside.Reports.{Queues}
 use Rattle.srt_route.specs.inside.Delivery.{changed, after_publisher}
 use Rattle.srt_route.specs.inside.Files.{FinishesSubscribers, ServesSubscribers}
-use Rattle.srt_route.specs.inside.Calls.{AdvancesTo, TakesItem, AnswersItem, TableBecomes, TellsIdle, Transmits}
+use Rattle.srt_route.specs.inside.Calls.{TableBecomes, TellsIdle, Transmits}
 use Rattle.srt_route.specs.Waits.{replies_of, places_of}
 use Rattle.srt_route.proofs.model.Counts.{replies_have_places}
 use Rattle.srt_route.proofs.steps.Saying.{said_then, same_said}
@@ -26,83 +28,86 @@ said_at e clock ss =
     map sent (packets_where e clock speaks later ++ served e clock (is_file_over e later) later)
 
 -- the output of an event before its end, at a clock
-abbrev pub answered_at : Terms → (index clock : ℕ) → Item → List Session → List Datagram
-answered_at e index clock item ss = map sent (idle_notified e clock ss) ++ map sent (taken e index clock item (advanced e clock ss)).answers
+abbrev pub answered_at : Terms → (clock : ℕ) → List Session → Taken → List Datagram
+answered_at e clock ss took = map sent (idle_notified e clock ss) ++ map sent took.answers
 
 -- the sessions after its end
 abbrev pub ended_at : Terms → (clock : ℕ) → List Session → List Session
 ended_at e clock ss = map (finished e clock (is_file_over e ss)) ss
 
 -- the sessions went through an event: the last table represents the sessions after it, and its output is queued
-pub record IsStepped (e : Terms) (index clock : ℕ) (item : Item) (sessions : List Session) (last : Table) (before after : ReplyQueue) : Type 0 where
-  pub last_is : IsTable e index clock last (ended_at e clock (after_delivery e clock (taken e index clock item (advanced e clock sessions)).sessions))
-  pub said : Queues before after
-      (answered_at e index clock item sessions ++ said_at e clock (taken e index clock item (advanced e clock sessions)).sessions)
+pub record IsStepped (e : Terms) (index clock : ℕ) (sessions : List Session) (took : Taken) (last : Table) (before after : ReplyQueue) : Type 0 where
+  pub last_is : IsTable e index clock last (ended_at e clock (after_delivery e clock took.sessions))
+  pub said : Queues before after (answered_at e clock sessions took ++ said_at e clock took.sessions)
 
--- the steps, by the tables and queues between them
-pub stepped : (e : Terms) (index before clock : ℕ) (item : Item) (sessions : List Session) (first aged_to second third fourth last : Table)
+-- the steps, by the tables and queues between them; `took` is what step 3 makes of the item
+pub stepped : (e : Terms) (index before clock : ℕ) (sessions : List Session) (took : Taken) (first second third fourth last : Table)
     (queue notified answered middle end : ReplyQueue)
-    → IsTable e index before first sessions → before ≤ clock → clock < 2 ^ 62 → AdvancesTo clock first aged_to → TellsIdle clock first queue notified
-    → TakesItem clock item aged_to second → AnswersItem clock item aged_to notified answered → TableBecomes clock second third (λ d. after_delivery d clock)
+    → IsTable e index before first sessions → TellsIdle clock first queue notified
+    → IsTable e index clock second took.sessions → Queues notified answered (map sent took.answers)
+    → TableBecomes clock second third (λ d. after_delivery d clock)
     → TableBecomes clock third fourth (λ d. map (changed (after_publisher d clock)))
     → Transmits clock third answered middle (λ d. packets_where d clock speaks)
     → FinishesSubscribers clock fourth last → ServesSubscribers clock fourth middle end
-    → IsStepped e index clock item sessions last queue end
-stepped e index before clock item sessions first aged_to second third fourth last queue notified answered middle end body later early ages tells takes
+    → IsStepped e index clock sessions took last queue end
+stepped e index before clock sessions took first second third fourth last queue notified answered middle end body tells second_is
     answers delivers publishers published subscribers subscribed =
-    let old = advanced e clock sessions in
-    let old_is = ages e index before sessions body later early in
-    let took = taken e index clock item (advanced e clock sessions) in
-    let ss = after_delivery e clock (taken e index clock item (advanced e clock sessions)).sessions in
-    let third_is = delivers e index (taken e index clock item (advanced e clock sessions)).sessions (takes e index old old_is) in
+    let ss = after_delivery e clock took.sessions in
+    let third_is = delivers e index took.sessions second_is in
     let fourth_is = publishers e index ss third_is in
     let from_publishers = packets_where e clock speaks ss in
     let from_subscribers = served e clock (is_file_over e ss) ss in
     let rest = same_said (ap (λ (rs : List Reply). map sent rs) (same_served e index clock third ss third_is))
     (subscribed e index (map (changed (after_publisher e clock)) ss) fourth_is) in
-    let both : Queues answered end (said_at e clock (taken e index clock item (advanced e clock sessions)).sessions) =
+    let both : Queues answered end (said_at e clock took.sessions) =
     same_said (sym (map-append sent from_publishers from_subscribers))
     (said_then (replies_of answered) (replies_of middle) (replies_of end) _ _ _ (map sent from_publishers) (map sent from_subscribers)
     (published e index ss third_is) rest) in
     record {
       last_is = subst (λ (ts : List Session). IsTable e index clock last ts) (all_finished e clock ss)
           (subscribers e index (map (changed (after_publisher e clock)) ss) fourth_is);
-      said = said_then (replies_of queue) (replies_of answered) (replies_of end) _ _ _ (answered_at e index clock item sessions)
+      said = said_then (replies_of queue) (replies_of answered) (replies_of end) _ _ _ (answered_at e clock sessions took)
           (said_at e clock took.sessions)
           (said_then (replies_of queue) (replies_of notified) (replies_of answered) _ _ _ (map sent (idle_notified e clock sessions)) (map sent took.answers)
-          (tells e index before sessions body) (answers e index old old_is))
+          (tells e index before sessions body) answers)
           both;
     }
 
 -- the table before the subscribers' step
-pub before_subscribers : (e : Terms) (index before clock : ℕ) (item : Item) (sessions : List Session) (first aged_to second third fourth : Table)
-    → IsTable e index before first sessions → before ≤ clock → clock < 2 ^ 62 → AdvancesTo clock first aged_to
-    → TakesItem clock item aged_to second → TableBecomes clock second third (λ d. after_delivery d clock)
+pub before_subscribers : (e : Terms) (index clock : ℕ) (ss : List Session) (second third fourth : Table)
+    → IsTable e index clock second ss → TableBecomes clock second third (λ d. after_delivery d clock)
     → TableBecomes clock third fourth (λ d. map (changed (after_publisher d clock)))
-    → IsTable e index clock fourth
-    (map (changed (after_publisher e clock)) (after_delivery e clock (taken e index clock item (advanced e clock sessions)).sessions))
-before_subscribers e index before clock item sessions first aged_to second third fourth body later early ages takes delivers publishers =
-    publishers e index (after_delivery e clock (taken e index clock item (advanced e clock sessions)).sessions)
-    (delivers e index (taken e index clock item (advanced e clock sessions)).sessions
-    (takes e index (advanced e clock sessions) (ages e index before sessions body later early)))
+    → IsTable e index clock fourth (map (changed (after_publisher e clock)) (after_delivery e clock ss))
+before_subscribers e index clock ss second third fourth second_is delivers publishers =
+    publishers e index (after_delivery e clock ss) (delivers e index ss second_is)
+
+-- what step 3 makes of an item at a clock
+abbrev pub taken_at : Terms → (index clock : ℕ) → Item → Route → Taken
+taken_at e index clock item m =
+    let ss = advanced e clock m.sessions in
+    let v = (judged e index clock item ss m.keys).verdict in taken_as v (taken e index clock (heard_as v item) ss)
 
 -- the sessions after an item on an open route
 pub passed_table : (e : Terms) (index clock : ℕ) (item : Item) (m : Route) (last : Table) → m.is_closed ≡ false → clock ≡ clock_after item m
-    → IsTable e index clock last
-    (ended_at e clock (after_delivery e clock (taken e index clock item (advanced e clock m.sessions)).sessions))
+    → IsTable e index clock last (ended_at e clock (after_delivery e clock (taken_at e index clock item m).sessions))
     → IsTable e index clock last (with_input e index item m).sessions
 passed_table e index clock item m last is_open clock_is body =
     subst (λ b. IsTable e index clock last (sessions_at b e index item m)) (sym is_open)
-    (subst
-    (λ (n : ℕ). IsTable e index clock last
-    (ended_at e n (after_delivery e n (taken e index n item (advanced e n m.sessions)).sessions)))
-    clock_is body)
+    (subst (λ (n : ℕ). IsTable e index clock last (ended_at e n (after_delivery e n (taken_at e index n item m).sessions))) clock_is body)
+
+-- the keys after an item on an open route
+pub passed_keys : (e : Terms) (index clock : ℕ) (item : Item) (m : Route) (keys : RouteKeys) → m.is_closed ≡ false → clock ≡ clock_after item m
+    → AreKeys e keys (judged e index clock item (advanced e clock m.sessions) m.keys).keys
+    → AreKeys e keys (with_input e index item m).keys
+passed_keys e index clock item m keys is_open clock_is are =
+    subst (λ b. AreKeys e keys (keys_at b e index item m)) (sym is_open)
+    (subst (λ (n : ℕ). AreKeys e keys (judged e index n item (advanced e n m.sessions) m.keys).keys) clock_is are)
 
 -- the replies to an item on an open route
 pub queued_replies : (e : Terms) (index clock : ℕ) (item : Item) (m : Route) (before after : ReplyQueue)
     → m.is_closed ≡ false → clock ≡ clock_after item m
     → Queues before after
-    (answered_at e index clock item m.sessions ++ said_at e clock (taken e index clock item (advanced e clock m.sessions)).sessions)
+    (answered_at e clock m.sessions (taken_at e index clock item m) ++ said_at e clock (taken_at e index clock item m).sessions)
     → Queues before after (map sent (replies_to e index item m))
 queued_replies e index clock item m before after is_open clock_is said =
     let answers = (taken_by e index item m).answers in
@@ -116,8 +121,7 @@ queued_replies e index clock item m before after is_open clock_is said =
     ∙ ap (λ b. map sent (replies_at b e index item m)) (sym is_open) in
     same_said
     (ap
-    (λ (n : ℕ). answered_at e index n item m.sessions
-    ++ said_at e n (taken e index n item (advanced e n m.sessions)).sessions)
+    (λ (n : ℕ). answered_at e n m.sessions (taken_at e index n item m) ++ said_at e n (taken_at e index n item m).sessions)
     clock_is
     ∙ all)
     said

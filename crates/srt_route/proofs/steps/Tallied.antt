@@ -1,5 +1,5 @@
 -- The counts of openings and refusals.
-use Rattle.std.proofs.Common.{◌≡◌, ℕ, ◌≢◌, ◌<◌, ◌≤◌, ◌^◌, nat_eq, Bool, true, false, cond, Option, None, List, get_or, refl, sym, ap, subst, ◌∙◌}
+use Rattle.std.proofs.Common.{◌≡◌, ℕ, ◌≢◌, nat_eq, Bool, true, false, cond, Option, None, List, get_or, refl, sym, ap, subst, ◌∙◌}
 use Rattle.std.proofs.lemmas.Bool.{ne_eqb}
 use Rattle.srt_types.specs.declared.shared.Peer.{Peer}
 use Rattle.srt_types.specs.Terms.{Terms}
@@ -8,16 +8,13 @@ use Rattle.srt_packet.specs.Grammar.{Packet}
 use Rattle.srt_route.specs.declared.ledger.Ledger.{Ledger}
 use Rattle.srt_route.specs.declared.ledger.Refusals.{Refusals}
 use Rattle.srt_route.specs.declared.table.Table.{Table}
-use Rattle.srt_route.specs.inside.Calls.{AdvancesTo}
 use Rattle.srt_route.specs.Sessions.{advanced}
-use Rattle.srt_route.specs.Route.{Route, clock_after, concludes}
-use Rattle.srt_route.specs.Tables.{IsTable}
-use Rattle.srt_route.specs.Ledgers.{CountsStay, idle_cause}
-use Rattle.srt_route.specs.inside.Notes.{NotesEach}
+use Rattle.srt_route.specs.Route.{Route, clock_after, concludes, heard_as, judged}
+use Rattle.srt_route.specs.Ledgers.{CountsStay}
 use Rattle.srt_route.proofs.steps.Notified.{none_notified}
 use Rattle.srt_route.specs.declared.ledger.EndedSession.{EndedSession}
 use Rattle.srt_route.specs.Ends.{Ends, after_packet, arrived_end, arrived_ending, destined_ending, kept_of}
-use Rattle.srt_route.specs.Tallies.{Tally, Tallies, conclusion_tally, item_tally, packet_tally, tally_after, tally_of}
+use Rattle.srt_route.specs.Tallies.{Tally, Tallies, conclusion_tally, item_tally, packet_tally, tally_after, tally_of, verdict_tally}
 
 -- counts that stay
 pub tally_stays : (old new : Ledger) → CountsStay old new → tally_of new ≡ tally_of old
@@ -59,18 +56,21 @@ pub undestined_tally : (clock : ℕ) (peer : Peer) (packet : Packet) (table : Ta
 undestined_tally clock peer packet table old new h counts e index ss is = counts e index ss is ∙ rw (h) refl
 
 -- an event
-pub closed_tally : (e : Terms) (item : Item) (m : Route) (t : Tally) → m.is_closed ≡ true → t ≡ tally_after e item m t
-closed_tally e item m t closed = rw (closed) refl
+pub closed_tally : (e : Terms) (index : ℕ) (item : Item) (m : Route) (t : Tally) → m.is_closed ≡ true → t ≡ tally_after e index item m t
+closed_tally e index item m t closed = rw (closed) refl
 
-pub step_tally : (e : Terms) (index before clock : ℕ) (item : Item) (table aged_to : Table) (m : Route) (old mid new : Ledger)
-    → m.is_closed ≡ false → clock ≡ clock_after item m → IsTable e index before table m.sessions → before ≤ clock → clock < 2 ^ 62
-    → AdvancesTo clock table aged_to → NotesEach (idle_cause clock) clock table old mid
-    → Tallies clock (λ d ss. item_tally d item ss) aged_to mid new
-    → tally_of new ≡ tally_after e item m (tally_of old)
-step_tally e index before clock item table aged_to m old mid new open_is clock_is is later early ages idle taken =
-    let first = taken e index (advanced e clock m.sessions) (ages e index before m.sessions is later early) in
-    let same = tally_stays old mid idle.counts in
-    first
-    ∙ (ap (λ (t : Tally). item_tally e item (advanced e clock m.sessions) t) same
-    ∙ (ap (λ (n : ℕ). item_tally e item (advanced e n m.sessions) (tally_of old)) clock_is
-    ∙ ap (λ (b : Bool). cond b (tally_of old) (item_tally e item (advanced e (clock_after item m) m.sessions) (tally_of old))) (sym open_is)))
+-- the counts after step 3 of an event, at a clock
+abbrev pub tally_at : Terms → (index clock : ℕ) → Item → Route → Tally → Tally
+tally_at e index clock item m t =
+    let ss = advanced e clock m.sessions in
+    let v = (judged e index clock item ss m.keys).verdict in verdict_tally v (item_tally e (heard_as v item) ss t)
+
+pub step_tally : (e : Terms) (index clock : ℕ) (item : Item) (m : Route) (old mid new : Ledger)
+    → m.is_closed ≡ false → clock ≡ clock_after item m → CountsStay old mid
+    → tally_of new ≡ tally_at e index clock item m (tally_of mid)
+    → tally_of new ≡ tally_after e index item m (tally_of old)
+step_tally e index clock item m old mid new open_is clock_is idle taken =
+    taken
+    ∙ (ap (λ (t : Tally). tally_at e index clock item m t) (tally_stays old mid idle)
+    ∙ (ap (λ (n : ℕ). tally_at e index n item m (tally_of old)) clock_is
+    ∙ ap (λ (b : Bool). cond b (tally_of old) (tally_at e index (clock_after item m) item m (tally_of old))) (sym open_is)))

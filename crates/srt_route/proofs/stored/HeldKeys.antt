@@ -10,7 +10,7 @@ use Rattle.srt_route.specs.declared.route_keys.RouteKeys.{RouteKeys as TheRouteK
 use Rattle.srt_route.specs.declared.slot_keys.KeyOpening.{KeyOpening}
 use Rattle.srt_route.specs.declared.slot_keys.KeyVerdict.TheVariants.{WrongSecret, Opened}
 use Rattle.srt_route.specs.declared.slot_keys.SlotKeys.{SlotKeys as TheSlotKeys}
-use Rattle.srt_route.specs.RouteKeys.{Brought, KeysOpened, RouteKeys, SlotKeys, Clear, derivation_of, held_with, kek_for, keys_opened, opened_with}
+use Rattle.srt_route.specs.RouteKeys.{Brought, RouteKeys, SlotKeys, Clear, derivation_of, held_with, kek_for, keys_opened, opened_with}
 use Rattle.srt_route.specs.RouteKeys.{opening, opening_if, pool_opened}
 use Rattle.srt_route.specs.SlotKeys.{slot_keys_of}
 use Rattle.srt_route.specs.StoredKeys.{AreKeys, IsOpened}
@@ -29,7 +29,7 @@ clear_pushed xs ys x same clear is slot d below =
           subst (λ (z : TheSlotKeys). slot_keys_of z ≡ Clear) (sym (get_or_at xs x [] d slot last)) is
     ])
 
-not_equal : (a b : ℕ) → (a == b) ≡ false → a ≢ b
+pub not_equal : (a b : ℕ) → (a == b) ≡ false → a ≢ b
 not_equal a b is same = let so : (a == b) ≡ true = eq-eqb a b same in cc
 
 -- the keys of one slot are replaced

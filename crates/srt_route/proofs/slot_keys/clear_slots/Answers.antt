@@ -1,4 +1,4 @@
-use Rattle.std.proofs.Common.{◌≡◌, ◌∷◌, [], length, refl, ap, arith}
+use Rattle.std.proofs.Common.{◌∷◌, [], length, refl, ap, arith}
 use Rattle.std.proofs.lemmas.List.{length-append}
 use Rattle.srt_route.specs.declared.slot_keys.SlotKeys.TheVariants as stored
 use Rattle.srt_route.proofs.stored.HeldKeys.{clear_pushed}

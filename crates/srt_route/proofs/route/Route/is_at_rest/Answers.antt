@@ -14,8 +14,8 @@ returns-in-Open c e index items h =
     c.are_vacant.ensures
     ∙ (ap (list_all is_vacant) c.deref.ensures.value
     ∙ (vacant_at_rest e index c.args.self.now.clock c.in-Open.table ss (is_any_open ss) refl
-    (table_of e index c.args.self.now m c.in-Open.table _ h c.in-Open.is)
-    ∙ ap (λ (b : Bool). not b && not (is_any_open ss)) (sym (was_open e index c.args.self.now m c.in-Open.table _ h c.in-Open.is))))
+    (table_of e index c.args.self.now m c.in-Open.table _ _ h c.in-Open.is)
+    ∙ ap (λ (b : Bool). not b && not (is_any_open ss)) (sym (was_open e index c.args.self.now m c.in-Open.table _ _ h c.in-Open.is))))
 
 pub returns-in-Closed : goal.returns-in-Closed
 returns-in-Closed c e index items h =

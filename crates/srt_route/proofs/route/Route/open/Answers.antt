@@ -12,7 +12,7 @@ use Rattle.srt_route.proofs.route.Route.open.Goals as goal
 fresh : (e : Terms) (index : ℕ) (result : Result Route OpenFault)
     → IfOk result (λ route. (items : List Item) → RestsAs e index items 0 [] → stands route e index items)
     → IfOk result (λ route. stands route e index [])
-fresh e index (Ok route) h = h [] (record { none_open = refl; not_closed = refl; clock_is = refl; counts = λ slot below. refl })
+fresh e index (Ok route) h = h [] (record { none_open = refl; not_closed = refl; clock_is = refl; keys_are = refl; counts = λ slot below. refl })
 fresh e index (Err fault) h = h
 
 pub returns-clause-stands : goal.returns-clause-stands

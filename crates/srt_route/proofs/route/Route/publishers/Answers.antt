@@ -7,7 +7,7 @@ use Rattle.srt_route.proofs.route.Route.publishers.Goals as goal
 pub returns-in-Open : goal.returns-in-Open
 returns-in-Open c e index items h =
     c.in-Open.table.counted
-    ∙ publishers_among e index _ _ _ (table_of e index c.args.self.now (after e index items) c.in-Open.table _ h c.in-Open.is)
+    ∙ publishers_among e index _ _ _ (table_of e index c.args.self.now (after e index items) c.in-Open.table _ _ h c.in-Open.is)
 
 pub returns-in-Closed : goal.returns-in-Closed
 returns-in-Closed c e index items h =

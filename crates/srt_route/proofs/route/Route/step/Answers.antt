@@ -17,34 +17,35 @@ pub returns-then-not-closes-clause-stands : goal.returns-then-not-closes-clause-
 returns-then-not-closes-clause-stands c e index items h =
     let item = input_of c.args.item.now in
     let m = after e index items in
-    let before = comes_before e index c.later-self.result item c.args.self.now m c.in-Open.table c.in-Open.scratch h c.in-Open.is
+    let before = comes_before e index c.later-self.result item c.args.self.now m c.in-Open.table c.in-Open.keys c.in-Open.scratch h c.in-Open.is
     (c.later-self.ensures ∙ ap (max c.args.self.now.clock) c.moment.ensures) in
     record {
       clock_is = before.clock_is;
       stage_is = c.process.ensures.table e index m before;
       room = omega (
         arith,
-        room_of e index c.args.self.now m c.in-Open.table c.in-Open.scratch h c.in-Open.is,
+        room_of e index c.args.self.now m c.in-Open.table c.in-Open.keys c.in-Open.scratch h c.in-Open.is,
         (c.process.ensures.replies e index m before).kept,
       );
       closed_is = ap (λ (b : Bool). b || closes item) before.is_open ∙ (sym c.closes.ensures ∙ c.if-not-closes.true);
+      keys_are = c.process.ensures.keys e index m before;
     }
 
 pub returns-then-not-closes-clause-replies : goal.returns-then-not-closes-clause-replies
 returns-then-not-closes-clause-replies c e index items h =
     let item = input_of c.args.item.now in
     let m = after e index items in
-    let before = comes_before e index c.later-self.result item c.args.self.now m c.in-Open.table c.in-Open.scratch h c.in-Open.is
+    let before = comes_before e index c.later-self.result item c.args.self.now m c.in-Open.table c.in-Open.keys c.in-Open.scratch h c.in-Open.is
     (c.later-self.ensures ∙ ap (max c.args.self.now.clock) c.moment.ensures) in
     replies_wait e index items item c.args.self.now.waiting c.process.new.waiting
-    (room_of e index c.args.self.now m c.in-Open.table c.in-Open.scratch h c.in-Open.is) c.requires.none_waits
+    (room_of e index c.args.self.now m c.in-Open.table c.in-Open.keys c.in-Open.scratch h c.in-Open.is) c.requires.none_waits
     (c.process.ensures.replies e index m before)
 
 pub returns-then-not-closes-clause-tally : goal.returns-then-not-closes-clause-tally
 returns-then-not-closes-clause-tally c e index items h =
     let m = after e index items in
     c.process.ensures.tally e index m
-    (comes_before e index c.later-self.result (input_of c.args.item.now) c.args.self.now m c.in-Open.table c.in-Open.scratch h c.in-Open.is
+    (comes_before e index c.later-self.result (input_of c.args.item.now) c.args.self.now m c.in-Open.table c.in-Open.keys c.in-Open.scratch h c.in-Open.is
     (c.later-self.ensures ∙ ap (max c.args.self.now.clock) c.moment.ensures))
 
 pub returns-else-not-closes-clause-stands : goal.returns-else-not-closes-clause-stands
@@ -52,7 +53,7 @@ returns-else-not-closes-clause-stands c e index items h =
     let item = input_of c.args.item.now in
     let m = after e index items in
     let generations = c.generations_of-generations.result in
-    let before = comes_before e index c.later-self.result item c.args.self.now m c.in-Open.table c.in-Open.scratch h c.in-Open.is
+    let before = comes_before e index c.later-self.result item c.args.self.now m c.in-Open.table c.in-Open.keys c.in-Open.scratch h c.in-Open.is
     (c.later-self.ensures ∙ ap (max c.args.self.now.clock) c.moment.ensures) in
     closes_down e index items item _ generations c.replace.ensures.after before.clock_is before.is_open
     (generations_left e index c.later-self.result c.process.new.table generations (after e index (item ∷ items)).sessions
@@ -68,18 +69,18 @@ pub returns-else-not-closes-clause-replies : goal.returns-else-not-closes-clause
 returns-else-not-closes-clause-replies c e index items h =
     let item = input_of c.args.item.now in
     let m = after e index items in
-    let before = comes_before e index c.later-self.result item c.args.self.now m c.in-Open.table c.in-Open.scratch h c.in-Open.is
+    let before = comes_before e index c.later-self.result item c.args.self.now m c.in-Open.table c.in-Open.keys c.in-Open.scratch h c.in-Open.is
     (c.later-self.ensures ∙ ap (max c.args.self.now.clock) c.moment.ensures) in
     ap (map written) c.trim.ensures.replies
     ∙ replies_wait e index items item c.args.self.now.waiting c.process.new.waiting
-    (room_of e index c.args.self.now m c.in-Open.table c.in-Open.scratch h c.in-Open.is) c.requires.none_waits
+    (room_of e index c.args.self.now m c.in-Open.table c.in-Open.keys c.in-Open.scratch h c.in-Open.is) c.requires.none_waits
     (c.process.ensures.replies e index m before)
 
 pub returns-else-not-closes-clause-tally : goal.returns-else-not-closes-clause-tally
 returns-else-not-closes-clause-tally c e index items h =
     let m = after e index items in
     c.process.ensures.tally e index m
-    (comes_before e index c.later-self.result (input_of c.args.item.now) c.args.self.now m c.in-Open.table c.in-Open.scratch h c.in-Open.is
+    (comes_before e index c.later-self.result (input_of c.args.item.now) c.args.self.now m c.in-Open.table c.in-Open.keys c.in-Open.scratch h c.in-Open.is
     (c.later-self.ensures ∙ ap (max c.args.self.now.clock) c.moment.ensures))
 
 pub returns-in-Closed-clause-stands : goal.returns-in-Closed-clause-stands
@@ -94,7 +95,7 @@ returns-in-Closed-clause-ends c e index items h =
 
 pub returns-in-Closed-clause-tally : goal.returns-in-Closed-clause-tally
 returns-in-Closed-clause-tally c e index items h =
-    closed_tally e (input_of c.args.item.now) (after e index items) (tally_of c.args.self.now.ledger)
+    closed_tally e index (input_of c.args.item.now) (after e index items) (tally_of c.args.self.now.ledger)
     (was_closed e index c.args.self.now (after e index items) _ h c.in-Closed.is)
 
 pub returns-in-Closed-clause-sums : goal.returns-in-Closed-clause-sums

@@ -5,7 +5,7 @@ use Rattle.srt_route.proofs.route.Route.totals.Goals as goal
 pub returns-in-Open : goal.returns-in-Open
 returns-in-Open c e index items h =
     let m = after e index items in
-    c.add_to.ensures e index c.args.self.now.clock m.sessions (table_of e index c.args.self.now m c.in-Open.table _ h c.in-Open.is)
+    c.add_to.ensures e index c.args.self.now.clock m.sessions (table_of e index c.args.self.now m c.in-Open.table _ _ h c.in-Open.is)
 
 pub returns-in-Closed : goal.returns-in-Closed
 returns-in-Closed c e index items h =

@@ -1,4 +1,4 @@
-use Rattle.std.proofs.Common.{◌≡◌, ℕ, List, None, Some, true, refl, sym, ap, ◌∙◌}
+use Rattle.std.proofs.Common.{◌≡◌, None, Some, refl, sym, ap, ◌∙◌}
 use Rattle.srt_session_keys.specs.Limiter.{Moments, is_admitted, moments_with}
 use Rattle.srt_session_keys.specs.Source.{Pool}
 use Rattle.srt_session_keys.specs.Wrapping.{kek_of}

@@ -1,0 +1,189 @@
+-- The contents of KMREQ blocks that a route repeats are short, and a route without a secured role is as one without keys.
+use Rattle.std.proofs.Common.{◌≡◌, ℕ, ◌≤◌, Bool, true, false, cond, Option, None, Some, List, [], ◌∷◌, length, Result, Ok, Err, find, refl, ap}
+use Rattle.std.specs.Prelude.{⊤, ◌==◌, option_map}
+use Rattle.srt_types.specs.declared.shared.Peer.{Peer}
+use Rattle.srt_types.specs.declared.shared.Role.{Role}
+use Rattle.srt_types.specs.declared.shared.Role.TheVariants.{Publish, Request}
+use Rattle.srt_types.specs.Terms.{Terms}
+use Rattle.srt_types.specs.Items.{Item, Received, Tick, Close}
+use Rattle.srt_packet.specs.declared.reading.PacketFault.{PacketFault}
+use Rattle.srt_packet.specs.Grammar.{Packet}
+use Rattle.srt_packet.specs.Reading.{packet_in}
+use Rattle.srt_hs.specs.declared.key_message.KeyFault.{KeyFault}
+use Rattle.srt_hs.specs.KeyMessage.{KeyMessage, message_in}
+use Rattle.srt_hs.specs.KeyRequest.{Asked, nothing, one, several, key_request_in}
+use Rattle.srt_hs.proofs.Answered.{messages_are_answered}
+use Rattle.srt_hs.proofs.Keys.{key_reading_is_spelling}
+use Rattle.srt_session_keys.specs.Publisher.{Publisher, opened_by}
+use Rattle.srt_session_keys.specs.Wrapping.{StreamKeys, brings}
+use Rattle.srt_session_keys.specs.Limiter.{is_admitted}
+use Rattle.srt_route.specs.declared.conclusion_reading.Conclusion.{Conclusion}
+use Rattle.srt_route.specs.declared.refusals.RefusalCause.{RefusalCause}
+use Rattle.srt_route.specs.declared.slot_keys.KeyOpening.{KeyOpening}
+use Rattle.srt_route.specs.RouteKeys.{Brought, RouteKeys, SlotKeys, OfPublisher, brought_as, brought_by, brought_in, cookie_in}
+use Rattle.srt_route.specs.RouteKeys.{has_secured_role, kek_for, keys_opened, opened_with, opening_if, passphrase_of, request_of, subscriber_by}
+use Rattle.srt_route.specs.RouteKeys.{derivation_of}
+use Rattle.srt_route.specs.Sessions.{Session, advanced, generation_of, is_open_in}
+use Rattle.srt_route.specs.Route.{Judged, Route, Verdict, Passes, Ignored, Refused, Repeats, after, asked, clock_after, concludes, conclusion_judged, decision}
+use Rattle.srt_route.specs.Route.{heard_as, heard_by, info_judged, info_of, is_of, item_judged, judged_by, judged_if, judgement, kept_at, key_opening}
+use Rattle.srt_route.specs.Route.{keys_at, keys_kept}
+use Rattle.srt_route.specs.Route.{read_judged, taken, taken_as, taken_by}
+
+abbrev pub IsShort : Option (List ℕ) → Type 0
+IsShort None = ⊤
+IsShort (Some request) = length request ≤ 104
+
+abbrev AreShort : RouteKeys → Type 0
+AreShort keys = (slot : ℕ) → IsShort (request_of (keys.held slot))
+
+abbrev pub IsShortVerdict : Verdict → Type 0
+IsShortVerdict Passes = ⊤
+IsShortVerdict Ignored = ⊤
+IsShortVerdict (Refused peer c) = ⊤
+IsShortVerdict (Repeats request) = IsShort request
+
+record IsShortJudged (j : Judged) : Type 0 where
+  verdict : IsShortVerdict j.verdict
+  keys : AreShort j.keys
+
+abbrev IsShortBrought : Option Brought → Type 0
+IsShortBrought None = ⊤
+IsShortBrought (Some b) = length b.contents ≤ 104
+
+message_short : (contents : List ℕ) (m : KeyMessage) → message_in contents ≡ Ok m → length contents ≤ 104
+message_short contents m is = (messages_are_answered.length contents m ((key_reading_is_spelling contents m).0 is)).1
+
+read_short : (contents : List ℕ) (read : Result KeyMessage KeyFault) → message_in contents ≡ read → IsShortBrought (brought_as contents read)
+read_short contents (Ok m) is = message_short contents m is
+read_short contents (Err fault) is = tt
+
+asked_short : (a : Asked) → IsShortBrought (brought_by a)
+asked_short nothing = tt
+asked_short (one contents) = read_short contents (message_in contents) refl
+asked_short several = tt
+
+-- an opening
+abbrev IsShortKeys : Option SlotKeys → Type 0
+IsShortKeys None = ⊤
+IsShortKeys (Some k) = IsShort (request_of k)
+
+publisher_short : (b : Brought) (o : Option Publisher) → length b.contents ≤ 104 → IsShortKeys (option_map (λ p. OfPublisher b.contents p) o)
+publisher_short b None h = tt
+publisher_short b (Some p) h = h
+
+subscriber_short : (brought : Option StreamKeys) (kek : List ℕ) (b : Brought) (o : KeyOpening) (keys : RouteKeys) → length b.contents ≤ 104
+    → IsShortKeys (subscriber_by brought kek b.contents b.message o keys.pool)
+subscriber_short None kek b o keys h = tt
+subscriber_short (Some brought) kek b o keys h = h
+
+opened_short : (role : Role) (kek : List ℕ) (b : Brought) (o : KeyOpening) (keys : RouteKeys) → length b.contents ≤ 104
+    → IsShortKeys (keys_opened role kek b o keys.pool)
+opened_short Publish kek b o keys h = publisher_short b (opened_by kek b.message.salt b.message) h
+opened_short Request kek b o keys h = subscriber_short (brings kek b.message) kek b o keys h
+
+held_short : (same : Bool) (new old : SlotKeys) → IsShort (request_of new) → IsShort (request_of old) → IsShort (request_of (cond same new old))
+held_short true new old h k = h
+held_short false new old h k = k
+
+with_short : (peer : Peer) (c : Conclusion) (b : Brought) (o : KeyOpening) (keys : RouteKeys) (new : Option SlotKeys) → length b.contents ≤ 104
+    → AreShort keys → IsShortKeys new → IsShortJudged (judged_by peer c b (opened_with o keys new))
+with_short peer c b o keys None few short is = record { verdict = tt; keys = short }
+with_short peer c b o keys (Some new) few short is =
+    record { verdict = few; keys = λ slot. held_short (slot == o.slot) new (keys.held slot) is (short slot) }
+
+opening_short : (admitted : Bool) (passphrase : List ℕ) (peer : Peer) (c : Conclusion) (b : Brought) (o : KeyOpening) (keys : RouteKeys)
+    → length b.contents ≤ 104 → AreShort keys → IsShortJudged (judged_by peer c b (opening_if admitted passphrase b o keys))
+opening_short true passphrase peer c b o keys few short =
+    with_short peer c b o _ (keys_opened o.role (kek_for passphrase b.message) b o keys.pool) few short
+    (opened_short o.role (kek_for passphrase b.message) b o keys few)
+opening_short false passphrase peer c b o keys few short = record { verdict = tt; keys = short }
+
+decided_short : (d : Result ℕ RefusalCause) (passphrase : List ℕ) (b : Brought) (index clock : ℕ) (peer : Peer) (cookie : ℕ) (c : Conclusion)
+    (ss : List Session) (keys : RouteKeys) → length b.contents ≤ 104 → AreShort keys
+    → IsShortJudged (asked passphrase b index clock peer cookie c ss keys d)
+decided_short (Err cause) passphrase b index clock peer cookie c ss keys few short = record { verdict = tt; keys = short }
+decided_short (Ok slot) passphrase b index clock peer cookie c ss keys few short =
+    let o = key_opening index clock peer cookie c.role slot (generation_of ss slot) in
+    opening_short (is_admitted keys.moments (derivation_of o)) passphrase peer c b o keys few short
+
+-- an item
+conclusion_short : (passphrase : Option (List ℕ)) (b : Option Brought) (o : Option Session) (e : Terms) (index clock : ℕ) (peer : Peer)
+    (cookie : ℕ) (c : Conclusion) (ss : List Session) (keys : RouteKeys) → IsShortBrought b → AreShort keys
+    → IsShortJudged (conclusion_judged passphrase b e index clock peer cookie c ss keys o)
+conclusion_short (Some p) None o e index clock peer cookie c ss keys few short = record { verdict = tt; keys = short }
+conclusion_short (Some p) (Some b) (Some s) e index clock peer cookie c ss keys few short = record { verdict = short s.slot; keys = short }
+conclusion_short (Some p) (Some b) None e index clock peer cookie c ss keys few short =
+    decided_short (decision e peer c ss) p b index clock peer cookie c ss keys few short
+conclusion_short None b (Some s) e index clock peer cookie c ss keys few short = record { verdict = short s.slot; keys = short }
+conclusion_short None b None e index clock peer cookie c ss keys few short = record { verdict = tt; keys = short }
+
+info_short : (o : Option Conclusion) (e : Terms) (index clock : ℕ) (peer : Peer) (info : List ℕ) (ss : List Session) (keys : RouteKeys)
+    → AreShort keys → IsShortJudged (info_judged e index clock peer info ss keys o)
+info_short None e index clock peer info ss keys short = record { verdict = tt; keys = short }
+info_short (Some c) e index clock peer info ss keys short =
+    conclusion_short (passphrase_of e c.role) (brought_in info) (find (is_of peer c.caller) ss) e index clock peer (cookie_in info) c ss keys
+    (asked_short (key_request_in info)) short
+
+packet_short : (zero : Bool) (e : Terms) (index clock : ℕ) (peer : Peer) (p : Packet) (ss : List Session) (keys : RouteKeys) → AreShort keys
+    → IsShortJudged (cond zero (info_judged e index clock peer (info_of p.body) ss keys (concludes p.body)) (record { verdict = Passes; keys = keys }))
+packet_short true e index clock peer p ss keys short = info_short (concludes p.body) e index clock peer (info_of p.body) ss keys short
+packet_short false e index clock peer p ss keys short = record { verdict = tt; keys = short }
+
+packet_read_short : (read : Result Packet PacketFault) (e : Terms) (index clock : ℕ) (peer : Peer) (ss : List Session) (keys : RouteKeys)
+    → AreShort keys → IsShortJudged (read_judged e index clock peer read ss keys)
+packet_read_short (Ok p) e index clock peer ss keys short = packet_short (p.dest == 0) e index clock peer p ss keys short
+packet_read_short (Err fault) e index clock peer ss keys short = record { verdict = tt; keys = short }
+
+item_short : (e : Terms) (index clock : ℕ) (item : Item) (ss : List Session) (keys : RouteKeys) → AreShort keys
+    → IsShortJudged (item_judged e index clock item ss keys)
+item_short e index clock (Received d moment) ss keys short = packet_read_short (packet_in d.bytes) e index clock d.peer ss keys short
+item_short e index clock (Tick moment) ss keys short = record { verdict = tt; keys = short }
+item_short e index clock (Close moment) ss keys short = record { verdict = tt; keys = short }
+
+kept_short : (o : Option Session) (k : SlotKeys) → IsShort (request_of k) → IsShort (request_of (kept_at o k))
+kept_short None k h = tt
+kept_short (Some s) k h = h
+
+judged_short : (secured : Bool) (e : Terms) (index clock : ℕ) (item : Item) (ss : List Session) (keys : RouteKeys) → AreShort keys
+    → IsShortJudged (judged_if secured e index clock item ss keys)
+judged_short false e index clock item ss keys short = record { verdict = tt; keys = short }
+judged_short true e index clock item ss keys short =
+    item_short e index clock item ss (keys_kept ss keys) (λ slot. kept_short (find (is_open_in slot) ss) (keys.held slot) (short slot))
+
+judgement_short : (e : Terms) (index : ℕ) (item : Item) (m : Route) → AreShort m.keys → IsShortJudged (judgement e index item m)
+judgement_short e index item m short =
+    judged_short (has_secured_role e) e index (clock_after item m) item (advanced e (clock_after item m) m.sessions) m.keys short
+
+keys_short : (is_closed : Bool) (e : Terms) (index : ℕ) (item : Item) (m : Route) → AreShort m.keys → AreShort (keys_at is_closed e index item m)
+keys_short true e index item m short = short
+keys_short false e index item m short = (judgement_short e index item m short).keys
+
+all_short : (e : Terms) (index : ℕ) (items : List Item) → AreShort (after e index items).keys
+all_short e index [] = λ slot. tt
+all_short e index (item ∷ items) =
+    let m = after e index items in keys_short m.is_closed e index item m (all_short e index items)
+
+pub verdict_short : (e : Terms) (index : ℕ) (items : List Item) (item : Item) → IsShortVerdict (judgement e index item (after e index items)).verdict
+verdict_short e index items item = (judgement_short e index item (after e index items) (all_short e index items)).verdict
+
+-- without a secured role an item is processed as it is
+pub clear_passes : (e : Terms) (index : ℕ) (item : Item) (m : Route) → has_secured_role e ≡ false → (judgement e index item m).verdict ≡ Passes
+clear_passes e index item m clear =
+    ap (λ (b : Bool). (judged_if b e index (clock_after item m) item (advanced e (clock_after item m) m.sessions) m.keys).verdict) clear
+
+pub clear_taken : (e : Terms) (index : ℕ) (item : Item) (m : Route) → has_secured_role e ≡ false
+    → taken_by e index item m ≡ taken_as Passes (taken e index (clock_after item m) item (advanced e (clock_after item m) m.sessions))
+clear_taken e index item m clear =
+    ap (λ (v : Verdict). taken_as v (taken e index (clock_after item m) (heard_as v item) (advanced e (clock_after item m) m.sessions)))
+    (clear_passes e index item m clear)
+
+-- keys change nothing about a Close
+pub closing_is_heard : (e : Terms) (index moment : ℕ) (m : Route) → heard_by e index (Close moment) m ≡ Close moment
+closing_is_heard e index moment m = by (has_secured_role e)
+  where
+    clock : ℕ
+    clock = clock_after (Close moment) m
+
+    by : (b : Bool) → heard_as (judged_if b e index clock (Close moment) (advanced e clock m.sessions) m.keys).verdict (Close moment) ≡ Close moment
+    by true = refl
+    by false = refl
