@@ -1,9 +1,10 @@
 -- Dropped datagrams in the text of /proc/net/udp or /proc/net/udp6.
-use Rattle.std.specs.Prelude.{ℕ, ◌+◌, ◌-◌, ◌/◌, ◌%◌, Bool, false, nat_lt, List, [], ◌∷◌, ◌++◌, Option, None, Some, slice_index, if◌then◌else◌}
+use Rattle.std.specs.Prelude.{◌≡◌, ◌⊎◌, ℕ, ◌+◌, ◌-◌, ◌/◌, ◌%◌, Bool, false, nat_lt, List, [], ◌∷◌, ◌++◌, Option, None, Some, codes, slice_index, if◌then◌else◌}
 use Rattle.std.specs.Str.{bytes_eq}
 use Rattle.srt_types.specs.Access.{is_mapped}
 use Rattle.srt_procfs.specs.Parts.{parts_of, word_at}
 use Rattle.srt_procfs.specs.Numbers.{number_in}
+use Rattle.srt_procfs.specs.Readings.{FileReading, IsTable, IsUnread}
 
 -- the upper-case digit of a number below 16
 abbrev pub hex_digit : ℕ → ℕ
@@ -60,3 +61,14 @@ first_drops local (line ∷ lines) = if is_at local line then drops_of line else
 abbrev pub drops_in : (text ip : List ℕ) → (port : ℕ) → Option ℕ
 drops_in text ip port =
     if is_mapped ip then first_drops (ipv4_local ip port) (parts_of 10 text) else first_drops (ipv6_local ip port) (parts_of 10 text)
+
+-- the path of the table that has an address
+abbrev pub table_of : (ip : List ℕ) → List ℕ
+table_of ip = if is_mapped ip then codes "/proc/net/udp" else codes "/proc/net/udp6"
+
+-- the drops at an address and port in the table that has the address, as it was read; none if it couldn't be read
+abbrev pub AreDrops : {File : Type 0} → (reading : File → FileReading) → (was_refused : List ℕ → Type 0) → (was_full : Type 0)
+    → (ip : List ℕ) → (port : ℕ) → Option ℕ → Type 0
+AreDrops reading was_refused was_full ip port drops =
+    (IsUnread reading was_refused was_full (table_of ip) × (drops ≡ None))
+    ⊎ ((text : List ℕ) × IsTable reading (table_of ip) 4_194_304 text × (drops ≡ drops_in text ip port))

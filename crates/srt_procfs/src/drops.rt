@@ -1,25 +1,20 @@
 //! Datagrams that the kernel dropped because a socket's buffer was full.
 
-ghost use Rattle.std.specs.Prelude.{◌≡◌, ◌%◌, ◌++◌, IfSome, take};
-ghost use Rattle.srt_procfs.specs.Drops.{hex_digit, word_text, word_from, port_text, ipv4_local, ipv6_local, is_at, drops_of, first_drops, drops_in};
+ghost use Rattle.std.specs.Prelude.{◌≡◌, ◌%◌, ◌++◌};
+ghost use Rattle.srt_procfs.specs.Drops.{hex_digit, word_text, word_from, port_text, ipv4_local, ipv6_local, is_at, drops_of, first_drops, drops_in, table_of, AreDrops};
 ghost use Rattle.srt_procfs.specs.Parts.{parts_of};
 
+use crate::files::KernelFiles;
 use crate::numbers::number_in;
 use crate::parts::{SplitText, split_at, word_at};
+use crate::reading::read_table;
 use srt_types::is_mapped;
-use std::alloc::Global;
-use std::fs::File;
-use std::io::Read;
-use std::rt::Files;
 
 /// The kernel's table of UDP sockets over IPv4, as proc(5) describes it.
 const TABLE: &str = "/proc/net/udp";
 
 /// The same over IPv6.
 const IPV6_TABLE: &str = "/proc/net/udp6";
-
-/// As much of the table as is read, in bytes: some 30,000 sockets.
-const MAX_TABLE: u64 = 4_194_304;
 
 /// The column of the local address and port, counted from 0.
 const LOCAL: usize = 1;
@@ -154,27 +149,19 @@ pub fn drops_in(text: &[u8], ip: [u8; 16], port: u16) -> Option<u64>
     }
 }
 
-/// Reads a table to its end, at most 4 MiB of it, and allocates room for that. None if it can't be read.
-fn table_in<R: Read + Drop>(alloc: Global, reader: R) -> Option<Vec<u8>>
-    ensures { IfSome result (λ table. IfSome (R.remaining reader) (λ known. table.items ≡ take 4_194_304 known)) }
-{
-    let mut bytes = Vec::new(alloc);
-    match reader.take(MAX_TABLE).read_to_end(&mut bytes) {
-        Ok(_) => Some(bytes),
-        Err(_) => None,
-    }
-}
-
 /// The path of the kernel's table of UDP sockets that has this address.
-fn table_of(ip: &[u8; 16]) -> &'static str {
+fn table_of(ip: &[u8; 16]) -> &'static str
+    ensures { result.now ≡ table_of ip.now }
+{
     if is_mapped(ip) { TABLE } else { IPV6_TABLE }
 }
 
 /// How many datagrams the kernel has dropped at this process's UDP socket, bound to this address and port, since it was
 /// opened. An IPv4 address has the form `::ffff:a.b.c.d`. None if that can't be read. Allocates a copy of the kernel's
 /// table while it reads it.
-pub fn kernel_drops(rt: &(impl Files + AllocGlobal), ip: [u8; 16], port: u16) -> Option<u64> {
-    let file = File::open(rt, table_of(&ip)).ok()?;
-    let table = table_in(rt.alloc(), file)?;
+pub fn kernel_drops<F: KernelFiles + AllocGlobal>(files: &F, ip: [u8; 16], port: u16) -> Option<u64>
+    ensures { AreDrops F.reading F.was_refused F.was_full ip port result }
+{
+    let table = read_table(files, table_of(&ip))?;
     drops_in(&table, ip, port)
 }

@@ -1,68 +1,90 @@
-//! The front of a file, read into a place that is lent.
+//! The calls of the system at the kernel's files. Each method makes one call, whose effect is trusted, and notes it for contracts
+//! alone. Nothing else calls the system: what is generic over the trait is proved to read just these files, and to use what was read.
 
-ghost use Rattle.std.specs.Prelude.{◌≡◌, ◌≤◌, length, take, true};
-ghost use Rattle.std.specs.Io.KnownBytes.{Consumes};
-ghost use Rattle.srt_procfs.specs.Fronts.{IsWhole};
+ghost use Rattle.std.specs.Prelude.{◌≡◌, ◌≤◌, ◌++◌, List, ℕ, length, true, false, IfSome, IfNone};
+ghost use Rattle.srt_procfs.specs.Readings.{FileReading, opened, after_read};
 
+use crate::journal::Journal;
 use std::fs::File;
 use std::io::Read;
-use std::rt::Files;
 
-/// The greatest number of reads for one file.
-const MAX_READS: u32 = 4096;
+/// Through what the kernel's files are read, and memory is had for them.
+pub trait KernelFiles {
+    /// A file that was opened.
+    type File: Drop;
 
-/// What was read of a text.
-#[derive(Clone, Copy)]
-pub(crate) struct Front {
-    /// Its bytes, at the front of the place that was lent.
-    pub(crate) len: usize,
-    /// Whether that is the whole text, or as much of it as the place holds: no read failed, and there were fewer than 4,096.
-    pub(crate) is_whole: bool,
+    /// What was read of it.
+    ghost reading: { Self.File → FileReading };
+
+    /// The file with this path couldn't be opened.
+    ghost was_refused: { List ℕ → Type 0 };
+
+    /// There was no memory for a text.
+    ghost was_full: { Type 0 };
+
+    /// Opens the file with this path. `None` if it can't be opened.
+    fn open(&self, path: &str) -> Option<Self::File>
+        ensures opened { IfSome result (λ file. reading file ≡ opened path.now) }
+        ensures refused { IfNone result (was_refused path.now) };
+
+    /// Reads on, to the front of the place, and returns how many bytes: 0 at the end. `None` if the read fails.
+    fn read(&self, file: &mut Self::File, place: &mut [u8]) -> Option<usize>
+        ensures size { length place.new ≡ length place.old }
+        ensures within { IfSome result (λ n. n ≤ length place.new) }
+        ensures noted { reading file.new ≡ after_read (reading file.old) result place.new };
+
+    /// Appends bytes to a text. False, and nothing changes, if there is no memory for them.
+    fn append(&self, text: &mut Vec<u8>, bytes: &[u8]) -> bool
+        ensures appended { result ≡ true → text.new.items ≡ text.old.items ++ bytes.now }
+        ensures full { result ≡ false → was_full };
 }
 
-/// Reads until the place is full, the reader is at its end, or a read fails.
-fn fill<R: Read>(reader: &mut R, place: &mut [u8]) -> Front
-    ensures within { result.len ≤ length place.new }
-    ensures size { length place.new ≡ length place.old }
-    ensures bytes { Consumes (R.remaining reader.old) (R.remaining reader.new) (take result.len place.new) }
-    ensures whole { result.is_whole ≡ true → IsWhole result.len place.new (R.remaining reader.new) }
-{
-    let mut len = 0;
-    for _ in 0..MAX_READS {
-        if len >= place.len() {
-            return Front {
-                len,
-                is_whole: true,
-            };
-        }
-        match reader.read(&mut place[len..]) {
-            Ok(0) => return Front {
-                len,
-                is_whole: true,
-            },
-            Ok(n) => len += n,
-            Err(_) => return Front {
-                len,
-                is_whole: false,
-            },
-        }
-    }
-    Front {
-        len,
-        is_whole: false,
-    }
+/// Which call a note is of.
+const OPENED: u64 = 0;
+
+const READ: u64 = 1;
+
+const READ_FAILED: u64 = 2;
+
+/// A file of this machine's kernel.
+#[derive(Drop)]
+pub struct KernelFile {
+    file: File,
+    journal: Journal,
 }
 
-/// Reads the front of a file into the place, as much as it holds. Nothing is read of a file that can't be opened.
-pub(crate) fn read_front(rt: &impl Files, path: &str, place: &mut [u8]) -> Front
-    ensures within { result.len ≤ length place.new }
-    ensures size { length place.new ≡ length place.old }
-{
-    match File::open(rt, path) {
-        Ok(mut file) => fill(&mut file, place),
-        Err(_) => Front {
-            len: 0,
-            is_whole: false,
-        },
+impl KernelFiles for HostRuntime {
+    ghost use Rattle.srt_procfs.specs.Readings.{reading_of};
+
+    type File = KernelFile;
+
+    ghost reading = { λ file. reading_of file.journal.notes };
+
+    ghost was_refused = { λ path. Unit {0} };
+
+    ghost was_full = { Unit {0} };
+
+    fn open(&self, path: &str) -> Option<KernelFile> {
+        let file = File::open(self, path).ok()?;
+        let mut journal = Journal::new();
+        journal.note(&[OPENED, 0], path.as_bytes(), &[]);
+        Some(KernelFile { file, journal })
+    }
+
+    fn read(&self, file: &mut KernelFile, place: &mut [u8]) -> Option<usize> {
+        match file.file.read(place) {
+            Ok(n) => {
+                file.journal.note(&[READ, n as u64], &[], place);
+                Some(n)
+            }
+            Err(_) => {
+                file.journal.note(&[READ_FAILED, 0], &[], place);
+                None
+            }
+        }
+    }
+
+    fn append(&self, text: &mut Vec<u8>, bytes: &[u8]) -> bool {
+        text.extend_from_slice(bytes).is_ok()
     }
 }

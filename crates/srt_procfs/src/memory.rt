@@ -1,13 +1,14 @@
 //! The memory that the process has.
 
-ghost use Rattle.std.specs.Prelude.{◌≡◌, ◌≤◌, length, take};
+ghost use Rattle.std.specs.Prelude.{◌≡◌, ◌≤◌, None, codes, length, take};
+ghost use Rattle.srt_procfs.specs.Readings.{IsTold};
 ghost use Rattle.srt_procfs.specs.Memory.{memory_in};
 
-use crate::files::read_front;
+use crate::files::KernelFiles;
 use crate::numbers::number_in;
 use crate::parts::{behind_key, word_at};
+use crate::reading::read_front;
 use crate::signals::{MAX_STATUS, STATUS};
-use std::rt::Files;
 
 /// The key of the memory that is in the machine's memory at present.
 const RESIDENT: &[u8] = b"VmRSS:\t";
@@ -30,8 +31,10 @@ fn resident_in(place: &[u8], len: usize) -> Option<u64>
 }
 
 /// The resident memory of this process, in bytes. None if it can't be read.
-pub fn resident_memory(rt: &impl Files) -> Option<u64> {
+pub fn resident_memory<F: KernelFiles>(files: &F) -> Option<u64>
+    ensures { IsTold F.reading F.was_refused (codes "/proc/self/status") 16_384 (result ≡ None) (λ text. result ≡ memory_in text) }
+{
     let mut place = [0u8; MAX_STATUS];
-    let front = read_front(rt, STATUS, &mut place);
-    resident_in(&place, front.len)
+    let len = read_front(files, STATUS, &mut place)?;
+    resident_in(&place, len)
 }

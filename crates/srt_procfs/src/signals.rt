@@ -3,13 +3,14 @@
 //! A program can't take a signal. But one that was started with both blocked (as by `env --block-signal`) goes on when
 //! they are sent, and they stay pending, which its status shows.
 
-ghost use Rattle.std.specs.Prelude.{◌≡◌, ◌≤◌, length, take};
+ghost use Rattle.std.specs.Prelude.{◌≡◌, ◌≤◌, false, codes, length, take};
+ghost use Rattle.srt_procfs.specs.Readings.{IsTold};
 ghost use Rattle.srt_procfs.specs.Signals.{mask_in, has_either, asks_to_stop, blocks_signals};
 
-use crate::files::read_front;
+use crate::files::KernelFiles;
 use crate::numbers::number_in;
 use crate::parts::behind_key;
-use std::rt::Files;
+use crate::reading::read_front;
 
 /// The process's status, as proc(5) describes it.
 pub(crate) const STATUS: &str = "/proc/self/status";
@@ -87,16 +88,25 @@ fn blocked_in(place: &[u8], len: usize) -> bool
 
 /// Whether SIGINT or SIGTERM is pending for this process. False if that can't be read. It reads a file of the kernel's,
 /// some 50 microseconds, and doesn't allocate.
-pub fn stop_requested(rt: &impl Files) -> bool {
+pub fn stop_requested<F: KernelFiles>(files: &F) -> bool
+    ensures { IsTold F.reading F.was_refused (codes "/proc/self/status") 16_384 (result ≡ false) (λ text. result ≡ asks_to_stop text) }
+{
     let mut place = [0u8; MAX_STATUS];
-    let front = read_front(rt, STATUS, &mut place);
-    asked_in(&place, front.len)
+    match read_front(files, STATUS, &mut place) {
+        Some(len) => asked_in(&place, len),
+        None => false,
+    }
 }
 
 /// Whether SIGINT and SIGTERM are both blocked, so that [`stop_requested`] can see them. If they aren't, either ends the
 /// process at once. False if that can't be read.
-pub fn signals_are_blocked(rt: &impl Files) -> bool {
+pub fn signals_are_blocked<F: KernelFiles>(files: &F) -> bool
+    ensures { IsTold F.reading F.was_refused (codes "/proc/self/status") 16_384 (result ≡ false) (λ text. result ≡ blocks_signals text) }
+{
     let mut place = [0u8; MAX_STATUS];
-    let front = read_front(rt, STATUS, &mut place);
-    blocked_in(&place, front.len)
+    let status = read_front(files, STATUS, &mut place);
+    match status {
+        Some(len) => blocked_in(&place, len),
+        None => false,
+    }
 }

@@ -1,0 +1,35 @@
+//! What was called, for contracts alone: nothing of it is stored.
+
+ghost use Rattle.std.specs.Prelude.{◌≡◌, List, [], ◌∷◌};
+ghost use Rattle.std.specs.Borrow.{ftrue};
+ghost use Rattle.srt_procfs.specs.Notes.{Note};
+
+use std::marker::{Model, PhantomData};
+
+/// The calls of the system so far, the newest first. It has no bytes, and its methods do nothing at run time. Only what makes a call
+/// notes it, so what is proved of the notes is proved of the calls.
+#[derive(Drop)]
+pub struct Journal {
+    marker: PhantomData<u8>,
+    pub ghost notes: { List Note },
+}
+
+impl Model for Journal {
+    ghost also_owns = { λ _. ftrue };
+}
+
+impl Journal {
+    /// No calls.
+    pub fn new() -> Journal
+        ensures { result.notes ≡ [] }
+    {
+        Journal {
+            marker: PhantomData,
+        }
+    }
+
+    /// Adds a call: numbers that say which one it is and what it answered, a path, and the bytes that it gave.
+    pub fn note(&mut self, _numbers: &[u64], _path: &[u8], _bytes: &[u8])
+        ensures { self.new.notes ≡ (_numbers.now, _path.now, _bytes.now) ∷ self.old.notes }
+    {}
+}
