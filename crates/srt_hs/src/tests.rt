@@ -7,6 +7,7 @@ use crate::{
 use arrayvec::ArrayVec;
 use srt_types::Mode;
 use std::alloc::Global;
+use std::process::Abort;
 use std::test::Fail;
 
 const CONCLUSION: &str =
@@ -91,31 +92,32 @@ fn publisher_is_read(rt: HostRuntime) -> Result<(), Fail> {
     Ok(())
 }
 
+/// Asserts the text of a conclusion's Stream ID block.
+fn assert_stream_id(
+    rt: &(impl AllocGlobal + Abort),
+    block: &str,
+    wanted: &str,
+) -> Result<(), Fail> {
+    let bytes = bytes_of(rt.alloc(), &[CONCLUSION, HSREQ, block])?;
+    let hs = read(&bytes).ok().ok_or("a handshake")?;
+    let mut text = [0; 512];
+    let len = stream_id(&hs, &mut text).ok_or("a Stream ID")?;
+    assert_eq!(rt; &text[..len], wanted.as_bytes());
+    Ok(())
+}
+
 #[test]
 fn subscribers_are_read(rt: HostRuntime) -> Result<(), Fail> {
-    let mut text = [0; 512];
-    let bytes = bytes_of(rt.alloc(), &[CONCLUSION, HSREQ, STUDIO])?;
-    let hs = read(&bytes).ok().ok_or("a handshake")?;
-    let len = stream_id(&hs, &mut text).ok_or("a Stream ID")?;
-    assert_eq!(rt; &text[..len], b"studio".as_slice());
-    let bytes = bytes_of(
-        rt.alloc(),
-        &[
-            CONCLUSION,
-            HSREQ,
-            "00050006 3a3a2123 74733d72 6f696475 723d6d2c 65757165 00007473",
-        ],
+    assert_stream_id(&rt, STUDIO, "studio")?;
+    assert_stream_id(
+        &rt,
+        "00050006 3a3a2123 74733d72 6f696475 723d6d2c 65757165 00007473",
+        "#!::r=studio,m=request",
     )?;
-    let hs = read(&bytes).ok().ok_or("a handshake")?;
-    let len = stream_id(&hs, &mut text).ok_or("a Stream ID")?;
-    assert_eq!(rt; &text[..len], b"#!::r=studio,m=request".as_slice());
-    let bytes = bytes_of(rt.alloc(), &[CONCLUSION, HSREQ, "00050001 00636261"])?;
-    let hs = read(&bytes).ok().ok_or("a handshake")?;
-    let len = stream_id(&hs, &mut text).ok_or("a Stream ID")?;
-    assert_eq!(rt; &text[..len], b"abc".as_slice());
+    assert_stream_id(&rt, "00050001 00636261", "abc")?;
     let bytes = bytes_of(rt.alloc(), &[CONCLUSION, HSREQ])?;
     let hs = read(&bytes).ok().ok_or("a handshake")?;
-    assert!(rt; stream_id(&hs, &mut text).is_none());
+    assert!(rt; stream_id(&hs, &mut [0; 512]).is_none());
     Ok(())
 }
 
