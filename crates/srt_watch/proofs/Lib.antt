@@ -1,5 +1,6 @@
 pub mod Appended
 pub mod Asked
+pub mod BeginningRoutes
 pub mod ChangedRoutes
 pub mod Floods
 pub mod GrownRoutes
@@ -9,6 +10,7 @@ pub mod LossLines
 pub mod OpenedLines
 pub mod PagesShown
 pub mod PlacedRoutes
+pub mod PreparedRoutes
 pub mod ReadTexts
 pub mod Reloading
 pub mod RouteLines

@@ -1,20 +1,63 @@
 -- What becomes of a changed configuration.
-use Rattle.std.specs.Prelude.{◌≡◌, ℕ, Bool, true, false, List, map, Option, Result, Ok, Err}
+use Rattle.std.specs.Prelude.{◌≡◌, ℕ, Bool, true, false, List, map, Option, None, Some, IfSome, Result, Ok, Err}
 use Rattle.srt_types.specs.Terms.{Terms, terms_of}
 use Rattle.srt_config.specs.Config.{settings_of}
-use Rattle.srt_config.specs.Changes.{requested, requested_by, any_fixed}
+use Rattle.srt_config.specs.Changes.{requested, requested_by, fixed_keys, any_fixed}
+use Rattle.srt_config.specs.declared.config.Config.{Config}
+use Rattle.srt_config.specs.declared.changes.FixedKeys.{FixedKeys}
 use Rattle.srt_supervision.specs.Changes.{AskedChange, with_asked}
 use Rattle.srt_supervision.specs.declared.changes.ChangeFault.{ChangeFault}
+use Rattle.srt_watch.specs.Configs.{IsConfigOf}
 use Rattle.srt_watch.specs.Holding.{FileLook, MayBeTaken}
 use Rattle.srt_watch.specs.Indexes.{closing, indexes_from, numbers_of, changes_nothing}
 use Rattle.srt_watch.specs.Requests.{opened_by, config_of}
+use Rattle.srt_watch.specs.Polls.{FoundFile}
+use Rattle.srt_watch.specs.declared.following.Found.{Found}
 use Rattle.srt_watch.specs.declared.in_force.InForce.{InForce}
+use Rattle.srt_watch.specs.declared.in_force.NotTaken.{NotTaken}
+use Rattle.srt_watch.specs.declared.in_force.NotTaken.TheVariants.{Unread, Wrong, KeysDiffer}
 use Rattle.srt_watch.specs.declared.in_force.Wanted.{Wanted}
 
 -- a valid configuration, and what it changes of the one in force; it differs at no fixed key
 pub record IsWanted (in_force : InForce) (wanted : Wanted) : Type 0 where
   pub changes_are : requested_by wanted.changes ≡ requested (settings_of (config_of in_force)) (settings_of wanted.config)
   pub fixed_is : any_fixed wanted.changes.fixed ≡ false
+
+-- a valid configuration that differs at fixed keys: at these
+pub record HasOtherKeys (in_force : InForce) (text : List ℕ) (keys : FixedKeys) : Type 0 where
+  pub config : Config
+  pub config_is : IsConfigOf text config
+  pub keys_are : keys ≡ fixed_keys (settings_of (config_of in_force)) (settings_of config)
+  pub differ : any_fixed keys ≡ true
+
+-- why a text isn't taken: it has a fault, or there is no memory for it; or keys differ that are fixed
+abbrev pub IsWrong : NotTaken → Type 0
+IsWrong (Unread why) = ⊥
+IsWrong (Wrong why) = Unit {0}
+IsWrong (KeysDiffer keys) = ⊥
+
+abbrev pub IsNotTaken : InForce → (text : List ℕ) → NotTaken → Type 0
+IsNotTaken in_force text (Unread why) = ⊥
+IsNotTaken in_force text (Wrong why) = Unit {0}
+IsNotTaken in_force text (KeysDiffer keys) = HasOtherKeys in_force text keys
+
+-- why what was found in a file isn't taken
+abbrev pub IsRefused : InForce → Option FoundFile → NotTaken → Type 0
+IsRefused in_force None why = ⊥
+IsRefused in_force (Some (Ok news)) why = IsNotTaken in_force news.content why
+IsRefused in_force (Some (Err reason)) why = why ≡ Unread reason
+
+-- a configuration was found in a file
+abbrev pub IsFoundConfig : Option FoundFile → Config → Type 0
+IsFoundConfig None config = ⊥
+IsFoundConfig (Some (Ok news)) config = IsConfigOf news.content config
+IsFoundConfig (Some (Err reason)) config = ⊥
+
+-- what is returned of that
+abbrev pub IsFound : InForce → Option FoundFile → Option (Result Found NotTaken) → Type 0
+IsFound in_force file None = file ≡ None
+IsFound in_force file (Some (Ok found)) = IsFoundConfig file found.wanted.config
+IsFound in_force file (Some (Err why)) = IsRefused in_force file why
 
 -- what it requests of the run: the routes that close, and those that open
 abbrev pub closes_of : InForce → Wanted → List ℕ

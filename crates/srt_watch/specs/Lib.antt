@@ -16,6 +16,7 @@ pub mod Configs
 pub mod Indexes
 pub mod Requests
 pub mod Openings
+pub mod FirstRoutes
 pub mod ChangeLines
 pub mod Routes
 pub mod Holding
@@ -25,6 +26,7 @@ pub mod Overview
 pub mod Pages
 pub mod RouteLines
 pub mod Following
+pub mod Preparing
 pub mod Outcomes
 pub mod Watching
 pub mod Turns

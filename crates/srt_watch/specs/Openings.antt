@@ -1,5 +1,5 @@
 -- The routes that open by a change, before they are open.
-use Rattle.std.specs.Prelude.{◌≡◌, ℕ, List, [], replicate, Option, None, Some, string_bytes}
+use Rattle.std.specs.Prelude.{◌≡◌, ℕ, List, [], ◌∷◌, replicate, Option, None, Some, string_bytes}
 use Rattle.srt_types.specs.declared.shared.Mode.{Mode}
 use Rattle.srt_types.specs.Terms.{Terms}
 use Rattle.srt_route.specs.Totals.{no_totals}
@@ -37,3 +37,10 @@ pub record IsFresh (terms : Terms) (status : RouteStatus) : Type 0 where
 pub record IsOpening (terms : Terms) (route : OpeningRoute) : Type 0 where
   pub name_is : string_bytes route.name ≡ terms.name
   pub status_is : IsFresh terms route.status
+
+-- routes with these terms that are to open, in their order
+abbrev pub AreOpening : List Terms → List OpeningRoute → Type 0
+AreOpening [] [] = Unit {0}
+AreOpening [] (route ∷ routes) = ⊥
+AreOpening (terms ∷ more) [] = ⊥
+AreOpening (terms ∷ more) (route ∷ routes) = IsOpening terms route × AreOpening more routes

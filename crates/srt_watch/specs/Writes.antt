@@ -1,9 +1,11 @@
 -- How the write of a log's line ended.
-use Rattle.std.specs.Prelude.{ℕ, ◌+◌, Bool, true, false, Result, Ok, Err, if◌then◌else◌}
+use Rattle.std.specs.Prelude.{◌≡◌, ◌⊎◌, ℕ, ◌+◌, Bool, true, false, List, Result, Ok, Err, if◌then◌else◌}
 use Rattle.std.specs.IoError.{error_kind}
 use Rattle.std.specs.declared.io.Error.{Error}
 use Rattle.std.specs.declared.io.ErrorKind.{ErrorKind}
 use Rattle.std.specs.declared.io.ErrorKind.TheVariants.{WouldBlock, OutOfMemory}
+use Rattle.srt_status.specs.Events.{HasKept}
+use Rattle.srt_status.specs.declared.events.Event.{Event}
 use Rattle.srt_watch.specs.Log.{most}
 use Rattle.srt_watch.specs.declared.log.LogPace.{LogPace}
 
@@ -22,3 +24,12 @@ pace_after (Err error) pace = record pace { is_whole = false }
 abbrev pub refused_after : {T : Type 0} → Result T Error → (refused count : ℕ) → ℕ
 refused_after (Ok t) refused count = refused
 refused_after (Err error) refused count = if is_passing (error_kind error) then most (refused + count) else refused
+
+-- the same of a write of which it isn't said how it ended
+abbrev pub HasRefused : (old new count : ℕ) → Type 0
+HasRefused old new count = (new ≡ old) ⊎ (new ≡ most (old + count))
+
+-- a line was kept for the page, if it was to be written
+abbrev pub HasKeptIf : (written : Bool) → (old new : List Event) → (moment : ℕ) → (is_refusal : Bool) → (text : List ℕ) → Type 0
+HasKeptIf true old new moment is_refusal text = HasKept old new moment is_refusal text
+HasKeptIf false old new moment is_refusal text = new ≡ old

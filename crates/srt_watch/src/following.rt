@@ -8,10 +8,11 @@ ghost use Rattle.srt_watch.specs.ChangeLines.{one_taken};
 ghost use Rattle.srt_watch.specs.Holding.{waits_for, waiting, held_calls, IsHeldConfig, look_of};
 ghost use Rattle.srt_watch.specs.Indexes.{numbers_of};
 ghost use Rattle.srt_watch.specs.Log.{Logged};
-ghost use Rattle.srt_watch.specs.Polls.{news_of, kept_after};
+ghost use Rattle.srt_watch.specs.Openings.{AreOpening};
+ghost use Rattle.srt_watch.specs.Polls.{after_look};
 ghost use Rattle.srt_watch.specs.Requests.{config_of, first_indexes};
 ghost use Rattle.srt_watch.specs.Following.{IsTaken, IsRequested, IsFollowed, closes_of, opens_of};
-ghost use Rattle.srt_watch.specs.Outcomes.{made_calls, IsAnnounced, IsTold};
+ghost use Rattle.srt_watch.specs.Outcomes.{made_calls, IsAnnounced, file_with, HasFound, HasTold};
 ghost use Rattle.srt_watch.specs.Placing.{IsRouted};
 
 use crate::change_log::ChangeLog;
@@ -72,10 +73,12 @@ impl<'a, F: ConfigFile + Drop> Following<'a, F> {
     // Polls the file, once a second. None if it has nothing new.
     fn poll(&mut self, moment: u64) -> Option<Result<Found, NotTaken>>
         ensures in_force { self.new.in_force ≡ self.old.in_force }
+        ensures file { self.new.file.file ≡ self.old.file.file }
         ensures wanted { IfSome result (λ found. IfOk found (λ f. WasRead F.facts self.old.in_force f.wanted)) }
-        ensures kept { IfSome (F.says self.old.file.file) (λ s. option_map (λ v. v.items) self.new.file.content
-            ≡ kept_after (news_of self.old.file.polling moment (option_map (λ v. v.items) self.old.file.content) s)
-            (option_map (λ v. v.items) self.old.file.content)) }
+        ensures found { HasFound (F.says self.old.file.file) self.old.file.polling (option_map (λ v. v.items) self.old.file.content)
+            (option_map (λ v. v.items) self.new.file.content) moment self.old.in_force result }
+        ensures polling { IfSome (F.says self.old.file.file) (λ s. self.new.file.polling
+            ≡ after_look self.old.file.polling moment (option_map (λ v. v.items) self.old.file.content) s) }
         ensures held { IfSome result (λ found. IfOk found (λ f. f.was_held ≡ true →
             IsHeldConfig self.old.file.polling moment (option_map (λ v. v.items) self.old.file.content) f.wanted.config)) }
     {
@@ -116,6 +119,7 @@ impl<'a, F: ConfigFile + Drop> Following<'a, F> {
         found: &Found,
     ) -> bool
         ensures in_force { self.new.in_force ≡ self.old.in_force }
+        ensures file { (self.new.file.file ≡ self.old.file.file) × (self.new.file.content ≡ self.old.file.content) }
         ensures result { result ≡ is_some (waits_for found.now.was_held routes.now self.old.in_force found.now.wanted) }
         ensures polling { self.new.file.polling
             ≡ waiting (waits_for found.now.was_held routes.now self.old.in_force found.now.wanted) self.old.file.polling when.moment }
@@ -144,6 +148,7 @@ impl<'a, F: ConfigFile + Drop> Following<'a, F> {
         requires read { WasRead F.facts self.old.in_force change.wanted }
         requires room { vec_len routes.old.routes + length change.room.opening.items ≤ vec_capacity routes.old.routes }
         requires numbers { change.numbers ≡ numbers_of change.wanted.changes.gone.items change.wanted.changes.routes.items }
+        ensures file { self.new.file ≡ self.old.file }
         ensures taken { IsTaken self.old.in_force self.new.in_force change.wanted first }
         ensures counts { log.new.counts ≡ one_taken log.old.counts }
         ensures routes { IsRouted routes.old routes.new change.wanted.changes.routes.items self.new.in_force.indexes.items change.room.opening.items }
@@ -173,6 +178,8 @@ impl<'a, F: ConfigFile + Drop> Following<'a, F> {
         requires room { vec_len routes.old.routes + length requested.change.room.opening.items ≤ vec_capacity routes.old.routes }
         requires closes { requested.changes.closes.items ≡ closes_of self.old.in_force requested.change.wanted }
         requires opens { map terms_of requested.changes.opens.items ≡ opens_of requested.change.wanted }
+        requires opening { AreOpening (opens_of requested.change.wanted) requested.change.room.opening.items }
+        ensures file { self.new.file ≡ self.old.file }
         ensures requested { IsRequested self.old.in_force self.new.in_force requested.change.wanted (C.asked run.old) (C.asked run.new) }
         ensures announced { IsAnnounced self.old.in_force self.new.in_force requested.change.wanted (C.asked run.old) (C.asked run.new) when
             routes.old routes.new (W.contents log.old.log.out) (W.contents log.new.log.out) log.old.log.pace log.new.log.pace
@@ -204,7 +211,10 @@ impl<'a, F: ConfigFile + Drop> Following<'a, F> {
         ensures followed { IsFollowed
             (look_of self.old.file.polling when.moment (option_map (λ v. v.items) self.old.file.content) routes.old)
             self.old.in_force self.new.in_force (C.asked run.old) (C.asked run.new) }
-        ensures told { IsTold self.old.in_force self.new.in_force (C.asked run.old) (C.asked run.new) when routes.old routes.new
+        ensures told { HasTold
+            (file_with (F.says self.old.file.file) self.old.file.polling (option_map (λ v. v.items) self.old.file.content) self.old.in_force)
+            (file_with (F.says self.new.file.file) self.new.file.polling (option_map (λ v. v.items) self.new.file.content) self.new.in_force)
+            (C.asked run.old) (C.asked run.new) when routes.old routes.new
             (W.contents log.old.log.out) (W.contents log.new.log.out) log.old.log.pace log.new.log.pace log.old.counts log.new.counts }
     {
         let found = match self.poll(when.moment) {

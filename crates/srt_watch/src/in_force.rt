@@ -1,16 +1,18 @@
 //! The configuration in force, and what another one would change.
 
-ghost use Rattle.std.specs.Prelude.{◌≡◌, false, length, IfOk};
+ghost use Rattle.std.specs.Prelude.{◌≡◌, false, length, IfOk, IfErr};
 ghost use Rattle.srt_config.specs.Config.{settings_of};
 ghost use Rattle.srt_config.specs.Changes.{requested, requested_by, any_fixed};
 ghost use Rattle.srt_watch.specs.Configs.{IsConfigOf};
+ghost use Rattle.srt_watch.specs.Following.{IsWrong, IsNotTaken};
 ghost use Rattle.srt_watch.specs.Requests.{config_of, first_indexes};
 
 use crate::config_file::MAX_REASON;
-use srt_config::{Changes, Config, FixedKeys, changes_between};
+use srt_config::{Changes, Config, FixedKeys, changes_between, read_config};
 use srt_explain::explain;
 use std::alloc::{AllocError, Global};
 use std::fmt::InlineText;
+use std::str;
 
 /// A valid configuration that differs from the one in force at no fixed key.
 #[derive(Drop)]
@@ -94,15 +96,30 @@ impl<'a> InForce<'a> {
         ensures changes { IfOk result (λ w. requested_by w.changes ≡ requested (settings_of (config_of self.now)) (settings_of w.config)) }
         ensures fixed { IfOk result (λ w. any_fixed w.changes.fixed ≡ false) }
         ensures config { IfOk result (λ w. IsConfigOf content.now w.config) }
+        ensures not_taken { IfErr result (IsNotTaken self.now content.now) }
     {
-        let config = match explain(alloc, content) {
-            Ok(explained) => explained.config,
-            Err(explanation) => return Err(NotTaken::Wrong(InlineText::of(explanation))),
-        };
+        let config = config_of_text(alloc, content)?;
         match changes_between(alloc, self.config(), &config) {
             Ok(changes) if changes.fixed.any() => Err(NotTaken::KeysDiffer(changes.fixed)),
             Ok(changes) => Ok(Wanted { config, changes }),
             Err(_) => Err(NotTaken::Wrong(InlineText::of("out of memory"))),
         }
+    }
+}
+
+// Reads the configuration of this content, or explains its first fault. Allocates it. Its warnings aren't computed: those of
+// the configuration with which the run began are logged, and `check` prints those of any other.
+fn config_of_text(alloc: Global, content: &[u8]) -> Result<Config, NotTaken>
+    ensures config { IfOk result (IsConfigOf content.now) }
+    ensures wrong { IfErr result IsWrong }
+{
+    if let Ok(text) = str::from_utf8(content) {
+        if let Ok(config) = read_config(alloc, text) {
+            return Ok(config);
+        }
+    }
+    match explain(alloc, content) {
+        Ok(explained) => Ok(explained.config),
+        Err(explanation) => Err(NotTaken::Wrong(InlineText::of(explanation))),
     }
 }

@@ -1,16 +1,12 @@
 //! The indexes that routes have in a run, and what a changed configuration does to them: each route that opens gets the
 //! next one, and none is used again.
 
-ghost use Rattle.std.specs.Prelude.{◌≡◌, ◌≤◌, [], ◌++◌, IfOk, OnOk, map, length, vec_len, vec_capacity};
-ghost use Rattle.std.specs.List.{flat_map};
+ghost use Rattle.std.specs.Prelude.{◌≡◌, ◌≤◌, [], length, vec_len, vec_capacity};
 ghost use Rattle.srt_types.specs.Terms.{terms_of};
-ghost use Rattle.srt_watch.specs.Indexes.{index_at, reopened_at, closing, index_of, next_after, indexes_from};
-ghost use Rattle.srt_watch.specs.Indexes.{opens, counted, counted_all, numbers_of, changes_nothing, mark_of, reaches_mark, megabytes_of};
+ghost use Rattle.srt_watch.specs.Indexes.{index_at, index_of, next_after, indexes_from, opens, mark_of, reaches_mark, megabytes_of};
 
-use srt_config::{Changes, RouteChange};
-use srt_log::ChangeSummary;
+use srt_config::RouteChange;
 use srt_types::Entry;
-use std::alloc::{AllocError, Global};
 
 /// Returns the index of the route at a place. Callers pass places of routes alone.
 pub(crate) fn index_at(indexes: &[usize], place: usize) -> usize
@@ -20,65 +16,6 @@ pub(crate) fn index_at(indexes: &[usize], place: usize) -> usize
         Some(index) => *index,
         None => 0,
     }
-}
-
-// Appends the indexes of the routes at these places.
-#[tactic(auto, using(crate::proofs::Appended::mapped, crate::proofs::Appended::joined))]
-fn append_at(out: &mut Vec<usize>, indexes: &[usize], places: &[usize]) -> Result<(), AllocError>
-    ensures { OnOk result (out.new.items ≡ out.old.items ++ map (index_at indexes.now) places.now) }
-{
-    for place in places {
-        out.push(index_at(indexes, *place))?;
-    }
-    Ok(())
-}
-
-// Appends the index of a route that closes and opens again.
-fn append_if_reopened(
-    out: &mut Vec<usize>,
-    indexes: &[usize],
-    change: RouteChange,
-) -> Result<(), AllocError>
-    ensures { OnOk result (out.new.items ≡ out.old.items ++ reopened_at indexes.now change) }
-{
-    match change {
-        RouteChange::Reopens(place) => {
-            out.push(index_at(indexes, place))?;
-            Ok(())
-        }
-        RouteChange::Stays(_) | RouteChange::Opens => Ok(()),
-    }
-}
-
-// Appends the indexes of the routes that close and open again.
-#[tactic(auto, using(crate::proofs::Appended::flat_mapped, crate::proofs::Appended::joined))]
-fn append_reopened(
-    out: &mut Vec<usize>,
-    indexes: &[usize],
-    changes: &[RouteChange],
-) -> Result<(), AllocError>
-    ensures { OnOk result (out.new.items ≡ out.old.items ++ flat_map (reopened_at indexes.now) changes.now) }
-{
-    for change in changes {
-        append_if_reopened(out, indexes, *change)?;
-    }
-    Ok(())
-}
-
-/// Returns the indexes of the routes that close: first those whose names the changed configuration doesn't have, then those
-/// that open again. `indexes` has the indexes of the routes before. Allocates the list; the only error is out of memory.
-#[tactic(auto, using(crate::proofs::Appended::joined), unfolding(crate::specs::Indexes::closing))]
-pub(crate) fn closing(
-    alloc: Global,
-    changes: &Changes,
-    indexes: &[usize],
-) -> Result<Vec<usize>, AllocError>
-    ensures { IfOk result (λ closes. closes.items ≡ closing indexes.now changes.now.gone.items changes.now.routes.items) }
-{
-    let mut closes = Vec::with_capacity(alloc, changes.gone.len())?;
-    append_at(&mut closes, indexes, changes.gone.as_slice())?;
-    append_reopened(&mut closes, indexes, changes.routes.as_slice())?;
-    Ok(closes)
 }
 
 // Returns the index of a route of a changed configuration. `next` is the next index to be used.
@@ -137,60 +74,6 @@ pub(crate) fn fill_indexes(
         rest = &rest[1..];
     }
     indexes
-}
-
-// Counts one more route.
-fn counted(numbers: ChangeSummary, change: RouteChange) -> ChangeSummary
-    ensures { result ≡ counted numbers change }
-{
-    match change {
-        RouteChange::Stays(_) => ChangeSummary {
-            staying: numbers.staying.saturating_add(1),
-            ..numbers
-        },
-        RouteChange::Reopens(_) => ChangeSummary {
-            changing: numbers.changing.saturating_add(1),
-            ..numbers
-        },
-        RouteChange::Opens => ChangeSummary {
-            opening: numbers.opening.saturating_add(1),
-            ..numbers
-        },
-    }
-}
-
-// Counts all of these routes.
-#[tactic(auto, using(crate::proofs::Appended::counted_step, crate::proofs::Appended::counted_end))]
-fn counted_all(start: ChangeSummary, changes: &[RouteChange]) -> ChangeSummary
-    ensures { result ≡ counted_all start changes.now }
-{
-    let mut numbers = start;
-    let mut rest = changes;
-    while !rest.is_empty() {
-        numbers = counted(numbers, rest[0]);
-        rest = &rest[1..];
-    }
-    numbers
-}
-
-/// Returns the number of routes of each kind in a changed configuration.
-pub(crate) fn numbers_of(changes: &Changes) -> ChangeSummary
-    ensures { result ≡ numbers_of changes.now.gone.items changes.now.routes.items }
-{
-    let start = ChangeSummary {
-        staying: 0,
-        opening: 0,
-        closing: changes.gone.len() as u64,
-        changing: 0,
-    };
-    counted_all(start, changes.routes.as_slice())
-}
-
-/// Whether no route opens or closes: the configuration has the same routes, perhaps in another order.
-pub(crate) fn changes_nothing(numbers: ChangeSummary) -> bool
-    ensures { result ≡ changes_nothing numbers }
-{
-    numbers.opening == 0 && numbers.closing == 0 && numbers.changing == 0
 }
 
 /// The used indexes from which on the log warns that few are left, and after how many more it does so again.

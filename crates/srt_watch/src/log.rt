@@ -1,6 +1,6 @@
 //! A log: lines to a writer, in a second at most 40 about sessions and routes and 10 about refused callers.
 
-ghost use Rattle.std.specs.Prelude.{◌≡◌, ◌+◌, ◌++◌, [], ◌∷◌, List, true, IfSome, OnOk};
+ghost use Rattle.std.specs.Prelude.{◌≡◌, ◌+◌, ◌++◌, [], ◌∷◌, List, true, nat_lt, IfSome, OnOk};
 ghost use Rattle.std.specs.Io.KnownBytes.{Appends};
 ghost use Rattle.srt_log.specs.Events.{event_text};
 ghost use Rattle.srt_log.specs.Objects.{object_text};
@@ -10,8 +10,8 @@ ghost use Rattle.srt_watch.specs.Log.{IsStamp, IsTimeOf, HasState, Wrote, Logged
 ghost use Rattle.srt_watch.specs.Log.{object_at, line_at, line_if, left_out_text, said};
 ghost use Rattle.srt_watch.specs.Log.{Offered, Always, Polled, Missed, Closed, is_refusal};
 ghost use Rattle.srt_watch.specs.Draining.{IsDrained};
-ghost use Rattle.srt_watch.specs.Writes.{is_passing, pace_after, refused_after};
-ghost use Rattle.srt_log.specs.declared.events.LogEvent.TheVariants.{Stopped};
+ghost use Rattle.srt_watch.specs.Writes.{is_passing, pace_after, refused_after, HasRefused, HasKeptIf};
+ghost use Rattle.srt_log.specs.declared.events.LogEvent.TheVariants.{Stopped, LeftOut};
 
 use crate::machine::Machine;
 use srt_log::{LineKind, LineShares, LogEvent, event_line, put_object, utc_text, write_line};
@@ -234,11 +234,13 @@ impl<W: Write + Drop> LogWriter<W> {
             .push(when.moment, is_refusal(event), line.as_slice());
     }
 
-    // Writes a line, whatever the limit.
+    // Writes a line, whatever the limit. If the writer has no room for it, the `count` lines that it stands for are counted.
+    #[tactic(auto, using(crate::proofs::Logging::refused_so))]
     fn write(&mut self, when: When, event: LogEvent<'_>, count: u64)
         ensures wrote { Wrote (W.contents self.old.out) (W.contents self.new.out) self.old.pace self.new.pace (line_at when (said event.entry)) }
         ensures kept { HasKept self.old.events.events.items self.new.events.events.items when.moment (is_refusal event.entry)
             (put [] (event_text event.entry)) }
+        ensures refused { HasRefused self.old.refused self.new.refused count }
     {
         self.keep(when, event);
         let outcome = self.put_line(when, event);
@@ -249,6 +251,9 @@ impl<W: Write + Drop> LogWriter<W> {
     fn append_left_out(&mut self, when: When, count: u64)
         ensures wrote { Wrote (W.contents self.old.out) (W.contents self.new.out) self.old.pace self.new.pace (left_out_text when count) }
         ensures none { count ≡ 0 → self.new.refused ≡ self.old.refused }
+        ensures refused { HasRefused self.old.refused self.new.refused count }
+        ensures kept { HasKeptIf (nat_lt 0 count) self.old.events.events.items self.new.events.events.items when.moment true
+            (put [] (event_text (LeftOut count))) }
     {
         if count > 0 {
             self.write(when, LogEvent::LeftOut { count }, count);
@@ -257,7 +262,10 @@ impl<W: Write + Drop> LogWriter<W> {
 
     // Writes the line of an event if it is to be written.
     fn write_if(&mut self, is_written: bool, when: When, event: LogEvent<'_>)
-        ensures { Wrote (W.contents self.old.out) (W.contents self.new.out) self.old.pace self.new.pace (line_if is_written when (said event.entry)) }
+        ensures wrote { Wrote (W.contents self.old.out) (W.contents self.new.out) self.old.pace self.new.pace (line_if is_written when (said event.entry)) }
+        ensures refused { HasRefused self.old.refused self.new.refused 1 }
+        ensures kept { HasKeptIf is_written self.old.events.events.items self.new.events.events.items when.moment (is_refusal event.entry)
+            (put [] (event_text event.entry)) }
     {
         if is_written {
             self.write(when, event, 1);
@@ -297,6 +305,9 @@ impl<W: Write + Drop> LogWriter<W> {
     pub fn catch_up(&mut self, when: When) -> bool
         ensures logged { Logged (W.contents self.old.out) (W.contents self.new.out) self.old.pace self.new.pace [] }
         ensures told { result ≡ true → (self.old.refused ≡ 0) × (self.new.refused ≡ 0) }
+        ensures refused { HasRefused 0 self.new.refused self.old.refused }
+        ensures kept { HasKeptIf (nat_lt 0 self.old.refused) self.old.events.events.items self.new.events.events.items when.moment true
+            (put [] (event_text (LeftOut self.old.refused))) }
     {
         let is_flushed = self.out.flush().is_ok();
         let count = mem::replace(&mut self.refused, 0);

@@ -2,16 +2,18 @@
 
 ghost use Rattle.std.specs.Prelude.{◌≡◌, ◌≤◌, ◌+◌, [], ◌∷◌, ◌++◌, IfOk, OnOk, length, map, slice_get, vec_len, vec_capacity};
 ghost use Rattle.srt_types.specs.Terms.{terms_of};
+ghost use Rattle.srt_watch.specs.Following.{IsWanted};
 ghost use Rattle.srt_watch.specs.Indexes.{closing, indexes_from, numbers_of, changes_nothing};
-ghost use Rattle.srt_watch.specs.Requests.{opened_at, opened_by, config_of};
-ghost use Rattle.srt_watch.specs.Openings.{opening_name};
+ghost use Rattle.srt_watch.specs.Requests.{opened_by, config_of};
+ghost use Rattle.srt_watch.specs.Openings.{opening_name, AreOpening};
+ghost use Rattle.srt_watch.specs.Preparing.{HasClosings, HasOpening, HasPrepared, IsPrepared};
 ghost use Rattle.srt_watch.specs.Outcomes.{SameRoutes};
 ghost use Rattle.srt_watch.specs.Placing.{IsRouted};
 
 use crate::in_force::{InForce, Wanted};
-use crate::indexes::{changes_nothing, closing, fill_indexes, numbers_of, opens};
+use crate::indexes::{fill_indexes, index_at};
 use crate::watched_routes::{OpeningRoute, WatchedRoutes};
-use srt_config::{Changes, Config, RouteChange};
+use srt_config::RouteChange;
 use srt_log::ChangeSummary;
 use srt_status::RouteStatus;
 use srt_supervision::RouteChanges;
@@ -51,59 +53,100 @@ fn copied(alloc: Global, entry: &Entry) -> Result<Entry, AllocError>
     })
 }
 
-// The routes of a change that open, in their order.
+/// A change as it is prepared: what is requested of the run, and what is kept here.
 #[derive(Drop)]
-struct Opens {
-    // their entries, for the run
+pub(crate) struct Preparation {
+    numbers: ChangeSummary,
+    // the indexes of the routes that close
+    closes: Vec<usize>,
+    // the entries of the routes that open, for the run
     entries: Vec<Entry>,
-    // what is kept of them here
-    routes: Vec<OpeningRoute>,
+    // the same routes, as they are watched
+    opening: Vec<OpeningRoute>,
 }
 
-impl Opens {
+impl Preparation {
+    // Begins with the routes at these places, which close since their names are gone. Allocates; the only error is out of
+    // memory.
+    #[tactic(auto, using(crate::proofs::Appended::mapped))]
+    fn begin(alloc: Global, indexes: &[usize], gone: &[usize]) -> Result<Preparation, AllocError>
+        ensures { IfOk result (HasClosings indexes.now gone.now) }
+    {
+        let mut closes = Vec::with_capacity(alloc, gone.len())?;
+        for place in gone {
+            closes.push(index_at(indexes, *place))?;
+        }
+        Ok(Preparation {
+            numbers: ChangeSummary {
+                staying: 0,
+                opening: 0,
+                closing: gone.len() as u64,
+                changing: 0,
+            },
+            closes,
+            entries: Vec::new(alloc),
+            opening: Vec::new(alloc),
+        })
+    }
+
+    // Adds a route that opens. Allocates; the only error is out of memory.
     #[tactic(auto, using(crate::proofs::Appended::entry_added))]
-    fn add(&mut self, alloc: Global, entry: &Entry) -> Result<(), AllocError>
-        ensures { OnOk result (map terms_of self.new.entries.items ≡ map terms_of self.old.entries.items ++ terms_of entry.now ∷ []) }
+    fn open(&mut self, alloc: Global, entry: &Entry) -> Result<(), AllocError>
+        ensures entries { OnOk result (map terms_of self.new.entries.items ≡ map terms_of self.old.entries.items ++ terms_of entry.now ∷ []) }
+        ensures opening { OnOk result (HasOpening (terms_of entry.now) self.old.opening.items self.new.opening.items) }
+        ensures numbers { self.new.numbers ≡ self.old.numbers }
+        ensures closes { self.new.closes ≡ self.old.closes }
     {
         self.entries.push(copied(alloc, entry)?)?;
-        self.routes.push(OpeningRoute::new(alloc, entry)?)?;
+        self.opening.push(OpeningRoute::new(alloc, entry)?)?;
         Ok(())
     }
 
-    // Adds a route if it opens.
-    fn add_if_opens(
+    // Adds a route of the changed configuration: counts it, closes the route that it replaces, and opens it if it has to.
+    // Allocates; the only error is out of memory.
+    fn add(
         &mut self,
         alloc: Global,
+        indexes: &[usize],
         change: RouteChange,
         entry: &Entry,
     ) -> Result<(), AllocError>
-        ensures { OnOk result (map terms_of self.new.entries.items ≡ map terms_of self.old.entries.items ++ opened_at change (terms_of entry.now)) }
+        ensures { OnOk result (HasPrepared indexes.now change (terms_of entry.now) self.old self.new) }
     {
-        if opens(change) {
-            return self.add(alloc, entry);
+        match change {
+            RouteChange::Stays(_) => {
+                self.numbers.staying = self.numbers.staying.saturating_add(1);
+                Ok(())
+            }
+            RouteChange::Reopens(place) => {
+                self.numbers.changing = self.numbers.changing.saturating_add(1);
+                self.closes.push(index_at(indexes, place))?;
+                self.open(alloc, entry)
+            }
+            RouteChange::Opens => {
+                self.numbers.opening = self.numbers.opening.saturating_add(1);
+                self.open(alloc, entry)
+            }
         }
-        Ok(())
     }
 
-    // The routes of a configuration that open by these changes. Allocates; the error names the route for which that failed.
-    #[tactic(auto, using(crate::proofs::Appended::opened_step, crate::proofs::Appended::joined))]
-    fn of(alloc: Global, config: &Config, changes: &Changes) -> Result<Opens, NoRoom>
-        ensures { IfOk result (λ o. map terms_of o.entries.items ≡ opened_by changes.now.routes.items (map terms_of config.now.entries.items)) }
+    // The whole change to a configuration. Allocates; the error names the route for which that failed.
+    fn of(alloc: Global, indexes: &[usize], wanted: &Wanted) -> Result<Preparation, NoRoom>
+        requires { length wanted.now.changes.routes.items ≡ length wanted.now.config.entries.items }
+        ensures { IfOk result (IsPrepared indexes.now wanted.now.changes.gone.items wanted.now.changes.routes.items
+            (map terms_of wanted.now.config.entries.items)) }
     {
-        let mut opened = Opens {
-            entries: Vec::new(alloc),
-            routes: Vec::new(alloc),
-        };
-        let mut rest = changes.routes.as_slice();
-        let mut entries = config.entries.as_slice();
-        while !rest.is_empty() && !entries.is_empty() {
-            let Ok(()) = opened.add_if_opens(alloc, rest[0], &entries[0]) else {
+        let mut prepared = Preparation::begin(alloc, indexes, wanted.changes.gone.as_slice())?;
+        let mut rest = wanted.changes.routes.as_slice();
+        let mut entries = wanted.config.entries.as_slice();
+        while !rest.is_empty() {
+            let Ok(()) = prepared.add(alloc, indexes, rest[0], &entries[0]) else {
                 return Err(NoRoom::Route(InlineText::of(entries[0].name.as_str())));
             };
             rest = &rest[1..];
             entries = &entries[1..];
         }
-        Ok(opened)
+        Ok(prepared)
     }
 }
 
@@ -116,30 +159,6 @@ struct Room {
     opening: Vec<OpeningRoute>,
     // empty, with room for the status of each route of the changed configuration
     shown: Vec<RouteStatus>,
-}
-
-impl Room {
-    // For a configuration with this many routes, of which these open. Allocates; the only error is out of memory.
-    fn new(
-        alloc: Global,
-        routes: &mut WatchedRoutes,
-        configured: usize,
-        opening: Vec<OpeningRoute>,
-    ) -> Result<Room, AllocError>
-        ensures indexes { IfOk result (λ room. (room.indexes.items ≡ []) × (vec_len room.indexes ≡ 0) × (vec_capacity room.indexes ≡ configured)) }
-        ensures shown { IfOk result (λ room. (room.shown.items ≡ []) × (vec_len room.shown ≡ 0) × (vec_capacity room.shown ≡ configured)) }
-        ensures opening { IfOk result (λ room. room.opening ≡ opening) }
-        ensures room { OnOk result (vec_len routes.new.routes + length opening.items ≤ vec_capacity routes.new.routes) }
-        ensures routes { SameRoutes routes.old routes.new }
-    {
-        let indexes = Vec::with_capacity(alloc, configured)?;
-        let shown = routes.make_room(alloc, opening.len(), configured)?;
-        Ok(Room {
-            indexes,
-            opening,
-            shown,
-        })
-    }
 }
 
 /// A change that the run can be requested to make. To put its configuration in force allocates nothing.
@@ -155,51 +174,47 @@ pub(crate) struct PreparedChange {
 }
 
 impl PreparedChange {
-    // With the routes that open. Allocates; the only error is out of memory.
-    fn new(
-        alloc: Global,
-        routes: &mut WatchedRoutes,
-        wanted: Wanted,
-        opening: Vec<OpeningRoute>,
-    ) -> Result<PreparedChange, AllocError>
-        ensures wanted { IfOk result (λ p. p.wanted ≡ wanted) }
-        ensures numbers { IfOk result (λ p. p.numbers ≡ numbers_of wanted.changes.gone.items wanted.changes.routes.items) }
-        ensures routes { SameRoutes routes.old routes.new }
-        ensures opening { IfOk result (λ p. p.room.opening ≡ opening) }
-        ensures room { OnOk result (vec_len routes.new.routes + length opening.items ≤ vec_capacity routes.new.routes) }
-    {
-        let room = Room::new(alloc, routes, wanted.changes.routes.len(), opening)?;
-        Ok(PreparedChange {
-            numbers: numbers_of(&wanted.changes),
-            room,
-            wanted,
-        })
-    }
-
     /// The change to a valid configuration, and what the run is to be requested. Allocates; after an error nothing has
     /// changed.
+    #[tactic(auto, using(crate::proofs::PreparedRoutes::each_changes))]
     pub(crate) fn of(
         alloc: Global,
         in_force: &InForce<'_>,
         routes: &mut WatchedRoutes,
         wanted: Wanted,
     ) -> Result<(PreparedChange, RouteChanges), NoRoom>
+        requires { IsWanted in_force.now wanted }
         ensures wanted { IfOk result (λ p. p.0.wanted ≡ wanted) }
         ensures numbers { IfOk result (λ p. p.0.numbers ≡ numbers_of wanted.changes.gone.items wanted.changes.routes.items) }
         ensures closes { IfOk result (λ p. p.1.closes.items ≡ closing in_force.now.indexes.items wanted.changes.gone.items wanted.changes.routes.items) }
         ensures opens { IfOk result (λ p. map terms_of p.1.opens.items ≡ opened_by wanted.changes.routes.items (map terms_of wanted.config.entries.items)) }
+        ensures opening { IfOk result (λ p. AreOpening (opened_by wanted.changes.routes.items (map terms_of wanted.config.entries.items))
+            p.0.room.opening.items) }
         ensures routes { SameRoutes routes.old routes.new }
         ensures room { IfOk result (λ p. vec_len routes.new.routes + length p.0.room.opening.items ≤ vec_capacity routes.new.routes) }
     {
-        let Opens {
+        let Preparation {
+            numbers,
+            closes,
             entries,
-            routes: opening,
-        } = Opens::of(alloc, &wanted.config, &wanted.changes)?;
+            opening,
+        } = Preparation::of(alloc, in_force.indexes(), &wanted)?;
+        let configured = wanted.changes.routes.len();
+        let indexes = Vec::with_capacity(alloc, configured)?;
+        let shown = routes.make_room(alloc, opening.len(), configured)?;
+        let prepared = PreparedChange {
+            numbers,
+            room: Room {
+                indexes,
+                opening,
+                shown,
+            },
+            wanted,
+        };
         let changes = RouteChanges {
-            closes: closing(alloc, &wanted.changes, in_force.indexes())?,
+            closes,
             opens: entries,
         };
-        let prepared = PreparedChange::new(alloc, routes, wanted, opening)?;
         Ok((prepared, changes))
     }
 
@@ -210,11 +225,12 @@ impl PreparedChange {
         self.numbers
     }
 
-    /// Whether no route opens or closes.
+    /// Whether no route opens or closes: the configuration has the same routes, perhaps in another order.
     pub(crate) fn changes_nothing(&self) -> bool
         ensures { result ≡ changes_nothing self.now.numbers }
     {
-        changes_nothing(self.numbers)
+        let numbers = self.numbers;
+        numbers.opening == 0 && numbers.closing == 0 && numbers.changing == 0
     }
 
     /// The configuration, and what it changes.

@@ -5,7 +5,7 @@ ghost use Rattle.std.specs.Result.{result_map_both};
 ghost use Rattle.srt_watch.specs.Holding.{WasHeld};
 ghost use Rattle.srt_watch.specs.WatchedFile.{differs, is_other, is_settling, next_phase, no_poll, reads, after_poll};
 ghost use Rattle.srt_watch.specs.Polls.{seen_of, first_polling, is_again, reads_at, stamped, is_new_read, after_read, rested};
-ghost use Rattle.srt_watch.specs.Polls.{newness, after_news, held, read_of, polled, news_in, after_found, news_of, after_look};
+ghost use Rattle.srt_watch.specs.Polls.{newness, after_news, held, news_in, after_found, news_of, after_look};
 
 use crate::config_file::{ConfigFile, FileStamp, MAX_REASON};
 use std::fmt::InlineText;
@@ -231,44 +231,24 @@ impl<F: ConfigFile + Drop> WatchedFile<F> {
         }
     }
 
-    // Reads the file if it is to be read. None otherwise, and after a fault of reading that was returned before.
-    fn read(&mut self, moment: u64) -> Option<Result<Vec<u8>, InlineText<MAX_REASON>>>
-        ensures known { IfSome result (λ found. IfOk found (λ content. F.facts.was_read content.items)) }
-        ensures file { self.new.file ≡ self.old.file }
-        ensures content { self.new.content ≡ self.old.content }
-        ensures again { self.new.polling.again_at ≡ self.old.polling.again_at }
-        ensures found { IfSome (F.says self.old.file) (λ s. option_map (result_map_both (λ v. v.items) (λ e. e)) result ≡ read_of self.old.polling moment s) }
-        ensures polling { IfSome (F.says self.old.file) (λ s. self.new.polling ≡ polled self.old.polling moment s) }
-    {
-        let stamp = self.file.stamp();
-        if !self.polling.reads(moment, stamp) {
-            return None;
-        }
-        let content = self.file.read();
-        if !self.polling.note_read(content.is_err()) {
-            return None;
-        }
-        Some(content)
-    }
-
-    // Returns what was found, if it is news.
+    // Returns what was read, if it is news.
     fn news_of(
         &mut self,
         moment: u64,
-        found: Option<Result<Vec<u8>, InlineText<MAX_REASON>>>,
+        read: Result<Vec<u8>, InlineText<MAX_REASON>>,
     ) -> Option<Result<News, InlineText<MAX_REASON>>>
-        requires { IfSome found (λ found. IfOk found (λ content. F.facts.was_read content.items)) }
+        requires { IfOk read (λ content. F.facts.was_read content.items) }
         ensures known { IfSome result (λ found. IfOk found (λ news. F.facts.was_read news.content.items)) }
         ensures file { self.new.file ≡ self.old.file }
         ensures content { self.new.content ≡ self.old.content }
         ensures held { IfSome result (λ found. IfOk found (λ news. news.was_held ≡ true →
             WasHeld self.old.polling moment (option_map (λ v. v.items) self.old.content) news.content.items)) }
         ensures news { option_map seen_of result
-            ≡ news_in self.old.polling moment (option_map (λ v. v.items) self.old.content) (option_map (result_map_both (λ v. v.items) (λ e. e)) found) }
+            ≡ news_in self.old.polling moment (option_map (λ v. v.items) self.old.content) (Some (result_map_both (λ v. v.items) (λ e. e) read)) }
         ensures polling { self.new.polling
-            ≡ after_found self.old.polling moment (option_map (λ v. v.items) self.old.content) (option_map (result_map_both (λ v. v.items) (λ e. e)) found) }
+            ≡ after_found self.old.polling moment (option_map (λ v. v.items) self.old.content) (Some (result_map_both (λ v. v.items) (λ e. e) read)) }
     {
-        match found? {
+        match read {
             Ok(content) => {
                 let is_other = is_other(self.content.as_ref(), content.as_slice());
                 let was_held = self.polling.news(moment, is_other)?;
@@ -283,6 +263,7 @@ impl<F: ConfigFile + Drop> WatchedFile<F> {
     /// seconds, or the fault was returned before. Allocates its content.
     pub(crate) fn poll(&mut self, moment: u64) -> Option<Result<News, InlineText<MAX_REASON>>>
         ensures known { IfSome result (λ found. IfOk found (λ news. F.facts.was_read news.content.items)) }
+        ensures file { self.new.file ≡ self.old.file }
         ensures content { self.new.content ≡ self.old.content }
         ensures held { IfSome result (λ found. IfOk found (λ news. news.was_held ≡ true →
             WasHeld self.old.polling moment (option_map (λ v. v.items) self.old.content) news.content.items)) }
@@ -294,9 +275,17 @@ impl<F: ConfigFile + Drop> WatchedFile<F> {
         if moment < self.polling.next {
             return None;
         }
-        let found = self.read(moment);
+        let stamp = self.file.stamp();
+        let is_read = self.polling.reads(moment, stamp);
         self.polling.rest(moment);
-        self.news_of(moment, found)
+        if !is_read {
+            return None;
+        }
+        let read = self.file.read();
+        if !self.polling.note_read(read.is_err()) {
+            return None;
+        }
+        self.news_of(moment, read)
     }
 
     /// Keeps a content that was returned: it is no longer new.

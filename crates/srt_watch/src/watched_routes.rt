@@ -9,6 +9,7 @@ ghost use Rattle.srt_status.specs.declared.routes.RouteStatus.{RouteStatus as Th
 ghost use Rattle.srt_types.specs.Terms.{terms_of};
 ghost use Rattle.srt_watch.specs.Census.{status_with};
 ghost use Rattle.srt_watch.specs.Log.{most};
+ghost use Rattle.srt_watch.specs.FirstRoutes.{HasShownMore, HasOpened};
 ghost use Rattle.srt_watch.specs.Openings.{fresh_status, IsOpening};
 ghost use Rattle.srt_watch.specs.Observing.{status_place, status_at, with_snapshot, with_take_overs, changed_if, grown_of, HasObserved};
 ghost use Rattle.srt_watch.specs.Placing.{unplaced, placed, all_placed, added, added_by, rest_by, opened_routes, status_by, kept_by, next_statuses};
@@ -181,7 +182,10 @@ impl OpeningRoute {
 impl WatchedRoutes {
     /// Returns the routes of these entries, with the indexes from 0 on. Allocates 9 KB for each; the only error is out of
     /// memory.
-    pub(crate) fn open(alloc: Global, entries: &[Entry]) -> Result<WatchedRoutes, AllocError> {
+    #[tactic(auto, using(crate::proofs::BeginningRoutes::opened_none, crate::proofs::BeginningRoutes::opened_next))]
+    pub(crate) fn open(alloc: Global, entries: &[Entry]) -> Result<WatchedRoutes, AllocError>
+        ensures { IfOk result (HasOpened (map terms_of entries.now)) }
+    {
         let mut routes = WatchedRoutes {
             routes: Vec::with_capacity(alloc, entries.len())?,
             shown: Vec::with_capacity(alloc, entries.len())?,
@@ -194,7 +198,9 @@ impl WatchedRoutes {
 
     // Adds the route of an entry, with the next index, and shows it after the others. Allocates two copies of its name; the
     // only error is out of memory.
-    fn add_shown(&mut self, alloc: Global, entry: &Entry) -> Result<(), AllocError> {
+    fn add_shown(&mut self, alloc: Global, entry: &Entry) -> Result<(), AllocError>
+        ensures { OnOk result (HasShownMore (terms_of entry.now) self.old self.new) }
+    {
         let place = self.shown.len();
         let OpeningRoute { name, status } = OpeningRoute::new(alloc, entry)?;
         self.routes.push(WatchedRoute {

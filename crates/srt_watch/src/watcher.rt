@@ -1,11 +1,14 @@
 //! A watcher: its rests and snapshots, the changes that it requests of the run, and how it stops the gateway.
 
-ghost use Rattle.std.specs.Prelude.{◌≡◌, [], ◌∷◌, true, None, Some, IfOk, OnOk, is_some, length};
+ghost use Rattle.std.specs.Prelude.{◌≡◌, [], ◌∷◌, true, None, Some, IfOk, OnOk, is_some, length, map, option_map};
 ghost use Rattle.std.specs.Option.{ForSome};
 ghost use Rattle.srt_watch.specs.Answers.{IsAnswer};
 ghost use Rattle.srt_watch.specs.Course.{first_course, begun, is_due, after_due, is_stopping};
 ghost use Rattle.srt_watch.specs.Log.{Logged, Missed};
 ghost use Rattle.srt_watch.specs.Losses.{no_losses, with_faults, with_missed, more_missed};
+ghost use Rattle.srt_types.specs.Terms.{terms_of};
+ghost use Rattle.srt_watch.specs.FirstRoutes.{HasOpened};
+ghost use Rattle.srt_watch.specs.Outcomes.{file_with, HasPolled};
 ghost use Rattle.srt_watch.specs.Overview.{no_overview, no_changes, with_report, after_refusal};
 ghost use Rattle.srt_watch.specs.Requests.{config_of};
 ghost use Rattle.srt_watch.specs.Routes.{name_of, requested_by, used_of};
@@ -13,7 +16,7 @@ ghost use Rattle.srt_watch.specs.FirstLines.{HasWarned};
 ghost use Rattle.srt_watch.specs.Turns.{ShowedAt, HasBegun, HasLost, HasTurned, HasLooked, HasEnded, rounds_unless, pair_calls, HasShown};
 ghost use Rattle.srt_watch.specs.Pages.{ShowedPage, ShowedTwice};
 ghost use Rattle.srt_watch.specs.Stopping.{order_of, stop_step};
-ghost use Rattle.srt_supervision.specs.Answers.{IsOrdered};
+ghost use Rattle.srt_supervision.specs.Answers.{Answer as TheAnswer, IsOrdered};
 ghost use Rattle.srt_watch.specs.Watching.{refused_call, stop_calls, CheckedStop};
 
 use crate::change_log::ChangeLog;
@@ -204,6 +207,7 @@ where
         requires { ForSome start.lasts M.facts.was_lasting }
         ensures parts { IfOk result (λ w. (w.machine ≡ machine) × (w.form ≡ form) × (w.page.server ≡ page) × (w.page.version ≡ start.version)
             × (w.first_lines.start ≡ Some start) × (w.changes.log.out ≡ out)) }
+        ensures routes { IfOk result (λ w. HasOpened (map terms_of entries.now) w.routes) }
         ensures begins { IfOk result (λ w. (w.steering.lasts ≡ start.lasts) × (w.steering.course ≡ first_course) × (w.losses ≡ no_losses)
             × (w.overview ≡ no_overview) × (w.changes.counts ≡ no_changes)) }
     {
@@ -475,9 +479,20 @@ where
         self.note_refused(when, refusal);
     }
 
-    fn change_routes<C: ChangeRoutes>(&mut self, run: &mut C) {
+    fn change_routes<C: ChangeRoutes>(&mut self, run: &mut C)
+        requires { (a : TheAnswer) → IsAnswer M.facts F.facts a → C.requires_of a }
+        ensures polled { ShowedAt (M.says self.old.machine) self.old.form (λ when. HasPolled
+            (option_map (λ f. file_with (F.says f.file.file) f.file.polling (option_map (λ v. v.items) f.file.content) f.in_force) self.old.following)
+            (option_map (λ f. file_with (F.says f.file.file) f.file.polling (option_map (λ v. v.items) f.file.content) f.in_force) self.new.following)
+            (C.asked run.old) (C.asked run.new) when self.old.routes self.new.routes
+            (W.contents self.old.changes.log.out) (W.contents self.new.changes.log.out) self.old.changes.log.pace self.new.changes.log.pace
+            self.old.changes.counts self.new.changes.counts) }
+        ensures others { (self.new.steering ≡ self.old.steering) × (self.new.first_lines ≡ self.old.first_lines) × (self.new.losses ≡ self.old.losses)
+            × (self.new.overview ≡ self.old.overview) }
+        ensures kept { (self.new.form ≡ self.old.form) × (self.new.page ≡ self.old.page) }
+    {
         let when = When::now(&mut self.machine, self.form);
-        let Some(following) = self.following.as_mut() else {
+        let Some(following) = &mut self.following else {
             return;
         };
         following.follow(&mut self.changes, when, &mut self.routes, run);

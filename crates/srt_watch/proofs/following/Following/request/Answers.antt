@@ -41,20 +41,20 @@ returns-in-Err-clause-requested g c =
 
 pub returns-then-changes_nothing-clause-announced : goal.returns-then-changes_nothing-clause-announced
 returns-then-changes_nothing-clause-announced g c =
-    Unchanged c.used-first.result c.args.requested.change.room.opening.items
+    Unchanged c.used-first.result c.args.requested.change.room.opening.items c.requires.opening
     (ap changes_nothing (sym c.requires.numbers) ∙ sym c.changes_nothing.ensures ∙ c.if-changes_nothing.true)
     (record { config_is = c.put_in_force.ensures.config; indexes_are = c.put_in_force.ensures.indexes }) refl c.put_in_force.ensures.routes refl refl refl
 
 pub returns-in-Ok-clause-announced : goal.returns-in-Ok-clause-announced
 returns-in-Ok-clause-announced g c =
-    Made c.in-Ok.first c.args.requested.change.room.opening.items c.note_made.ensures.taken
+    Made c.in-Ok.first c.args.requested.change.room.opening.items c.requires.opening c.note_made.ensures.taken
     (c.in-Ok.ensures.asked ∙ (λ i. with_asked (g.C.ChangeRoutes.asked c.args.run.now)
     (record { closes = c.requires.closes i; opens = c.requires.opens i; outcome = Ok c.in-Ok.first })))
     c.note_made.ensures.routes c.note_made.ensures.logged c.note_made.ensures.counts
 
 pub returns-in-Err-clause-announced : goal.returns-in-Err-clause-announced
 returns-in-Err-clause-announced g c =
-    Rejected c.in-Err.fault c.args.requested.change.room.opening.items refl
+    Rejected c.in-Err.fault c.args.requested.change.room.opening.items c.requires.opening refl
     (c.in-Err.ensures.asked ∙ (λ i. with_asked (g.C.ChangeRoutes.asked c.args.run.now)
     (record { closes = c.requires.closes i; opens = c.requires.opens i; outcome = Err c.in-Err.fault })))
     refl c.rejected.ensures.logged c.rejected.ensures.counts

@@ -9,4 +9,4 @@ returns g c =
     (λ s h. record { shares_stand = c.line-allowed.ensures.stands s.calls h.shares_stand; missed_is = h.missed_is; second_is = h.second_is })
     (λ s h. λ i. left_out_text c.args.when (c.line-allowed.ensures.left_out s.calls h.shares_stand i)
     ++ line_if (c.line-allowed.ensures.written s.calls h.shares_stand i) c.args.when (said c.args.event))
-    (wrote_both _ _ _ _ _ _ _ _ c.append_left_out.ensures.wrote c.write_if.ensures)
+    (wrote_both _ _ _ _ _ _ _ _ c.append_left_out.ensures.wrote c.write_if.ensures.wrote)
