@@ -4,6 +4,7 @@ ghost use Rattle.std.specs.Prelude.{◌^◌, ◌<◌};
 
 mod holding;
 mod payloads;
+mod turns;
 
 use crate::{Counts, Opening, Resending, Sendings, Statistics, Subscriber, Took};
 use arrayvec::ArrayVec;
