@@ -304,7 +304,7 @@ def key_rows(index: Index) -> Dict[str, KeyRow]:
     rows = {name: KeyRow() for name in texts.values()}
     for keys, kind in re.findall(r"((?:Key::\w+[\s|]*)+)=> ValueKind::(\w+)", table):
         for key in re.findall(r"Key::(\w+)", keys):
-            rows[texts[key]].kind = {"Text": "text", "Number": "number", "Networks": "list", "Table": "table", "Tables": "tables"}[kind]
+            rows[texts[key]].kind = {"Text": "text", "Number": "number", "Boolean": "boolean", "Networks": "list", "Table": "table", "Tables": "tables"}[kind]
     for keys, least, most in re.findall(r"((?:Key::\w+[\s|]*)+)=> \((\w+), ([\w:]+)(?: as usize)?\)", table):
         for key in re.findall(r"Key::(\w+)", keys):
             if most != "u32::MAX":

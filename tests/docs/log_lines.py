@@ -13,8 +13,8 @@ LITERAL = re.compile(r'b"((?:[^"\\]|\\.)*)"')
 NAMED = re.compile(r'(\d{4}) => line\.put\(b" (\w+)"\)')
 HEADS = {"line", "reason", "after a refusal"}
 # What stands for a part of a line that differs each time; a reason and a cause have rows of their own.
-BLANKS = re.compile(r"CODE NAME|, REASON|IP:PORT|\b(?:NAME|PEER|ID|N|TEXT)\b")
-VALUES = {"CODE NAME": r"\d{4} [A-Z]+", "IP:PORT": r"[\d.]+:\d+", "NAME": r"[^ \"]+", "PEER": r"[\d.]+:\d+", "ID": "0x[0-9a-f]{8}",
+BLANKS = re.compile(r"CODE NAME|, REASON|IP:PORT|\b(?:NAME|PEER|IP|ID|N|TEXT)\b")
+VALUES = {"CODE NAME": r"\d{4} [A-Z]+", "IP:PORT": r"[\d.]+:\d+", "NAME": r"[^ \"]+", "IP": r"[\d.]+", "PEER": r"[\d.]+:\d+", "ID": "0x[0-9a-f]{8}",
           "N": r"\d+", "TEXT": ".+"}
 SHOWN = re.compile(r"\d{4}-\d\d-\d\dT\d\d:\d\d:\d\d\.\d{3}Z (.*)")
 # The texts that `run` can't write: it has no rounds, and the gateway has no code without a name.

@@ -15,11 +15,11 @@ use Rattle.srt_config.specs.declared.config.placed.Place.{Place}
 use Rattle.srt_config.specs.declared.config.placed.Place.TheVariants as place
 use Rattle.srt_config.specs.declared.config.keys.Key.TheVariants.{Bind, Workers, Status, Defaults, Route, Name, Mode, LatencyMs, Buffer, Sessions}
 use Rattle.srt_config.specs.declared.config.keys.Key.TheVariants.{Inbox, Outbox, OpenRound, CloseRound, Callers, PublishFrom, RequestFrom, PublishKey}
-use Rattle.srt_config.specs.declared.config.keys.Key.TheVariants.{RequestKey, Reserved, SessionsPerAddress, TakeoverMs, ResendPercent}
+use Rattle.srt_config.specs.declared.config.keys.Key.TheVariants.{RequestKey, Reserved, SessionsPerAddress, TakeoverMs, ResendPercent, Expect}
 use Rattle.srt_config.specs.KeyTable.{key_name}
 use Rattle.srt_config.specs.FirstFault.{Fault, UnknownKey, Missing, WrongKind, OutOfRange, BadName, RepeatedName, ◌>>=◌}
 use Rattle.srt_config.specs.Keys.{is_key, lesser, least_unknown, none_unknown, known, present, of_kind, value_at, text_at, number_at, optional}
-use Rattle.srt_config.specs.Keys.{optional_number_at, given_or_0}
+use Rattle.srt_config.specs.Keys.{optional_number_at, given_or_0, optional_flag_at, given_or_false}
 use Rattle.srt_config.specs.Access.{list_at, key_at, access_at}
 use Rattle.srt_config.specs.Rules.{callers_at, draft_if_none, most_reserved, rules_at}
 use Rattle.srt_config.specs.Routes.{name_in, name_at, mode_at, Numbers, numbers_at, schedule_of, schedule_at, route_keys, terms_with, with_access, with_rules}
@@ -259,7 +259,7 @@ abbrev behind : (number : ℕ) (before : List Terms) (table : Members) → List 
 behind number before table =
     each (place.Route number) (route_fault (map (λ (t : Terms). t.name) before) table)
     (Mode ∷ LatencyMs ∷ Buffer ∷ Sessions ∷ Inbox ∷ Outbox ∷ OpenRound ∷ CloseRound ∷ Callers ∷ PublishFrom ∷ RequestFrom ∷
-    PublishKey ∷ RequestKey ∷ Reserved ∷ SessionsPerAddress ∷ TakeoverMs ∷ ResendPercent ∷ [])
+    PublishKey ∷ RequestKey ∷ Reserved ∷ SessionsPerAddress ∷ TakeoverMs ∷ ResendPercent ∷ Expect ∷ [])
 
 -- the faults of a route, whose names before are those of these routes
 route_leads : (number : ℕ) (before : List Terms) (table own : Members) →
@@ -282,7 +282,8 @@ route_leads number before table own =
     on at (schedule_at table) _ _ _ _ (schedule_leads at table _) (λ schedule e.
     on at (callers_at table) _ _ _ _ (one at _ _) (λ callers e.
     on at (access_at table) _ _ _ _ (access_leads at table _) (λ access e.
-    last at (rules_at numbers.sessions (draft_if_none callers) table) _ _ _ (rules_lead at table numbers (draft_if_none callers) is []))))))))))
+    on at (rules_at numbers.sessions (draft_if_none callers) table) _ _ _ _ (rules_lead at table numbers (draft_if_none callers) is _) (λ rules e.
+    last at (optional_flag_at Expect table) _ _ _ (one at _ _)))))))))))
 
 -- the faults of the defaults
 optional_numbers_lead : (at : Place) (table : Members) (later : List Placed) →
@@ -325,7 +326,9 @@ defaults_lead table =
     on at (optional_mode_at table) _ _ _ _ (one at _ _) (λ mode e.
     on at (numbers_right table) _ _ _ _ (optional_numbers_lead at table _) (λ numbers e.
     on at (callers_at table) _ _ _ _ (one at _ _) (λ callers e.
-    on at (access_at table) _ _ _ _ (access_leads at table _) (λ access e. limits_lead at table [])))))
+    on at (access_at table) _ _ _ _ (access_leads at table _) (λ access e.
+    on at (limits_right table) _ _ _ _ (limits_lead at table _) (λ u e.
+    last at (optional_flag_at Expect table) _ _ _ (one at _ _)))))))
 
 -- the faults of the defaults that there are, and what follows
 checked_lead : (defaults : Option Members) (later : List Placed) →
@@ -371,9 +374,10 @@ name_was before table route h =
     let callers = passed (callers_at table) _ route schedule.2 in
     let access = passed (access_at table) _ route callers.2 in
     let rules = passed (rules_at numbers.0.sessions (draft_if_none callers.0) table) _ route access.2 in
+    let expect = passed (optional_flag_at Expect table) _ route rules.2 in
     let made : Planned =
-    planned (with_rules rules.0 (with_access access.0 (terms_with name.0 mode.0 numbers.0))) schedule.0 in
-    let same : made ≡ route = ok_is made route rules.2 in
+    planned (with_rules rules.0 (with_access access.0 (terms_with name.0 mode.0 numbers.0))) schedule.0 (given_or_false expect.0) in
+    let same : made ≡ route = ok_is made route expect.2 in
     let text = passed (text_at Name table) _ name.0 name.1 in
     let is : text.0 ≡ name.0 = kept (is_name text.0) (is_taken text.0 before) text.0 name.0 text.2 in
     text.1 ∙ ap (λ (t : List ℕ). Ok t) is ∙ ap (λ (p : Planned). Ok p.terms.name) same
@@ -498,7 +502,15 @@ later_lead written table defaults put =
 
 abbrev settings_with : (secret : List ℕ) (bind : Address) (workers : ℕ) (status : Option Address) → Routes → Settings
 settings_with secret bind workers status routes =
-    record { secret = secret; bind = bind; workers = workers; status = status; routes = routes.terms; schedules = routes.schedules }
+    record {
+      secret = secret;
+      bind = bind;
+      workers = workers;
+      status = status;
+      routes = routes.terms;
+      schedules = routes.schedules;
+      expected = routes.expected;
+    }
 
 settings_lead : (written table : Members) → LeadsTo (fault_place table) (settings_at table) (all_faults written table) []
 unfolding all_faults settings_at fault_place unknown_faults later_faults

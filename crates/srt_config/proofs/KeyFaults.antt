@@ -2,7 +2,7 @@
 use Rattle.std.proofs.Common.{◌&&◌, is_some, ◌≡◌, ℕ, ◌+◌, ℤ, pos, negsuc, ◌⊎◌, inl, inr, Bool, true, false, not, codes, List, [], ◌∷◌, ◌++◌}
 use Rattle.std.proofs.Common.{Option, Some, None, option_and_then, Result, Ok, Err, refl, sym, ap, subst, ◌∙◌, if◌then◌else◌}
 use Rattle.std.specs.Str.{bytes_eq}
-use Rattle.toml.specs.Data.{Data, Members, Items, no_items, item, get_member, as_str, as_integer, as_array, as_table}
+use Rattle.toml.specs.Data.{Data, Members, Items, no_items, item, get_member, as_str, as_integer, as_bool, as_array, as_table}
 use Rattle.hex.specs.Hex.{decode_sized}
 use Rattle.hex.specs.declared.error.FromHexError.{FromHexError}
 use Rattle.srt_types.specs.Entries.{is_between, is_name}
@@ -17,7 +17,7 @@ use Rattle.srt_config.specs.declared.config.keys.Key.{Key}
 use Rattle.srt_config.specs.declared.config.keys.Key.TheVariants.{Secret, Bind, Workers, Status, Defaults, Route, Name, Mode, LatencyMs, Buffer}
 use Rattle.srt_config.specs.declared.config.keys.Key.TheVariants.{Sessions, Inbox, Outbox, OpenRound, CloseRound, Callers}
 use Rattle.srt_config.specs.declared.config.keys.Key.TheVariants.{PublishFrom, RequestFrom, PublishKey, RequestKey, Reserved}
-use Rattle.srt_config.specs.declared.config.keys.Key.TheVariants.{SessionsPerAddress, TakeoverMs, ResendPercent}
+use Rattle.srt_config.specs.declared.config.keys.Key.TheVariants.{SessionsPerAddress, TakeoverMs, ResendPercent, Expect}
 use Rattle.srt_config.specs.Access.{network_in, are_texts, member_count, networked, networks_from, list_in, list_value, list_at}
 use Rattle.srt_config.specs.Access.{is_key_text, key_in, key_value, key_at, callers_of, access_at}
 use Rattle.srt_config.specs.Rules.{callers_in, callers_value, callers_at, draft_if_none, most_reserved, rules_with, rules_at}
@@ -25,7 +25,7 @@ use Rattle.srt_config.specs.KeyTable.{key_name}
 use Rattle.srt_config.specs.FirstFault.{Fault, UnknownKey, Missing, WrongKind, OutOfRange, BadName, RepeatedName, BadSecret, BadAddress, ◌>>=◌}
 use Rattle.srt_config.specs.Address.{Address, address_in}
 use Rattle.srt_config.specs.Keys.{least_unknown, none_unknown, known, present, of_kind, value_at, optional, text_value, text_at, within}
-use Rattle.srt_config.specs.Keys.{number_value, number_at, optional_number_at, given_or_0}
+use Rattle.srt_config.specs.Keys.{number_value, number_at, optional_number_at, given_or_0, flag_value, optional_flag_at, given_or_false}
 use Rattle.srt_config.specs.Routes.{route_keys, name_in, mode_in, name_at, mode_at, Numbers, numbers_at, schedule_of, schedule_at}
 use Rattle.srt_config.specs.Routes.{terms_with, with_access, with_rules, Planned, planned, route_at, Routes, no_routes, with_route, are_tables, count}
 use Rattle.srt_config.specs.Routes.{routes_from, routes_in, routes_at}
@@ -36,7 +36,7 @@ use Rattle.srt_config.specs.Config.{settings_at}
 use Rattle.srt_config.specs.KeyFaults.{Faulty, HasNone, ◌⊳◌, Unknown, AtKey, AtOptional, NoSecret, NoAddress, Outside, NoName, NoMode}
 use Rattle.srt_config.specs.KeyFaults.{InNumbers, number_or_0, opening_in, InSchedule, is_network, are_networks, NoNetworks, NoKeyText}
 use Rattle.srt_config.specs.KeyFaults.{InAccess, NoCallers, sessions_in, InRules, InRoute, InRoutes, NoRoutes, NoRoutesOrIn, InTable}
-use Rattle.srt_config.specs.KeyFaults.{InOptionalNumbers, InLimits, InDefaults}
+use Rattle.srt_config.specs.KeyFaults.{InOptionalNumbers, InLimits, InDefaults, AnyTruth}
 use Rattle.srt_config.specs.KeyFaults.{IsFirstFault}
 use Rattle.srt_config.proofs.Sound.{passed}
 
@@ -469,6 +469,23 @@ rules_tells sessions callers table is =
     last (optional_number_at ResendPercent 5 1000 table) (rules_with callers reserved per_address takeover_ms) _
     (optional_number_tells ResendPercent 5 1000 table))))
 
+-- a truth value, which has no fault of its own
+truth_is : (key : Key) (o : Option Data) → optional (λ value. of_kind key (as_bool value)) o
+    ≡ optional (λ value. of_kind key (as_bool value) >>= λ given. Ok given) o
+truth_is key None = refl
+truth_is key (Some value) = of (as_bool value)
+  where
+    of : (k : Option Bool) → (of_kind key k >>= λ given. Ok (Some given)) ≡ ((of_kind key k >>= λ given. Ok given) >>= λ given. Ok (Some given))
+    of None = refl
+    of (Some given) = refl
+
+flag_tells : (key : Key) (table : Members) → Tells (optional_flag_at key table) (AtOptional key as_bool AnyTruth table)
+unfolding optional_flag_at flag_value
+flag_tells key table =
+    same (optional_flag_at key table) (optional (λ value. of_kind key (as_bool value) >>= λ given. Ok given) (get_member (key_name key) table))
+    (AtOptional key as_bool AnyTruth table) (truth_is key (get_member (key_name key) table))
+    (at_optional key as_bool (λ given. Ok given) AnyTruth table (λ given. right given (AnyTruth given) (λ fault k. k)))
+
 pub route_tells : (before : List Terms) (table : Members) → Tells (route_at before table) (InRoute before table)
 unfolding route_at
 route_tells before table =
@@ -479,9 +496,11 @@ route_tells before table =
     on (schedule_at table) _ _ _ (schedule_tells table) (λ schedule e.
     on (callers_at table) _ _ _ (callers_tells table) (λ callers e.
     on (access_at table) _ _ _ (access_tells table) (λ access e.
-    last (rules_at numbers.sessions (draft_if_none callers) table)
-    (λ rules. planned (with_rules rules (with_access access (terms_with name mode numbers))) schedule) _
-    (rules_tells numbers.sessions (draft_if_none callers) table (sessions_are table numbers is)))))))))
+    on (rules_at numbers.sessions (draft_if_none callers) table) _ _ _
+    (rules_tells numbers.sessions (draft_if_none callers) table (sessions_are table numbers is)) (λ rules e.
+    last (optional_flag_at Expect table)
+    (λ expect. planned (with_rules rules (with_access access (terms_with name mode numbers))) schedule (given_or_false expect)) _
+    (flag_tells Expect table)))))))))
 
 some_table : (table other : Members) → Some table ≡ Some other → table ≡ other
 some_table table other e = cc
@@ -600,7 +619,9 @@ defaults_tell table =
     on (optional_mode_at table) _ _ _ (optional_mode_tells table) (λ mode e.
     on (numbers_right table) _ _ _ (optional_numbers_tell table) (λ numbers e.
     on (callers_at table) _ _ _ (callers_tells table) (λ callers e.
-    on (access_at table) _ _ _ (access_tells table) (λ access e. limits_tell table)))))
+    on (access_at table) _ _ _ (access_tells table) (λ access e.
+    on (limits_right table) _ _ _ (limits_tell table) (λ u e.
+    last (optional_flag_at Expect table) (λ expect. tt) _ (flag_tells Expect table)))))))
 
 -- the table of defaults is read, and then checked
 check_is : (o : Option Data) → (optional (λ value. of_kind Defaults (as_table value)) o >>= right_if_given)
@@ -628,7 +649,15 @@ check_tells table =
 
 abbrev settings_with : (secret : List ℕ) (bind : Address) (workers : ℕ) (status : Option Address) → Routes → Settings
 settings_with secret bind workers status routes =
-    record { secret = secret; bind = bind; workers = workers; status = status; routes = routes.terms; schedules = routes.schedules }
+    record {
+      secret = secret;
+      bind = bind;
+      workers = workers;
+      status = status;
+      routes = routes.terms;
+      schedules = routes.schedules;
+      expected = routes.expected;
+    }
 
 table_tells : (table : Members) → Tells (settings_at table) (InTable table)
 unfolding settings_at

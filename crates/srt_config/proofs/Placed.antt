@@ -1,10 +1,9 @@
 -- The route that is found has the fault.
-use Rattle.std.proofs.Common.{◌≡◌, ℕ, suc, ◌⊎◌, inl, inr, Bool, true, false, not, cond, is_some, List, [], ◌∷◌, ◌++◌, Option, None, Some}
+use Rattle.std.proofs.Common.{◌≡◌, ℕ, suc, ◌⊎◌, inl, inr, Bool, true, false, not, cond, is_some, [], ◌∷◌, ◌++◌, Option, None, Some}
 use Rattle.std.proofs.Common.{Result, Ok, Err, refl, ap, subst, ◌∙◌}
 use Rattle.std.proofs.lemmas.Bool.{and_parts, false≢true}
 use Rattle.toml.specs.Data.{Data, Members, Items, no_items, item, get_member, as_array, as_table}
 use Rattle.srt_types.specs.Entries.{is_between}
-use Rattle.srt_types.specs.Terms.{Terms}
 use Rattle.srt_config.specs.declared.config.keys.Key.{Key}
 use Rattle.srt_config.specs.declared.config.placed.Place.{Place}
 use Rattle.srt_config.specs.declared.config.placed.Place.TheVariants as place

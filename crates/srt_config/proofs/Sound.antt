@@ -17,7 +17,7 @@ use Rattle.srt_types.specs.Entries.{is_between, is_between_if, is_name, are_rule
 use Rattle.srt_lobby.specs.Opening.{is_taken, is_fresh, are_names, fault_of}
 use Rattle.srt_config.specs.declared.config.keys.Key.{Key}
 use Rattle.srt_config.specs.declared.config.keys.Key.TheVariants.{Route, Name, LatencyMs, Buffer, Sessions, Inbox, Outbox, OpenRound, CloseRound}
-use Rattle.srt_config.specs.declared.config.keys.Key.TheVariants.{Reserved, SessionsPerAddress, TakeoverMs, ResendPercent}
+use Rattle.srt_config.specs.declared.config.keys.Key.TheVariants.{Reserved, SessionsPerAddress, TakeoverMs, ResendPercent, Expect}
 use Rattle.srt_config.specs.declared.config.placed.Place.{Place}
 use Rattle.srt_config.specs.declared.config.placed.PlacedFault.{PlacedFault}
 use Rattle.srt_config.specs.declared.config.routes.ReadRoutes.{ReadRoutes}
@@ -27,6 +27,7 @@ use Rattle.srt_config.specs.KeyTable.{key_name}
 use Rattle.srt_config.specs.FirstFault.{Fault, WrongKind, OutOfRange, BadName, RepeatedName, ◌>>=◌}
 use Rattle.srt_config.specs.FaultPlace.{GivesAt}
 use Rattle.srt_config.specs.Keys.{known, value_at, text_at, within, number_value, number_at, optional, optional_number_at, of_kind, given_or_0}
+use Rattle.srt_config.specs.Keys.{optional_flag_at, given_or_false}
 use Rattle.srt_config.specs.Routes.{name_in, name_at, mode_at, Numbers, numbers_at, route_keys, terms_with, with_access, with_rules, schedule_of}
 use Rattle.srt_config.specs.Routes.{schedule_at, is_later, closes_later, Planned, planned, route_at, Routes, no_routes, with_route}
 use Rattle.srt_config.specs.Routes.{are_tables, count, routes_from, routes_in, routes_at}
@@ -191,7 +192,8 @@ route_fits before table e h =
     let r = passed (rules_at s.0.sessions (draft_if_none c.0) table) _ e a.2 in
     let numbers = numbers_fit n.0 m.0 table s.0 s.1 in
     let limited = numbers.with_any r.0 (rules_fit s.0.sessions (draft_if_none c.0) table r.0 numbers.sessions r.1) in
-    let same : planned (with_rules r.0 (with_access a.0 (terms_with n.0 m.0 s.0))) t.0 ≡ e = own_planned _ e r.2 in
+    let x = passed (optional_flag_at Expect table) _ e r.2 in
+    let same : planned (with_rules r.0 (with_access a.0 (terms_with n.0 m.0 s.0))) t.0 (given_or_false x.0) ≡ e = own_planned _ e x.2 in
     subst (λ (p : Planned). Fits before p.terms × (closes_later p.schedule ≡ true)) same
     (record { named = fits.0; free = fits.1; limited = limited }, schedule_fits table t.0 t.1)
 
@@ -244,12 +246,20 @@ record AreSound (all : Routes) (n : ℕ) : Type 0 where
   later : list_all closes_later all.schedules ≡ true
   many : length all.terms ≡ n
   scheduled : length all.schedules ≡ n
+  marked : length all.expected ≡ n
 
 from_sound : (before : Routes) (items : Items) (all : Routes) (n : ℕ) → routes_from before items ≡ Ok all → AreSound before n → AreSound all (n + count items)
 from_sound before no_items all n h s =
     let same : before ≡ all = cc in
     subst (λ (es : Routes). AreSound es (n + 0)) same
-    (record { names = s.names; limits = s.limits; later = s.later; many = omega (arith, s.many); scheduled = omega (arith, s.scheduled) })
+    (record {
+      names = s.names;
+      limits = s.limits;
+      later = s.later;
+      many = omega (arith, s.many);
+      scheduled = omega (arith, s.scheduled);
+      marked = omega (arith, s.marked);
+    })
 from_sound before (item value rest) all n h s =
     let t = passed (of_kind Route (as_table value)) _ all h in
     let e = passed (route_at before.terms t.0) _ all t.2 in
@@ -260,9 +270,17 @@ from_sound before (item value rest) all n h s =
       later = later_last before.schedules e.0.schedule s.later f.1;
       many = length_last before.terms e.0.terms ∙ ap suc s.many;
       scheduled = length_last before.schedules e.0.schedule ∙ ap suc s.scheduled;
+      marked = length_last before.expected e.0.expected ∙ ap suc s.marked;
     } in
     let last = from_sound (with_route before e.0) rest all (suc n) e.2 more in
-    record { names = last.names; limits = last.limits; later = last.later; many = omega (arith, last.many); scheduled = omega (arith, last.scheduled) }
+    record {
+      names = last.names;
+      limits = last.limits;
+      later = last.later;
+      many = omega (arith, last.many);
+      scheduled = omega (arith, last.scheduled);
+      marked = omega (arith, last.marked);
+    }
 
 counted : {A : Type 0} (tables counts : Bool) (f g : Fault) (read : Result A Fault) (x : A)
     → cond (not tables) (Err f) (cond (not counts) (Err g) read) ≡ Ok x → (counts ≡ true) × (read ≡ Ok x)
@@ -275,15 +293,17 @@ no_fault es n l b = rw (n, l, b) refl
 
 -- what holds of all routes that were read
 abbrev pub ReadSoundly : Routes → Type 0
-ReadSoundly all = (fault_of all.terms ≡ None) × (length all.schedules ≡ length all.terms) × (list_all closes_later all.schedules ≡ true)
+ReadSoundly all =
+    (fault_of all.terms ≡ None) × (length all.schedules ≡ length all.terms) × (list_all closes_later all.schedules ≡ true) ×
+    (length all.expected ≡ length all.terms)
 
 in_sound : (items : Items) (all : Routes) → routes_in items ≡ Ok all → ReadSoundly all
 unfolding routes_in
 in_sound items all h =
     let c = counted (are_tables items) (is_between 1 511 (count items)) (WrongKind Route) (OutOfRange Route) (routes_from no_routes items) all h in
-    let s = from_sound no_routes items all 0 c.1 (record { names = refl; limits = refl; later = refl; many = refl; scheduled = refl }) in
+    let s = from_sound no_routes items all 0 c.1 (record { names = refl; limits = refl; later = refl; many = refl; scheduled = refl; marked = refl }) in
     let many : length all.terms ≡ count items = omega (arith, s.many) in
-    (no_fault all.terms s.names s.limits (ap (is_between 1 511) many ∙ c.0), s.scheduled ∙ sym s.many, s.later)
+    (no_fault all.terms s.names s.limits (ap (is_between 1 511) many ∙ c.0), s.scheduled ∙ sym s.many, s.later, s.marked ∙ sym s.many)
 
 at_sound : (table : Members) (all : Routes) → routes_at table ≡ Ok all → ReadSoundly all
 unfolding routes_at
@@ -313,3 +333,8 @@ pub later_sound : (r : Result ReadRoutes PlacedFault)
     → IfOk r (λ routes. ReadSoundly (routes_seen routes)) → IfOk r (λ routes. list_all closes_later routes.schedules.items ≡ true)
 later_sound (Ok routes) h = h.2
 later_sound (Err f) h = tt
+
+pub marked_sound : (r : Result ReadRoutes PlacedFault)
+    → IfOk r (λ routes. ReadSoundly (routes_seen routes)) → IfOk r (λ routes. length routes.expected.items ≡ length routes.entries.items)
+marked_sound (Ok routes) h = h.3 ∙ length-map routes.entries.items terms_of
+marked_sound (Err f) h = tt

@@ -13,11 +13,12 @@ use Rattle.srt_config.specs.declared.config.placed.PlacedFault.{PlacedFault}
 use Rattle.srt_config.specs.declared.config.keys.Key.{Key}
 use Rattle.srt_config.specs.declared.config.keys.Key.TheVariants.{Secret, Bind, Workers, Status, Defaults, Route, Name, Mode, LatencyMs, Buffer}
 use Rattle.srt_config.specs.declared.config.keys.Key.TheVariants.{Sessions, Inbox, Outbox, OpenRound, CloseRound, Callers, PublishFrom}
-use Rattle.srt_config.specs.declared.config.keys.Key.TheVariants.{RequestFrom, PublishKey, RequestKey, Reserved}
+use Rattle.srt_config.specs.declared.config.keys.Key.TheVariants.{RequestFrom, PublishKey, RequestKey, Reserved, Expect}
 use Rattle.srt_config.specs.KeyTable.{key_name, limits_of}
 use Rattle.srt_config.specs.FirstFault.{Fault, Toml, UnknownKey, Missing, WrongKind, OutOfRange, BadName, RepeatedName, BadSecret, BadAddress}
 use Rattle.srt_config.specs.FirstFault.{OutOfMemory, plain_fault, ◌>>=◌}
 use Rattle.srt_config.specs.Keys.{is_key, value_at, of_kind, text_at, key_number_at, optional_number_at, optional_key_number_at, given_or_0}
+use Rattle.srt_config.specs.Keys.{optional_flag_at}
 use Rattle.srt_config.specs.Access.{list_at, key_at}
 use Rattle.srt_config.specs.Rules.{callers_at, most_reserved}
 use Rattle.srt_config.specs.Routes.{mode_at, route_keys, are_tables, count}
@@ -116,6 +117,7 @@ default_fault table PublishFrom = fault_if (list_at PublishFrom table)
 default_fault table RequestFrom = fault_if (list_at RequestFrom table)
 default_fault table PublishKey = fault_if (key_at PublishKey table)
 default_fault table RequestKey = fault_if (key_at RequestKey table)
+default_fault table Expect = fault_if (optional_flag_at Expect table)
 default_fault table key = fault_if (optional_key_number_at key table)
 
 -- a name of the right form that is none of these

@@ -1,5 +1,5 @@
 -- What the comparison of two configurations means.
-use Rattle.std.specs.Prelude.{◌≡◌, ℕ, suc, true, false, List, [], ◌∷◌, map, length, Option, Some, slice_get}
+use Rattle.std.specs.Prelude.{◌≡◌, ℕ, suc, Bool, true, false, List, [], ◌∷◌, map, length, Option, Some, slice_get}
 use Rattle.std.specs.Bool.{Decides}
 use Rattle.srt_types.specs.declared.shared.Schedule.{Schedule}
 use Rattle.srt_types.specs.Terms.{Terms}
@@ -30,6 +30,12 @@ nothing_requested routes = record { fixed = none_fixed; routes = all_stay 0 rout
 -- a configuration that is the same as the one before requests nothing
 abbrev pub SameRequestsNothing : Type 0
 SameRequestsNothing = (s : Settings) → are_names s.routes ≡ true → length s.schedules ≡ length s.routes → requested s s ≡ nothing_requested s.routes
+
+-- nor does one in which other routes are expected to be on air, and that is the same otherwise
+abbrev pub ExpectationsRequestNothing : Type 0
+ExpectationsRequestNothing =
+    (s : Settings) (expected : List Bool) → are_names s.routes ≡ true → length s.schedules ≡ length s.routes →
+    requested s (record s { expected = expected }) ≡ nothing_requested s.routes
 
 -- what a change of a route means. It stays: the one at that place before has all of its keys, lists, keys of roles and rules included.
 -- It opens again: the one at that place has its name, and another value at some key. It opens: no route before has its name

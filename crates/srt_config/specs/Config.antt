@@ -1,5 +1,5 @@
 -- The configuration in a text (our choice).
-use Rattle.std.specs.Prelude.{ℕ, List, [], ◌∷◌, map, Option, None, Some, option_map, Result, Ok, Err}
+use Rattle.std.specs.Prelude.{ℕ, Bool, List, [], ◌∷◌, map, Option, None, Some, option_map, Result, Ok, Err}
 use Rattle.toml.specs.Data.{Data, Members, get_member}
 use Rattle.hex.specs.Hex.{decode_sized}
 use Rattle.hex.specs.declared.error.FromHexError.{FromHexError}
@@ -52,6 +52,7 @@ pub record Settings : Type 0 where
   pub status : Option Address
   pub routes : List Terms
   pub schedules : List Schedule
+  pub expected : List Bool
 
 -- the keys of the table
 abbrev pub top_keys : List Key
@@ -68,7 +69,16 @@ settings_at table =
     defaults_at table >>= λ defaults.
     right_if_given defaults >>= λ _.
     routes_at table >>= λ routes.
-    Ok (record { secret = secret; bind = bind; workers = workers; status = status; routes = routes.terms; schedules = routes.schedules })
+    Ok
+    (record {
+      secret = secret;
+      bind = bind;
+      workers = workers;
+      status = status;
+      routes = routes.terms;
+      schedules = routes.schedules;
+      expected = routes.expected;
+    })
 
 -- the configuration in a text with this table: that of the table in which each route has the defaults that it lacks; None if it isn't TOML
 abbrev pub config_in : Option Members → Result Settings Fault
@@ -84,4 +94,5 @@ settings_of config =
       status = option_map address_of config.status;
       routes = map terms_of config.entries.items;
       schedules = config.schedules.items;
+      expected = config.expected.items;
     }

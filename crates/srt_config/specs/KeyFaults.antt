@@ -2,7 +2,7 @@
 use Rattle.std.specs.Prelude.{◌≡◌, ℕ, ◌+◌, ℤ, pos, negsuc, ◌⊎◌, ◌↔◌, Bool, true, false, ◌&&◌, is_some, codes, List, [], ◌∷◌, ◌++◌, Option}
 use Rattle.std.specs.Prelude.{Some, None, option_and_then, Ok, Err}
 use Rattle.std.specs.Str.{bytes_eq}
-use Rattle.toml.specs.Data.{Data, Members, Items, no_items, item, get_member, as_str, as_integer, as_array, as_table}
+use Rattle.toml.specs.Data.{Data, Members, Items, no_items, item, get_member, as_str, as_integer, as_bool, as_array, as_table}
 use Rattle.hex.specs.Hex.{decode_sized}
 use Rattle.srt_types.specs.Entries.{is_between, is_name}
 use Rattle.srt_types.specs.Terms.{Terms}
@@ -11,7 +11,7 @@ use Rattle.srt_config.specs.declared.config.keys.Key.{Key}
 use Rattle.srt_config.specs.declared.config.keys.Key.TheVariants.{Secret, Bind, Workers, Status, Defaults, Route, Name, Mode, LatencyMs, Buffer}
 use Rattle.srt_config.specs.declared.config.keys.Key.TheVariants.{Sessions, Inbox, Outbox, OpenRound, CloseRound, Callers}
 use Rattle.srt_config.specs.declared.config.keys.Key.TheVariants.{PublishFrom, RequestFrom, PublishKey, RequestKey, Reserved}
-use Rattle.srt_config.specs.declared.config.keys.Key.TheVariants.{SessionsPerAddress, TakeoverMs, ResendPercent}
+use Rattle.srt_config.specs.declared.config.keys.Key.TheVariants.{SessionsPerAddress, TakeoverMs, ResendPercent, Expect}
 use Rattle.srt_config.specs.Access.{network_in, are_texts, member_count, is_key_text}
 use Rattle.srt_config.specs.Rules.{most_reserved}
 use Rattle.srt_config.specs.KeyTable.{key_name}
@@ -159,6 +159,10 @@ InLimits table =
     AtOptional TakeoverMs as_integer (Outside TakeoverMs 100 5000) table ⊳
     AtOptional ResendPercent as_integer (Outside ResendPercent 5 1000) table
 
+-- no truth value has a fault
+abbrev pub AnyTruth : Bool → Faulty
+AnyTruth given fault = ⊥
+
 -- the keys of one route, in their order, after these routes
 abbrev pub InRoute : (before : List Terms) → Members → Faulty
 InRoute before table =
@@ -169,7 +173,8 @@ InRoute before table =
     InSchedule table ⊳
     AtOptional Callers as_str NoCallers table ⊳
     InAccess table ⊳
-    InRules table
+    InRules table ⊳
+    AtOptional Expect as_bool AnyTruth table
 
 -- the routes one after the other: the first table has this fault, or it is a route and the others have the fault
 abbrev pub InRoutes : (before : List Terms) → Items → Faulty
@@ -195,7 +200,8 @@ InDefaults table =
     InOptionalNumbers table ⊳
     AtOptional Callers as_str NoCallers table ⊳
     InAccess table ⊳
-    InLimits table
+    InLimits table ⊳
+    AtOptional Expect as_bool AnyTruth table
 
 -- the keys of the whole table, in their order
 abbrev pub InTable : Members → Faulty

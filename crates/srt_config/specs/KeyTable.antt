@@ -4,9 +4,9 @@ use Rattle.srt_config.specs.declared.config.keys.Key.{Key}
 use Rattle.srt_config.specs.declared.config.keys.Key.TheVariants.{Secret, Bind, Workers, Status, Defaults, Route, Name, Mode, LatencyMs, Buffer}
 use Rattle.srt_config.specs.declared.config.keys.Key.TheVariants.{Sessions, Inbox, Outbox, OpenRound, CloseRound, Callers, PublishFrom, RequestFrom}
 use Rattle.srt_config.specs.declared.config.keys.Key.TheVariants.{PublishKey, RequestKey, Reserved, SessionsPerAddress, TakeoverMs}
-use Rattle.srt_config.specs.declared.config.keys.Key.TheVariants.{ResendPercent}
+use Rattle.srt_config.specs.declared.config.keys.Key.TheVariants.{ResendPercent, Expect}
 use Rattle.srt_config.specs.declared.config.keys.ValueKind.{ValueKind}
-use Rattle.srt_config.specs.declared.config.keys.ValueKind.TheVariants.{Text, Number, Networks, Table, Tables}
+use Rattle.srt_config.specs.declared.config.keys.ValueKind.TheVariants.{Text, Number, Boolean, Networks, Table, Tables}
 use Rattle.srt_config.specs.declared.config.keys.Limits.{Limits}
 use Rattle.srt_config.specs.declared.config.keys.Choices.{Choices}
 
@@ -35,6 +35,7 @@ key_name Reserved = codes "reserved"
 key_name SessionsPerAddress = codes "sessions_per_address"
 key_name TakeoverMs = codes "takeover_ms"
 key_name ResendPercent = codes "resend_percent"
+key_name Expect = codes "expect"
 
 -- the kind of a key's value
 abbrev pub kind_of : Key → ValueKind
@@ -62,12 +63,13 @@ kind_of Reserved = Number
 kind_of SessionsPerAddress = Number
 kind_of TakeoverMs = Number
 kind_of ResendPercent = Number
+kind_of Expect = Boolean
 
 abbrev pub between : (least most : ℕ) → Limits
 between least most = record { least = least; most = most }
 
 -- the limits of a key's value: of a number its value, of a text its bytes, of a list its members. An address or one of two texts
--- has no limit but its form, and the table of defaults none
+-- has no limit but its form, and the table of defaults and a truth value none
 abbrev pub limits_of : Key → Limits
 limits_of Secret = between 64 64
 limits_of Bind = between 0 4_294_967_295
@@ -93,6 +95,7 @@ limits_of Reserved = between 0 2
 limits_of SessionsPerAddress = between 1 17
 limits_of TakeoverMs = between 100 5000
 limits_of ResendPercent = between 5 1000
+limits_of Expect = between 0 4_294_967_295
 
 abbrev pub both_texts : Choices → List ℕ × List ℕ
 both_texts choices = (choices.first.now, choices.second.now)
@@ -123,6 +126,7 @@ choices_of Reserved = None
 choices_of SessionsPerAddress = None
 choices_of TakeoverMs = None
 choices_of ResendPercent = None
+choices_of Expect = None
 
 -- the values of the secret, of the keys of roles and of the defaults, which may have such keys, are printed nowhere
 abbrev pub is_private : Key → Bool
@@ -150,3 +154,4 @@ is_private Reserved = false
 is_private SessionsPerAddress = false
 is_private TakeoverMs = false
 is_private ResendPercent = false
+is_private Expect = false

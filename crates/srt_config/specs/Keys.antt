@@ -1,11 +1,11 @@
 -- The keys of a table and their values (our choice).
-use Rattle.std.specs.Prelude.{ℕ, ℤ, pos, negsuc, Bool, List, Option, None, Some, Result, Ok, Err, if◌then◌else◌}
+use Rattle.std.specs.Prelude.{ℕ, ℤ, pos, negsuc, Bool, false, List, Option, None, Some, Result, Ok, Err, if◌then◌else◌}
 use Rattle.std.specs.List.{list_any}
 use Rattle.std.specs.Str.{bytes_eq}
 use Rattle.std.specs.Ordering.{nat_cmp, is_lt}
 use Rattle.std.specs.Cmp.Lexicographic.{slice_cmp}
 use Rattle.std.specs.Borrow.{Bor}
-use Rattle.toml.specs.Data.{Data, Members, no_members, member, get_member, as_str, as_integer}
+use Rattle.toml.specs.Data.{Data, Members, no_members, member, get_member, as_str, as_integer, as_bool}
 use Rattle.toml.specs.View.{view}
 use Rattle.toml.specs.declared.value.Value.{Value}
 use Rattle.srt_types.specs.Entries.{is_between}
@@ -93,3 +93,16 @@ given_or_0 (Some n) = n
 
 abbrev pub value_seen : Bor Value → Data
 value_seen value = view value.now
+
+-- whether the value of a key is true
+unfoldable pub flag_value : Key → Data → Result Bool Fault
+flag_value key value = of_kind key (as_bool value)
+
+-- the same at a key that may be missing
+unfoldable pub optional_flag_at : Key → Members → Result (Option Bool) Fault
+optional_flag_at key table = optional (flag_value key) (get_member (key_name key) table)
+
+-- false, if the key is missing
+abbrev pub given_or_false : Option Bool → Bool
+given_or_false None = false
+given_or_false (Some given) = given

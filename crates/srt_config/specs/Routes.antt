@@ -14,12 +14,13 @@ use Rattle.srt_lobby.specs.Opening.{is_taken}
 use Rattle.srt_config.specs.declared.config.keys.Key.{Key}
 use Rattle.srt_config.specs.declared.config.keys.Key.TheVariants.{Route, Name, Mode, LatencyMs, Buffer, Sessions, Inbox, Outbox}
 use Rattle.srt_config.specs.declared.config.keys.Key.TheVariants.{OpenRound, CloseRound, Callers, PublishFrom, RequestFrom, PublishKey}
-use Rattle.srt_config.specs.declared.config.keys.Key.TheVariants.{RequestKey, Reserved, SessionsPerAddress, TakeoverMs, ResendPercent}
+use Rattle.srt_config.specs.declared.config.keys.Key.TheVariants.{RequestKey, Reserved, SessionsPerAddress, TakeoverMs, ResendPercent, Expect}
 use Rattle.srt_config.specs.KeyTable.{limits_of}
 use Rattle.srt_config.specs.Access.{access_at}
 use Rattle.srt_config.specs.Rules.{callers_at, draft_if_none, rules_at}
 use Rattle.srt_config.specs.FirstFault.{Fault, WrongKind, OutOfRange, BadName, RepeatedName, ◌>>=◌}
 use Rattle.srt_config.specs.Keys.{known, value_at, text_at, key_number_at, optional_number_at, optional_key_number_at, given_or_0, of_kind}
+use Rattle.srt_config.specs.Keys.{optional_flag_at, given_or_false}
 
 -- a name of the right form that no earlier route has
 unfoldable pub name_in : (before : List Terms) → List ℕ → Result (List ℕ) Fault
@@ -55,7 +56,7 @@ numbers_at table =
 abbrev pub route_keys : List Key
 route_keys =
     Name ∷ Mode ∷ LatencyMs ∷ Buffer ∷ Sessions ∷ Inbox ∷ Outbox ∷ OpenRound ∷ CloseRound ∷ Callers ∷ PublishFrom ∷ RequestFrom ∷
-    PublishKey ∷ RequestKey ∷ Reserved ∷ SessionsPerAddress ∷ TakeoverMs ∷ ResendPercent ∷ []
+    PublishKey ∷ RequestKey ∷ Reserved ∷ SessionsPerAddress ∷ TakeoverMs ∷ ResendPercent ∷ Expect ∷ []
 
 -- a route that anyone may call, and that has the draft's rules
 abbrev pub terms_with : List ℕ → TheMode → Numbers → Terms
@@ -98,13 +99,14 @@ is_later opens (Some n) = nat_lt opens n
 abbrev pub closes_later : Schedule → Bool
 closes_later s = is_later s.open_round s.close_round
 
--- a route's entry and its schedule
+-- a route's entry, its schedule, and whether it is expected to be on air
 pub record Planned : Type 0 where
   pub terms : Terms
   pub schedule : Schedule
+  pub expected : Bool
 
-abbrev pub planned : Terms → Schedule → Planned
-planned terms schedule = record { terms = terms; schedule = schedule }
+abbrev pub planned : Terms → Schedule → (expected : Bool) → Planned
+planned terms schedule expected = record { terms = terms; schedule = schedule; expected = expected }
 
 -- the route in a table, after these routes
 unfoldable pub route_at : (before : List Terms) → Members → Result Planned Fault
@@ -117,18 +119,25 @@ route_at before table =
     callers_at table >>= λ callers.
     access_at table >>= λ access.
     rules_at numbers.sessions (draft_if_none callers) table >>= λ rules.
-    Ok (planned (with_rules rules (with_access access (terms_with name mode numbers))) schedule)
+    optional_flag_at Expect table >>= λ expect.
+    Ok (planned (with_rules rules (with_access access (terms_with name mode numbers))) schedule (given_or_false expect))
 
--- the entries of routes, and as many schedules
+-- the entries of routes, as many schedules, and whether each is expected to be on air
 pub record Routes : Type 0 where
   pub terms : List Terms
   pub schedules : List Schedule
+  pub expected : List Bool
 
 abbrev pub no_routes : Routes
-no_routes = record { terms = []; schedules = [] }
+no_routes = record { terms = []; schedules = []; expected = [] }
 
 abbrev pub with_route : Routes → Planned → Routes
-with_route before route = record { terms = before.terms ++ route.terms ∷ []; schedules = before.schedules ++ route.schedule ∷ [] }
+with_route before route =
+    record {
+      terms = before.terms ++ route.terms ∷ [];
+      schedules = before.schedules ++ route.schedule ∷ [];
+      expected = before.expected ++ route.expected ∷ [];
+    }
 
 -- these routes, and the one in this value
 abbrev pub routes_and : (before : Routes) → Data → Result Routes Fault

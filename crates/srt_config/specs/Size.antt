@@ -1,5 +1,5 @@
 -- The size of a configuration's file (our choice).
-use Rattle.std.specs.Prelude.{ℕ, Bool, true, false, nat_le, ◌&&◌, List, length, Option, None, Some, is_some, if◌then◌else◌}
+use Rattle.std.specs.Prelude.{ℕ, Bool, true, false, nat_le, List, length, Option, None, Some, is_some, if◌then◌else◌}
 use Rattle.toml.specs.Data.{Members, get_member}
 use Rattle.toml.specs.Parse.{parse_document}
 use Rattle.srt_config.specs.declared.config.keys.Key.TheVariants.{Defaults}

@@ -48,8 +48,11 @@ pub struct Config {
     /// The rounds of the poller in which each of them opens and closes, in the same order. A replay has no rounds: it
     /// opens all of them at its start.
     pub schedules: Vec<Schedule>,
+    /// Whether each of them is expected to be on air: one without an active publisher then needs somebody. In the same order.
+    pub expected: Vec<bool>,
     pub ghost served: { is_between 1 16 workers ≡ true },
     pub ghost sound: { fault_of (map terms_of entries.items) ≡ None },
     pub ghost scheduled: { length schedules.items ≡ length entries.items },
     pub ghost later: { list_all closes_later schedules.items ≡ true },
+    pub ghost marked: { length expected.items ≡ length entries.items },
 }

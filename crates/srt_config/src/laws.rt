@@ -5,6 +5,7 @@ ghost use Rattle.srt_config.specs.AllFaultLaws.{FirstIsRead};
 ghost use Rattle.srt_config.specs.PlaceLaws.{PlacesTheFault, PlacesTheDefaults};
 ghost use Rattle.srt_config.specs.DefaultLaws.{OwnBeforeDefault, NoneWithoutDefaults, WrittenOutStays};
 ghost use Rattle.srt_config.specs.ChangeLaws.{SameKeysDecide, SameRequestsNothing, ChangesAreMeant, RunsTheFile};
+ghost use Rattle.srt_config.specs.ChangeLaws.{ExpectationsRequestNothing};
 
 /// The fault of a configuration is that of the first key that has one, in this order: the least unknown key of the
 /// table, `secret`, `bind`, `workers`, `status`, the keys of `defaults`, and `route`; then for each route its least unknown key
@@ -29,12 +30,13 @@ pub fn defaults()
 {}
 
 /// Two routes of configurations are compared exactly: the test says that their keys are the same if, and only if, all of
-/// them have the same values. A configuration that is the same as the one before requests nothing of a running gateway. A
-/// route stays only if all of its keys have the values from before, lists, keys of roles and rules included. Once all
-/// changes are made, the routes that run are those of the file.
+/// them have the same values. A configuration that is the same as the one before requests nothing of a running gateway, also
+/// if other routes are expected to be on air. A route stays only if all of its keys have the values from before, lists, keys of
+/// roles and rules included. Once all changes are made, the routes that run are those of the file.
 pub fn changes()
     ensures keys { SameKeysDecide }
     ensures same { SameRequestsNothing }
+    ensures expectations { ExpectationsRequestNothing }
     ensures meant { ChangesAreMeant }
     ensures runs { RunsTheFile }
 {}

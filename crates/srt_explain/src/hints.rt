@@ -117,6 +117,10 @@ pub(crate) fn of_kind(table: &Table, key: Key) -> Hint
             Some(text) if is_number(text) => Hint::Quoted,
             _ => Hint::Nothing,
         },
+        ValueKind::Boolean => match value.as_str() {
+            Some("true" | "false") => Hint::Quoted,
+            _ => Hint::Nothing,
+        },
         ValueKind::Tables => {
             if value.is_table() {
                 return Hint::OneTable;
@@ -311,9 +315,11 @@ pub(crate) fn of_bad_address(table: &Table, key: Key) -> Hint
 {
     match key.kind() {
         ValueKind::Networks => of_networks(table, key),
-        ValueKind::Text | ValueKind::Number | ValueKind::Table | ValueKind::Tables => {
-            of_address(text_or_empty(table, key))
-        }
+        ValueKind::Text
+        | ValueKind::Number
+        | ValueKind::Boolean
+        | ValueKind::Table
+        | ValueKind::Tables => { of_address(text_or_empty(table, key)) }
     }
 }
 

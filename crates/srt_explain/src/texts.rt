@@ -75,6 +75,7 @@ impl fmt::Display for Allowed {
                 )
             }
             Key::Defaults => f.write_str("keys of a route, below a line [defaults]"),
+            Key::Expect => f.write_str("true and false"),
             Key::PublishFrom | Key::RequestFrom => {
                 write!(
                     f,
@@ -268,6 +269,13 @@ fn write_wrong_kind<W: fmt::Write>(
             write!(f, "{name}: not a text; allowed are {allowed}")
         }
         ValueKind::Text => write!(f, "{name} = {value}: not a text; allowed are {allowed}"),
+        ValueKind::Boolean => {
+            let more = match hint {
+                Hint::Quoted => "; take the quotes away",
+                _ => "",
+            };
+            write!(f, "{name} = {value}: allowed are {allowed}{more}")
+        }
         ValueKind::Number => {
             let more = match hint {
                 Hint::Quoted => "; take the quotes away",

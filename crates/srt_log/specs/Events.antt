@@ -18,7 +18,7 @@ use Rattle.srt_types.specs.declared.shared.NotAdmitted.TheVariants as obstacles
 use Rattle.srt_log.specs.declared.events.LogEvent.{LogEvent}
 use Rattle.srt_log.specs.declared.events.LogEvent.TheVariants as events
 use Rattle.srt_log.specs.Texts.{put, id_text, escaped_all}
-use Rattle.srt_log.specs.Peers.{peer_text, socket_text}
+use Rattle.srt_log.specs.Peers.{ip_text, peer_text, socket_text}
 use Rattle.srt_log.specs.ConfigEvents.{config_text}
 
 abbrev pub role_text : Role → List ℕ
@@ -99,6 +99,15 @@ refused_text code peer name by =
     peer_text peer ++ codes " refused, " ++ decimal code ++ code_text code ++ codes ", asked for \"" ++ escaped_all name ++ codes "\""
     ++ refused_by_text by
 
+-- the reason of a refusal, and what was requested
+abbrev pub asked_text : (code : ℕ) → (name : List ℕ) → Option NotAdmitted → List ℕ
+asked_text code name by =
+    decimal code ++ code_text code ++ codes ", asked for \"" ++ escaped_all name ++ codes "\"" ++ refused_by_text by
+
+abbrev pub refused_again_text : (ip : List ℕ) → (code : ℕ) → (name : List ℕ) → Option NotAdmitted → (count : ℕ) → List ℕ
+refused_again_text ip code name by count =
+    ip_text ip ++ codes " refused " ++ decimal count ++ codes " more times, " ++ asked_text code name by
+
 -- how many conclusions each limit of a route refused
 abbrev pub limits_text : (full reserved per_address : ℕ) → List ℕ
 limits_text full reserved per_address =
@@ -110,6 +119,13 @@ limited_text route full reserved per_address =
 
 abbrev pub unseen_text : (route : List ℕ) → (opened : ℕ) → List ℕ
 unseen_text route opened = escaped_all route ++ codes ": " ++ decimal opened ++ codes " sessions opened and ended unseen"
+
+-- how long a route that is expected to be on air has had no encoder; nothing as that begins
+abbrev pub lasting_text : (minutes : ℕ) → List ℕ
+lasting_text minutes = if minutes == 0 then [] else codes " for " ++ decimal minutes ++ codes " minutes"
+
+abbrev pub absent_text : (route : List ℕ) → (minutes : ℕ) → List ℕ
+absent_text route minutes = escaped_all route ++ codes ": expected on air, no encoder" ++ lasting_text minutes
 
 abbrev pub unblocked_text : List ℕ
 unblocked_text = codes "SIGINT or SIGTERM ends the gateway at once, without a report: bin/srtgw run blocks them"
@@ -146,8 +162,10 @@ event_text (events.Ended caller reason lasted_ms counts clock) = ended_text call
 event_text (events.TookOver caller) = took_over_text caller
 event_text (events.Troubled caller trouble) = troubled_text caller trouble
 event_text (events.Refused code peer name by) = refused_text code peer name.now by
+event_text (events.RefusedAgain ip code name by count) = refused_again_text ip code name.now by count
 event_text (events.Limited route full reserved per_address) = limited_text route.now full reserved per_address
 event_text (events.Unseen route opened) = unseen_text route.now opened
+event_text (events.Absent route minutes) = absent_text route.now minutes
 event_text (events.Config event) = config_text event
 event_text events.Unblocked = unblocked_text
 event_text (events.Warned warning) = escaped_all warning.now

@@ -17,7 +17,7 @@ use Rattle.srt_log.specs.declared.events.Trouble.TheVariants as troubles
 use Rattle.srt_log.specs.declared.events.LogEvent.{LogEvent}
 use Rattle.srt_log.specs.declared.events.LogEvent.TheVariants as events
 use Rattle.srt_log.specs.Texts.{put, id_text, escaped_all}
-use Rattle.srt_log.specs.Peers.{peer_text, socket_text}
+use Rattle.srt_log.specs.Peers.{ip_text, peer_text, socket_text}
 use Rattle.srt_log.specs.Events.{event_text}
 use Rattle.srt_log.specs.Members.{text_member, number_member, signed_member, flag_member, shown_member, number_if}
 use Rattle.srt_log.specs.ConfigObjects.{config_kind, config_members}
@@ -30,8 +30,10 @@ kind_of (events.Ended caller reason lasted_ms counts clock) = codes "ended"
 kind_of (events.TookOver caller) = codes "took_over"
 kind_of (events.Troubled caller trouble) = codes "troubled"
 kind_of (events.Refused code peer name by) = codes "refused"
+kind_of (events.RefusedAgain ip code name by count) = codes "refused_again"
 kind_of (events.Limited route full reserved per_address) = codes "limited"
 kind_of (events.Unseen route opened) = codes "unseen"
+kind_of (events.Absent route minutes) = codes "absent"
 kind_of (events.Config event) = config_kind event
 kind_of events.Unblocked = codes "unblocked"
 kind_of (events.Warned warning) = codes "warning"
@@ -120,6 +122,14 @@ unfoldable pub refused_members : (code : ℕ) → Peer → (name : List ℕ) →
 refused_members code peer name by =
     number_member (codes "code") code ++ peer_member peer ++ shown_member (codes "name") name ++ cause_member by
 
+abbrev pub address_member : (ip : List ℕ) → List ℕ
+address_member ip = text_member (codes "address") (put [] (ip_text ip))
+
+unfoldable pub refused_again_members : (ip : List ℕ) → (code : ℕ) → (name : List ℕ) → Option NotAdmitted → (count : ℕ) → List ℕ
+refused_again_members ip code name by count =
+    number_member (codes "code") code ++ address_member ip ++ shown_member (codes "name") name ++ cause_member by
+    ++ number_member (codes "count") count
+
 unfoldable pub limited_members : (route : List ℕ) → (full reserved per_address : ℕ) → List ℕ
 limited_members route full reserved per_address =
     shown_member (codes "route") route ++ number_member (codes "no_free_session") full ++ number_member (codes "reserved") reserved
@@ -130,6 +140,9 @@ unseen_members route opened = shown_member (codes "route") route ++ number_membe
 
 abbrev pub bind_member : (ip : List ℕ) → (port : ℕ) → List ℕ
 bind_member ip port = text_member (codes "bind") (put [] (socket_text ip port))
+
+unfoldable pub absent_members : (route : List ℕ) → (minutes : ℕ) → List ℕ
+absent_members route minutes = shown_member (codes "route") route ++ number_member (codes "minutes") minutes
 
 unfoldable pub started_members : (ip : List ℕ) → (port routes workers memory : ℕ) → List ℕ
 started_members ip port routes workers memory =
@@ -149,8 +162,10 @@ event_members (events.Ended caller reason lasted_ms counts clock) = ended_member
 event_members (events.TookOver caller) = caller_members caller
 event_members (events.Troubled caller trouble) = troubled_members caller trouble
 event_members (events.Refused code peer name by) = refused_members code peer name.now by
+event_members (events.RefusedAgain ip code name by count) = refused_again_members ip code name.now by count
 event_members (events.Limited route full reserved per_address) = limited_members route.now full reserved per_address
 event_members (events.Unseen route opened) = unseen_members route.now opened
+event_members (events.Absent route minutes) = absent_members route.now minutes
 event_members (events.Config event) = config_members event
 event_members events.Unblocked = []
 event_members (events.Warned warning) = shown_member (codes "warning") warning.now

@@ -142,6 +142,19 @@ pub enum LogEvent<'a> {
         /// The reason for the rejection, if that is known.
         by: Option<NotAdmitted>,
     },
+    /// A caller was refused again since its last line, for the same name and reason.
+    RefusedAgain {
+        /// Its address; an IPv4 address is `::ffff:a.b.c.d`.
+        ip: [u8; 16],
+        /// The number of the reason.
+        code: u32,
+        /// The name that it requested, or its first bytes.
+        name: &'a [u8],
+        /// The reason for the rejection, if that is known.
+        by: Option<NotAdmitted>,
+        /// How often.
+        count: u64,
+    },
     /// The limits of a route refused conclusions with 1003 between two snapshots. Each of these has its own line.
     Limited {
         /// The route's name.
@@ -159,6 +172,13 @@ pub enum LogEvent<'a> {
         route: &'a [u8],
         /// Their number.
         opened: u64,
+    },
+    /// A route that is expected to be on air has no active publisher.
+    Absent {
+        /// The route's name.
+        route: &'a [u8],
+        /// For how many minutes, in tens; 0 as that begins.
+        minutes: u64,
     },
     /// An event of a configuration that was changed while the gateway runs.
     Config {

@@ -5,7 +5,7 @@ ghost use Rattle.srt_log.specs.Objects.{kind_of, role_name, peer_member, id_memb
 ghost use Rattle.srt_log.specs.Objects.{counts_members, drift_members, clock_members, ended_members, trouble_name, troubled_members};
 ghost use Rattle.srt_log.specs.Objects.{list_name, key_name, obstacle_name, cause_member, refused_members, limited_members, unseen_members};
 ghost use Rattle.srt_log.specs.Objects.{started_members, stop_name, event_members, time_member, kind_member, bind_member, line_member};
-ghost use Rattle.srt_log.specs.Objects.{object_text};
+ghost use Rattle.srt_log.specs.Objects.{object_text, absent_members, address_member, refused_again_members};
 ghost use Rattle.srt_log.specs.Members.{text_member};
 ghost use Rattle.srt_log.specs.Texts.{put};
 ghost use Rattle.srt_log.specs.Events.{event_text};
@@ -16,7 +16,7 @@ use crate::line::Line;
 use crate::members::{
     put, put_flag, put_micros, put_number, put_number_if, put_shown, put_signed, put_text,
 };
-use crate::peers::{put_peer, put_socket};
+use crate::peers::{put_ip, put_peer, put_socket};
 use crate::writing::put_event;
 use srt_types::{NotAdmitted, Peer, Role};
 use std::alloc::AllocError;
@@ -32,8 +32,10 @@ fn kind_of(event: LogEvent<'_>) -> &'static str
         LogEvent::TookOver { .. } => "took_over",
         LogEvent::Troubled { .. } => "troubled",
         LogEvent::Refused { .. } => "refused",
+        LogEvent::RefusedAgain { .. } => "refused_again",
         LogEvent::Limited { .. } => "limited",
         LogEvent::Unseen { .. } => "unseen",
+        LogEvent::Absent { .. } => "absent",
         LogEvent::Config { event } => config_kind(event),
         LogEvent::Unblocked => "unblocked",
         LogEvent::Warned { .. } => "warning",
@@ -243,6 +245,33 @@ fn put_refused(
     put_obstacle(out, by)
 }
 
+/// Puts an address without a port.
+fn put_address(out: &mut Vec<u8>, ip: [u8; 16]) -> Result<(), AllocError>
+    ensures { OnOk result (out.new.items ≡ out.old.items ++ address_member ip) }
+{
+    let mut piece = Line::new();
+    put_ip(&mut piece, ip);
+    put_text(out, b"address", &piece.text)
+}
+
+#[tactic(auto, using(crate::proofs::Growing::joined), unfolding(crate::specs::Objects::refused_again_members))]
+fn put_refused_again(
+    out: &mut Vec<u8>,
+    ip: [u8; 16],
+    code: u32,
+    name: &[u8],
+    by: Option<NotAdmitted>,
+    count: u64,
+) -> Result<(), AllocError>
+    ensures { OnOk result (out.new.items ≡ out.old.items ++ refused_again_members ip code name.now by count) }
+{
+    put_number(out, b"code", u64::from(code))?;
+    put_address(out, ip)?;
+    put_shown(out, b"name", name)?;
+    put_obstacle(out, by)?;
+    put_number(out, b"count", count)
+}
+
 #[tactic(auto, using(crate::proofs::Growing::joined), unfolding(crate::specs::Objects::limited_members))]
 fn put_limited(
     out: &mut Vec<u8>,
@@ -265,6 +294,14 @@ fn put_unseen(out: &mut Vec<u8>, route: &[u8], opened: u64) -> Result<(), AllocE
 {
     put_shown(out, b"route", route)?;
     put_number(out, b"sessions", opened)
+}
+
+#[tactic(auto, using(crate::proofs::Growing::joined), unfolding(crate::specs::Objects::absent_members))]
+fn put_absent(out: &mut Vec<u8>, route: &[u8], minutes: u64) -> Result<(), AllocError>
+    ensures { OnOk result (out.new.items ≡ out.old.items ++ absent_members route.now minutes) }
+{
+    put_shown(out, b"route", route)?;
+    put_number(out, b"minutes", minutes)
 }
 
 #[tactic(auto, using(crate::proofs::Growing::joined), unfolding(crate::specs::Objects::started_members))]
@@ -326,6 +363,13 @@ fn put_members(out: &mut Vec<u8>, event: LogEvent<'_>) -> Result<(), AllocError>
             name,
             by,
         } => put_refused(out, code, peer, name, by),
+        LogEvent::RefusedAgain {
+            ip,
+            code,
+            name,
+            by,
+            count,
+        } => put_refused_again(out, ip, code, name, by, count),
         LogEvent::Limited {
             route,
             full,
@@ -333,6 +377,7 @@ fn put_members(out: &mut Vec<u8>, event: LogEvent<'_>) -> Result<(), AllocError>
             per_address,
         } => put_limited(out, route, full, reserved, per_address),
         LogEvent::Unseen { route, opened } => put_unseen(out, route, opened),
+        LogEvent::Absent { route, minutes } => put_absent(out, route, minutes),
         LogEvent::Config { event } => put_config(out, event),
         LogEvent::Warned { warning } => put_shown(out, b"warning", warning),
         LogEvent::SocketFaults { count }

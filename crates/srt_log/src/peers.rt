@@ -130,7 +130,7 @@ fn put_ipv6(line: &mut Line, ip: [u8; 16])
 }
 
 /// Puts an address: the four numbers of an IPv4 address, else the groups of an IPv6 address in brackets (RFC 5952).
-fn put_ip(line: &mut Line, ip: [u8; 16])
+pub(crate) fn put_ip(line: &mut Line, ip: [u8; 16])
     ensures { line.new.text.items ≡ put line.old.text.items (ip_text ip) }
 {
     if ip[..12] == MAPPED[..] {

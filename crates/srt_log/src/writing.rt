@@ -6,12 +6,13 @@ ghost use Rattle.srt_log.specs.Texts.{put};
 ghost use Rattle.srt_log.specs.Events.{role_text, caller_text, latency_text, opened_text, session_opened_text, took_over_text};
 ghost use Rattle.srt_log.specs.Events.{trouble_text, troubled_text, reason_text, counts_text, clock_text, ended_text, code_text, started_text};
 ghost use Rattle.srt_log.specs.Events.{list_text, key_text, refused_by_text, refused_text, limits_text, limited_text, unseen_text, unblocked_text};
-ghost use Rattle.srt_log.specs.Events.{count_text, cause_text, event_text, time_text, line_text};
+ghost use Rattle.srt_log.specs.Events.{count_text, cause_text, event_text, time_text, line_text, lasting_text, absent_text};
+ghost use Rattle.srt_log.specs.Events.{asked_text, refused_again_text};
 
 use crate::config_lines::put_config;
 use crate::events::{Caller, ClockDrift, EndReason, LogEvent, SessionCounts, StopCause, Trouble};
 use crate::line::Line;
-use crate::peers::{put_peer, put_socket};
+use crate::peers::{put_ip, put_peer, put_socket};
 use arrayvec::ArrayVec;
 use srt_types::product_limits::MAX_LOG_LINE;
 use srt_types::{NotAdmitted, Peer, Role};
@@ -278,6 +279,38 @@ fn put_refused(line: &mut Line, code: u32, peer: Peer, name: &[u8], by: Option<N
     put_refused_by(line, by);
 }
 
+/// Puts the reason of a refusal, and what was requested.
+#[tactic(auto, using(crate::proofs::Puts::put_put))]
+fn put_asked(line: &mut Line, code: u32, name: &[u8], by: Option<NotAdmitted>)
+    ensures { line.new.text.items ≡ put line.old.text.items (asked_text code name.now by) }
+{
+    line.put_small(code);
+    put_code_name(line, code);
+    line.put(b", asked for \"");
+    line.put_escaped(name);
+    line.put(b"\"");
+    put_refused_by(line, by);
+}
+
+/// Puts how often a caller was refused again.
+#[tactic(auto, using(crate::proofs::Puts::put_put))]
+fn put_refused_again(
+    line: &mut Line,
+    ip: [u8; 16],
+    code: u32,
+    name: &[u8],
+    by: Option<NotAdmitted>,
+    count: u64,
+)
+    ensures { line.new.text.items ≡ put line.old.text.items (refused_again_text ip code name.now by count) }
+{
+    put_ip(line, ip);
+    line.put(b" refused ");
+    line.put_number(count);
+    line.put(b" more times, ");
+    put_asked(line, code, name, by);
+}
+
 /// Puts how many conclusions each limit of a route refused.
 #[tactic(auto, using(crate::proofs::Puts::put_put))]
 fn put_limits(line: &mut Line, full: u64, reserved: u64, per_address: u64)
@@ -308,6 +341,29 @@ fn put_unseen(line: &mut Line, route: &[u8], opened: u64)
     line.put(b": ");
     line.put_number(opened);
     line.put(b" sessions opened and ended unseen");
+}
+
+/// Puts how long a route has had no encoder; nothing as that begins.
+#[tactic(auto, using(crate::proofs::Puts::put_put))]
+fn put_lasting(line: &mut Line, minutes: u64)
+    ensures { line.new.text.items ≡ put line.old.text.items (lasting_text minutes) }
+{
+    if minutes == 0 {
+        line.put(b"");
+    } else {
+        line.put(b" for ");
+        line.put_number(minutes);
+        line.put(b" minutes");
+    }
+}
+
+#[tactic(auto, using(crate::proofs::Puts::put_put))]
+fn put_absent(line: &mut Line, route: &[u8], minutes: u64)
+    ensures { line.new.text.items ≡ put line.old.text.items (absent_text route.now minutes) }
+{
+    line.put_escaped(route);
+    line.put(b": expected on air, no encoder");
+    put_lasting(line, minutes);
 }
 
 /// The text of a start without blocked signals.
@@ -356,6 +412,13 @@ pub(crate) fn put_event(line: &mut Line, event: LogEvent<'_>)
             name,
             by,
         } => put_refused(line, code, peer, name, by),
+        LogEvent::RefusedAgain {
+            ip,
+            code,
+            name,
+            by,
+            count,
+        } => put_refused_again(line, ip, code, name, by, count),
         LogEvent::Limited {
             route,
             full,
@@ -363,6 +426,7 @@ pub(crate) fn put_event(line: &mut Line, event: LogEvent<'_>)
             per_address,
         } => put_limited(line, route, full, reserved, per_address),
         LogEvent::Unseen { route, opened } => put_unseen(line, route, opened),
+        LogEvent::Absent { route, minutes } => put_absent(line, route, minutes),
         LogEvent::Config { event } => put_config(line, event),
         LogEvent::Unblocked => line.put(UNBLOCKED),
         LogEvent::Warned { warning } => line.put_escaped(warning),

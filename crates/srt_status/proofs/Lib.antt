@@ -4,3 +4,4 @@ pub mod Pieces
 pub mod Requested
 pub mod Minutes
 pub mod Trips
+pub mod Expected

@@ -13,6 +13,8 @@ use Rattle.srt_status.specs.declared.gateway.GatewayStatus.{GatewayStatus}
 use Rattle.srt_status.specs.declared.gateway.RefusalCounts.{RefusalCounts}
 use Rattle.srt_status.specs.declared.routes.RouteStatus.{RouteStatus}
 use Rattle.srt_status.specs.declared.routes.LimitCounts.{LimitCounts}
+use Rattle.srt_status.specs.declared.expectation.Expectation.{Expectation}
+use Rattle.srt_status.specs.Expectations.{seconds_absent}
 use Rattle.srt_status.specs.declared.figures.Amount.{Amount}
 use Rattle.srt_status.specs.declared.figures.Amount.TheVariants.{Number, Micros, SignedMicros, PartsPerMillion}
 use Rattle.srt_status.specs.declared.figures.Count.{Count}
@@ -414,6 +416,8 @@ abbrev pub figure_name : RouteFigure → List ℕ
 figure_name figures.Allowed = codes "allowed_sessions"
 figure_name figures.Opened = codes "opened_sessions_total"
 figure_name figures.TakeOvers = codes "take_overs_total"
+figure_name figures.Expected = codes "expected"
+figure_name figures.Absent = codes "absent_seconds"
 figure_name figures.RefusedFull = codes "refused_sessions_total"
 figure_name figures.RefusedReserved = codes "refused_reserved_total"
 figure_name figures.RefusedAddress = codes "refused_sessions_per_address_total"
@@ -423,6 +427,8 @@ abbrev pub figure_help : RouteFigure → List ℕ
 figure_help figures.Allowed = codes "The greatest number of open sessions."
 figure_help figures.Opened = codes "Sessions opened since the start."
 figure_help figures.TakeOvers = codes "How often a standby became the active publisher."
+figure_help figures.Expected = codes "1 for a route that is expected to be on air."
+figure_help figures.Absent = codes "How long a route that is expected to be on air has had no active publisher, else 0."
 figure_help figures.RefusedFull = codes "Conclusions refused with 1003: no slot is free."
 figure_help figures.RefusedReserved = codes "Conclusions refused with 1003: the free slots are reserved for publishers."
 figure_help figures.RefusedAddress = codes "Conclusions refused with 1003: the address has all its sessions."
@@ -432,6 +438,8 @@ abbrev pub figure_kind : RouteFigure → List ℕ
 figure_kind figures.Allowed = codes "gauge"
 figure_kind figures.Opened = codes "counter"
 figure_kind figures.TakeOvers = codes "counter"
+figure_kind figures.Expected = codes "gauge"
+figure_kind figures.Absent = codes "gauge"
 figure_kind figures.RefusedFull = codes "counter"
 figure_kind figures.RefusedReserved = codes "counter"
 figure_kind figures.RefusedAddress = codes "counter"
@@ -447,13 +455,26 @@ abbrev pub limit_if_known : RouteFigure → Option LimitCounts → Option ℕ
 limit_if_known figure (Some limits) = limit_figure figure limits
 limit_if_known figure None = None
 
+-- a route of which it is expected
+abbrev pub one_if_some : Option Expectation → Option ℕ
+one_if_some None = None
+one_if_some (Some e) = Some 1
+
+abbrev pub absent_if : Option Expectation → Option ℕ
+absent_if None = None
+absent_if (Some e) = Some (seconds_absent e)
+
 -- this of a route
 abbrev pub route_figure : RouteFigure → RouteStatus → Option ℕ
 route_figure figures.Allowed route = Some route.sessions_allowed
 route_figure figures.Opened route = Some route.opened
 route_figure figures.TakeOvers route = route.take_overs
+route_figure figures.Expected route = one_if_some route.expectation
+route_figure figures.Absent route = absent_if route.expectation
 route_figure figure route = limit_if_known figure route.limits
 
 -- all of them, in the order in which they are shown
 abbrev pub all_figures : List RouteFigure
-all_figures = figures.Allowed ∷ figures.Opened ∷ figures.TakeOvers ∷ figures.RefusedFull ∷ figures.RefusedReserved ∷ figures.RefusedAddress ∷ []
+all_figures =
+    figures.Allowed ∷ figures.Opened ∷ figures.TakeOvers ∷ figures.Expected ∷ figures.Absent ∷ figures.RefusedFull ∷ figures.RefusedReserved
+    ∷ figures.RefusedAddress ∷ []

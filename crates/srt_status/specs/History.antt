@@ -1,5 +1,5 @@
 -- The last hour of a route, minute by minute (our choice), and its JSON text.
-use Rattle.std.specs.Prelude.{ℕ, ◌-◌, ◌/◌, nat_le, Bool, true, false, List, [], ◌∷◌, ◌++◌, drop, replicate, codes, decimal, Option, None, Some, string_bytes}
+use Rattle.std.specs.Prelude.{ℕ, ◌-◌, ◌/◌, nat_le, Bool, List, [], ◌∷◌, ◌++◌, drop, replicate, codes, decimal, Option, None, Some, string_bytes}
 use Rattle.std.specs.Prelude.{if◌then◌else◌}
 use Rattle.std.specs.List.{flat_map}
 use Rattle.srt_route.specs.declared.view.SessionView.{SessionView}

@@ -1,5 +1,7 @@
 -- The labels of families that are counted by a cause, and the count of each.
-use Rattle.std.specs.Prelude.{ℕ, List, [], ◌∷◌, codes}
+use Rattle.std.specs.Prelude.{ℕ, ◌+◌, ◌-◌, ◌^◌, min, List, [], ◌∷◌, codes, Option, None, Some}
+use Rattle.srt_route.specs.declared.ledger.EndCause.{EndCause}
+use Rattle.srt_route.specs.declared.ledger.EndCause.TheVariants as ends
 use Rattle.srt_status.specs.declared.gateway.CauseCounts.{CauseCounts}
 use Rattle.srt_status.specs.declared.routes.EndCounts.{EndCounts}
 use Rattle.srt_status.specs.declared.labels.Cause.{Cause}
@@ -54,3 +56,18 @@ abbrev pub all_endings : List Ending
 all_endings =
     endings.Shutdown ∷ endings.DrainedTooLong ∷ endings.Silence ∷ endings.WindowLost ∷ endings.StreamEnd ∷ endings.RouteClosed
     ∷ endings.Unknown ∷ []
+
+-- one more, up to 2^64 - 1
+abbrev pub one_more : ℕ → ℕ
+one_more n = min (n + 1) (2 ^ 64 - 1)
+
+-- the counts after an end for this reason, or for one that isn't known
+abbrev pub with_end : EndCounts → Option EndCause → EndCounts
+with_end counts None = record counts { unknown = one_more counts.unknown }
+with_end counts (Some ends.Shutdown) = record counts { shutdown = one_more counts.shutdown }
+with_end counts (Some ends.Drained) = record counts { shutdown = one_more counts.shutdown }
+with_end counts (Some ends.DrainedTooLong) = record counts { drained_too_long = one_more counts.drained_too_long }
+with_end counts (Some ends.Silence) = record counts { silence = one_more counts.silence }
+with_end counts (Some ends.WindowLost) = record counts { window_lost = one_more counts.window_lost }
+with_end counts (Some ends.FileEnded) = record counts { stream_end = one_more counts.stream_end }
+with_end counts (Some ends.Closed) = record counts { route_closed = one_more counts.route_closed }

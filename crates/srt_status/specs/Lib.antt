@@ -1,5 +1,6 @@
 pub mod Texts
 pub mod Peers
+pub mod Expectations
 pub mod Figures
 pub mod Process
 pub mod Labels

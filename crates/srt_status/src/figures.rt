@@ -5,8 +5,9 @@ ghost use Rattle.srt_status.specs.Figures.{count_name, count_help, publisher_cou
 ghost use Rattle.srt_status.specs.Figures.{publisher_amount, subscriber_amount, latency_amount, round_trip_of, variance_of, trip_amount, traffic_amount};
 ghost use Rattle.srt_status.specs.Figures.{correction_of, ppm_of, drift_amount, correction_amount, repeats_of, session_count, total_name};
 ghost use Rattle.srt_status.specs.Figures.{total_help, total_kind, total_value, reason_labels, reason_name, refusal_count, figure_name};
-ghost use Rattle.srt_status.specs.Figures.{figure_help, figure_kind, limit_figure, route_figure};
+ghost use Rattle.srt_status.specs.Figures.{figure_help, figure_kind, limit_figure, route_figure, one_if_some, absent_if};
 
+use crate::expectation::Expectation;
 use crate::gateway::{GatewayStatus, RefusalCounts};
 use crate::routes::{LimitCounts, RouteStatus};
 use srt_route::{SessionView, Traffic};
@@ -653,16 +654,20 @@ pub(crate) enum RouteFigure {
     Allowed,
     Opened,
     TakeOvers,
+    Expected,
+    Absent,
     RefusedFull,
     RefusedReserved,
     RefusedAddress,
 }
 
 /// All metrics of a route that aren't counted by its sessions, in the order in which they are shown.
-pub(crate) const ROUTE_FIGURES: [RouteFigure; 6] = [
+pub(crate) const ROUTE_FIGURES: [RouteFigure; 8] = [
     RouteFigure::Allowed,
     RouteFigure::Opened,
     RouteFigure::TakeOvers,
+    RouteFigure::Expected,
+    RouteFigure::Absent,
     RouteFigure::RefusedFull,
     RouteFigure::RefusedReserved,
     RouteFigure::RefusedAddress,
@@ -675,6 +680,8 @@ pub(crate) fn figure_name(figure: RouteFigure) -> &'static str
         RouteFigure::Allowed => "allowed_sessions",
         RouteFigure::Opened => "opened_sessions_total",
         RouteFigure::TakeOvers => "take_overs_total",
+        RouteFigure::Expected => "expected",
+        RouteFigure::Absent => "absent_seconds",
         RouteFigure::RefusedFull => "refused_sessions_total",
         RouteFigure::RefusedReserved => "refused_reserved_total",
         RouteFigure::RefusedAddress => "refused_sessions_per_address_total",
@@ -688,6 +695,9 @@ pub(crate) fn figure_help(figure: RouteFigure) -> &'static str
         RouteFigure::Allowed => "The greatest number of open sessions.",
         RouteFigure::Opened => "Sessions opened since the start.",
         RouteFigure::TakeOvers => "How often a standby became the active publisher.",
+        RouteFigure::Expected => "1 for a route that is expected to be on air.",
+        RouteFigure::Absent =>
+            "How long a route that is expected to be on air has had no active publisher, else 0.",
         RouteFigure::RefusedFull => "Conclusions refused with 1003: no slot is free.",
         RouteFigure::RefusedReserved =>
             "Conclusions refused with 1003: the free slots are reserved for publishers.",
@@ -701,7 +711,7 @@ pub(crate) fn figure_kind(figure: RouteFigure) -> &'static str
     ensures { result.now ≡ figure_kind figure }
 {
     match figure {
-        RouteFigure::Allowed => "gauge",
+        RouteFigure::Allowed | RouteFigure::Expected | RouteFigure::Absent => "gauge",
         _ => "counter",
     }
 }
@@ -718,6 +728,26 @@ fn limit_figure(figure: RouteFigure, limits: &LimitCounts) -> Option<u64>
     }
 }
 
+/// 1 for a route of which it is expected to be on air.
+fn one_if_some(expectation: &Option<Expectation>) -> Option<u64>
+    ensures { result ≡ one_if_some expectation.now }
+{
+    match expectation {
+        Some(_) => Some(1),
+        None => None,
+    }
+}
+
+/// For how many seconds such a route has had no active publisher.
+fn absent_if(expectation: &Option<Expectation>) -> Option<u64>
+    ensures { result ≡ absent_if expectation.now }
+{
+    match expectation {
+        Some(expectation) => Some(expectation.seconds_absent()),
+        None => None,
+    }
+}
+
 /// This of a route; None if it isn't known.
 pub(crate) fn route_figure(figure: RouteFigure, route: &RouteStatus) -> Option<u64>
     ensures { result ≡ route_figure figure route.now }
@@ -726,6 +756,8 @@ pub(crate) fn route_figure(figure: RouteFigure, route: &RouteStatus) -> Option<u
         RouteFigure::Allowed => Some(u64::from(route.sessions_allowed)),
         RouteFigure::Opened => Some(route.opened),
         RouteFigure::TakeOvers => route.take_overs,
+        RouteFigure::Expected => one_if_some(&route.expectation),
+        RouteFigure::Absent => absent_if(&route.expectation),
         _ => match &route.limits {
             Some(limits) => limit_figure(figure, limits),
             None => None,

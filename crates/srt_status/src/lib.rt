@@ -5,7 +5,8 @@
 //!
 //! Types: [`GatewayStatus`] (`gateway.rt`) and [`RouteStatus`] (`routes.rt`), the snapshots; [`Request`] (`request.rt`);
 //! [`Connection`] (`connection.rt`), the state of one connection; [`EventRing`] (`events.rt`), the last lines of the log, and
-//! [`RouteHistory`] (`history.rt`), the last hour of a route, both in fixed memory. A session is an `srt_route::SessionView`, the poller's
+//! [`RouteHistory`] (`history.rt`), the last hour of a route, both in fixed memory; [`Expectation`] (`expectation.rt`), that a route is on
+//! air. A session is an `srt_route::SessionView`, the poller's
 //! counters are an `srt_supervision::Report`.
 //!
 //! Calls: [`put_metrics`] (`metrics.rt`) and [`put_json`] (`json.rt`) put the snapshots into a text, [`request_in`] reads
@@ -16,11 +17,13 @@
 
 mod connection;
 mod events;
+mod expectation;
 mod figures;
 mod gateway;
 mod history;
 mod json;
 mod labels;
+pub mod laws;
 mod metrics;
 mod page;
 mod peers;
@@ -32,6 +35,7 @@ mod text;
 
 pub use connection::Connection;
 pub use events::{Event, EventRing, MAX_EVENT_TEXT, MAX_EVENTS, MAX_REFUSALS_IN_A_ROW};
+pub use expectation::{Expectation, expected_if};
 pub use gateway::{CauseCounts, ChangeCounts, GatewayStatus, ProcessUse, RefusalCounts};
 pub use history::{HISTORY_MINUTES, Minute, RouteHistory, round_trip_in};
 pub use json::put_json;
@@ -41,6 +45,8 @@ pub use request::{Method, Page, Request, request_in};
 pub use response::respond;
 pub use routes::{EndCounts, LimitCounts, RouteStatus};
 
+#[cfg(test)]
+mod expectation_tests;
 #[cfg(test)]
 mod recent_tests;
 #[cfg(test)]

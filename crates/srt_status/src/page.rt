@@ -503,10 +503,13 @@ function judge(route) {
   const waits = players.length - strays;
   const eager = Math.max(0, ...players.map((s) => s.session.open_seconds));
   const isSilent = encoder && encoder.session.silent_seconds > 2;
+  const isAbsent = !encoder && route.expected === 1;
+  past.absent = isAbsent ? past.absent || Date.now() - 1000 * (route.absent_seconds || 0) : null;
+  add(isAbsent, "bad", "expected on air: no encoder since " + clockTime(past.absent).slice(0, 5));
   add(strays, "bad", strays + (strays === 1 ? " encoder" : " encoders") + " without m=publish");
   add(!encoder && waits && eager > WAITS, "bad", "no encoder, " + waits + (waits === 1 ? " player waits" : " players wait"));
   add(isSilent, "bad", "encoder silent for " + lasted(isSilent ? encoder.session.silent_seconds : 0));
-  add(!encoder && past.since && Date.now() - past.since < OFF_AIR, "warn", "encoder gone since " + clockTime(past.since));
+  add(!encoder && !isAbsent && past.since && Date.now() - past.since < OFF_AIR, "warn", "encoder gone since " + clockTime(past.since));
   const lost = encoder ? recent(encoder.past, "lost") : 0;
   const losers = players.filter((s) => recent(s.past, "lost"));
   add(lost, "bad", "encoder's line lost " + count(lost) + " packets");
@@ -519,7 +522,7 @@ function judge(route) {
   const lostByPlayers = losers.reduce((sum, s) => sum + recent(s.past, "lost"), 0);
   return {
     sessions, encoder, isStandby, players: waits, why, since: past.since, lost: lost + lostByPlayers,
-    isOnAir: !!encoder && !isSilent, isWaiting: !encoder && waits > 0, isSilent,
+    isOnAir: !!encoder && !isSilent, isWaiting: !encoder && waits > 0, isSilent, isAbsent,
     level: why.some((w) => w[0] === "bad") ? "bad" : why.length ? "warn" : "",
     hadStream: !!route.publishers.received_packets_total,
   };
@@ -529,6 +532,7 @@ function badge(view) {
   if (view.encoder) return ["good", view.isStandby ? "on air +1" : "on air"];
   if (view.isStandby) return ["warn", "standby"];
   if (view.sessions.length) return ["bad", "waiting"];
+  if (view.isAbsent) return ["bad", "off air"];
   return ["", "off air"];
 }
 function showRoute(parts, route, view) {

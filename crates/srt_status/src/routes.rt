@@ -1,8 +1,12 @@
 //! The state of a route, as the page shows it.
 
+ghost use Rattle.std.specs.Prelude.{◌≡◌};
+ghost use Rattle.srt_status.specs.Labels.{with_end};
+
+use crate::expectation::Expectation;
 use crate::gateway::RefusalCounts;
 use crate::history::RouteHistory;
-use srt_route::{SessionView, Totals};
+use srt_route::{EndCause, SessionView, Totals};
 use srt_types::Mode;
 use srt_types::product_limits::MAX_SESSIONS;
 
@@ -36,6 +40,30 @@ pub struct EndCounts {
     pub unknown: u64,
 }
 
+impl EndCounts {
+    /// Counts the end of a session, by its reason if that is known. A count stops at 2^64 - 1.
+    pub fn count(&mut self, cause: Option<EndCause>)
+        ensures { self.new ≡ with_end self.old cause }
+    {
+        let Some(cause) = cause else {
+            self.unknown = self.unknown.saturating_add(1);
+            return;
+        };
+        match cause {
+            EndCause::Shutdown | EndCause::Drained => {
+                self.shutdown = self.shutdown.saturating_add(1);
+            }
+            EndCause::DrainedTooLong => {
+                self.drained_too_long = self.drained_too_long.saturating_add(1);
+            }
+            EndCause::Silence => self.silence = self.silence.saturating_add(1),
+            EndCause::WindowLost => self.window_lost = self.window_lost.saturating_add(1),
+            EndCause::FileEnded => self.stream_end = self.stream_end.saturating_add(1),
+            EndCause::Closed => self.route_closed = self.route_closed.saturating_add(1),
+        }
+    }
+}
+
 /// A route at one time.
 #[derive(Drop)]
 pub struct RouteStatus {
@@ -59,6 +87,8 @@ pub struct RouteStatus {
     pub take_overs: Option<u64>,
     /// The sessions that ended since the start; None if that isn't known.
     pub ends: Option<EndCounts>,
+    /// The expectation that it is on air; None if that isn't expected of it.
+    pub expectation: Option<Expectation>,
     /// Its last hour.
     pub history: RouteHistory,
 }

@@ -151,6 +151,7 @@ pub(crate) fn route<R: AllocGlobal>(
     sessions[1] = first;
     sessions[16] = last;
     Ok(RouteStatus {
+        expectation: None,
         name: String::from_str(rt.alloc(), name)?,
         mode: Mode::Live,
         sessions_allowed: 5,

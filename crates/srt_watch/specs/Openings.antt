@@ -25,6 +25,7 @@ fresh_status named mode sessions = record named {
   limits = None;
   take_overs = Some 0;
   ends = None;
+  expectation = None;
   history = no_history;
 }
 

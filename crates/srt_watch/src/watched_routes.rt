@@ -154,6 +154,7 @@ fn empty_status(alloc: Global, mode: Mode, sessions: u32) -> RouteStatus
         limits: None,
         take_overs: Some(0),
         ends: None,
+        expectation: None,
         history: RouteHistory::new(),
     }
 }

@@ -86,6 +86,7 @@ class Entry:
     sessions_per_address: int | None = None
     takeover_ms: int | None = None
     resend_percent: int | None = None
+    expect: bool = False
 
     @property
     def is_live(self) -> bool:
@@ -123,7 +124,7 @@ NUMBERS = {
 TOP_KEYS = frozenset({"secret", "bind", "workers", "status", "route"})
 ADDED_KEYS = (
     "callers", "publish_from", "request_from", "publish_key", "request_key", "reserved", "sessions_per_address", "takeover_ms",
-    "resend_percent",
+    "resend_percent", "expect",
 )
 ROUTE_KEYS = frozenset({"name", "mode", *NUMBERS, "open_round", "close_round", *ADDED_KEYS})
 
@@ -224,6 +225,12 @@ def number(key: str, value: Any, least: int, most: int) -> int:
     return value
 
 
+def truth(key: str, value: Any) -> bool:
+    if not isinstance(value, bool):
+        raise ConfigFault(Fault.WRONG_KIND, key)
+    return value
+
+
 def choice(key: str, value: Any, values: Any) -> Any:
     """The member of an enumeration that a text names."""
     if text(key, value) not in [it.value for it in values]:
@@ -290,6 +297,7 @@ def added(table: Table, sessions: int) -> Table:
         "sessions_per_address": lambda key, value: number(key, value, 1, 17),
         "takeover_ms": lambda key, value: number(key, value, 100, 5000),
         "resend_percent": lambda key, value: number(key, value, 5, 1000),
+        "expect": truth,
     }
     return {key: readers[key](key, table[key]) for key in ADDED_KEYS if key in table}
 

@@ -14,7 +14,7 @@ use super::faults::ConfigFault;
 use super::keys::{DEFAULT_KEYS, Key};
 use super::routes::read_mode;
 use super::rules::callers_at;
-use super::typed_values::{found_at, only_known, optional_number_at, text_value};
+use super::typed_values::{found_at, only_known, optional_flag_at, optional_number_at, text_value};
 use srt_types::Mode;
 use std::alloc::{AllocError, Global};
 use toml::{Table, Value};
@@ -183,7 +183,9 @@ pub(crate) fn defaults_right(alloc: Global, defaults: &Table) -> Result<(), Conf
     numbers_right(defaults)?;
     callers_at(defaults)?;
     let _ = access_at(alloc, defaults)?;
-    limits_right(defaults)
+    limits_right(defaults)?;
+    optional_flag_at(defaults, Key::Expect)?;
+    Ok(())
 }
 
 /// Returns the table of defaults, or `WrongKind`; None if it is missing.

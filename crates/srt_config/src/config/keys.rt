@@ -33,7 +33,7 @@ pub const TOP_KEYS: [Key; 6] = [
 ];
 
 /// The keys of a route.
-pub const ROUTE_KEYS: [Key; 18] = [
+pub const ROUTE_KEYS: [Key; 19] = [
     Key::Name,
     Key::Mode,
     Key::LatencyMs,
@@ -52,10 +52,11 @@ pub const ROUTE_KEYS: [Key; 18] = [
     Key::SessionsPerAddress,
     Key::TakeoverMs,
     Key::ResendPercent,
+    Key::Expect,
 ];
 
 /// The keys of the table of defaults: those of a route but its name.
-pub const DEFAULT_KEYS: [Key; 17] = [
+pub const DEFAULT_KEYS: [Key; 18] = [
     Key::Mode,
     Key::LatencyMs,
     Key::Buffer,
@@ -73,6 +74,7 @@ pub const DEFAULT_KEYS: [Key; 17] = [
     Key::SessionsPerAddress,
     Key::TakeoverMs,
     Key::ResendPercent,
+    Key::Expect,
 ];
 
 /// A key of the table or of a route in it.
@@ -130,6 +132,8 @@ pub enum Key {
     /// `resend_percent`: the greatest share of a subscriber's new packets that is sent again, in percent, 5 to 1000; no
     /// limit if it is missing.
     ResendPercent,
+    /// `expect`: whether the route is expected to be on air; if it is missing, the route may be without an encoder.
+    Expect,
 }
 
 /// The kind of a key's value.
@@ -139,6 +143,8 @@ pub enum ValueKind {
     Text,
     /// A whole number.
     Number,
+    /// `true` or `false`.
+    Boolean,
     /// A list of networks, in texts.
     Networks,
     /// A table.
@@ -195,6 +201,7 @@ impl Key {
             Key::SessionsPerAddress => "sessions_per_address",
             Key::TakeoverMs => "takeover_ms",
             Key::ResendPercent => "resend_percent",
+            Key::Expect => "expect",
         }
     }
 
@@ -223,6 +230,7 @@ impl Key {
             | Key::SessionsPerAddress
             | Key::TakeoverMs
             | Key::ResendPercent => ValueKind::Number,
+            Key::Expect => ValueKind::Boolean,
             Key::PublishFrom | Key::RequestFrom => ValueKind::Networks,
             Key::Defaults => ValueKind::Table,
             Key::Route => ValueKind::Tables,
@@ -230,8 +238,8 @@ impl Key {
     }
 
     /// Returns the limits of its value. A route's `open_round` and `sessions` narrow those of `close_round` and `reserved`. A
-    /// text whose form decides, an address or one of two texts, has any length up to 2^32 - 1 here, and the table of defaults
-    /// as many keys.
+    /// text whose form decides, an address or one of two texts, has any length up to 2^32 - 1 here, the table of defaults
+    /// as many keys, and `true` or `false` any limits.
     pub fn limits(self) -> Limits
         ensures value { result ≡ limits_of self }
         ensures few { result.most < 2 ^ 32 }
@@ -252,9 +260,10 @@ impl Key {
             Key::Reserved => (0, MAX_RESERVED),
             Key::TakeoverMs => (MIN_TAKEOVER_MS, MAX_TAKEOVER_MS),
             Key::ResendPercent => (MIN_RESEND_PERCENT, MAX_RESEND_PERCENT),
-            Key::Bind | Key::Status | Key::Defaults | Key::Mode | Key::Callers => {
-                (0, u32::MAX as usize)
-            }
+            Key::Bind | Key::Status | Key::Defaults | Key::Mode | Key::Callers | Key::Expect => (
+                0,
+                u32::MAX as usize,
+            ),
         };
         Limits { least, most }
     }

@@ -25,7 +25,8 @@ use super::placed::{Place, PlacedFault};
 use super::routes::{are_tables, is_count, mode_at};
 use super::rules::{callers_at, most_reserved};
 use super::typed_values::{
-    is_key, number_at, optional_number_at, optional_number_within, text_at, value_at,
+    is_key, number_at, optional_flag_at, optional_number_at, optional_number_within, text_at,
+    value_at,
 };
 use super::values::{address_at, optional_address_at, secret_at};
 use srt_types::is_name;
@@ -128,6 +129,7 @@ fn default_fault(alloc: Global, table: &Table, key: Key) -> Result<Option<Config
         Key::RequestFrom => fault_of(list_at(alloc, table, Key::RequestFrom)),
         Key::PublishKey => fault_of(key_at(alloc, table, Key::PublishKey)),
         Key::RequestKey => fault_of(key_at(alloc, table, Key::RequestKey)),
+        Key::Expect => fault_of(optional_flag_at(table, Key::Expect)),
         _ => fault_of(optional_number_at(table, key)),
     }
 }

@@ -60,6 +60,7 @@ pub fn read_table(alloc: Global, table: &Table) -> Result<Config, PlacedFault>
         status,
         entries: routes.entries,
         schedules: routes.schedules,
+        expected: routes.expected,
     })
 }
 

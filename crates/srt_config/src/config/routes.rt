@@ -21,7 +21,8 @@ use super::keys::{BUFFER, Key, LIVE, Limits, ROUTE_KEYS};
 use super::placed::{Place, PlacedFault};
 use super::rules::{callers_at, rules_at};
 use super::typed_values::{
-    number_at, only_known, optional_number_at, optional_number_within, text_at, value_at,
+    number_at, only_known, optional_flag_at, optional_number_at, optional_number_within, text_at,
+    value_at,
 };
 use srt_lobby::is_taken;
 use srt_types::{Access, Callers, Entry, Mode, Rules, Schedule, is_between, is_name};
@@ -149,13 +150,15 @@ fn schedule_at(table: &Table) -> Result<Schedule, ConfigFault>
     })
 }
 
-/// A route's entry and its schedule.
+/// A route's entry, its schedule, and whether it is expected to be on air.
 #[derive(Drop)]
 pub(crate) struct ReadRoute {
     /// The entry.
     pub(crate) entry: Entry,
     /// The rounds in which it opens and closes.
     pub(crate) schedule: Schedule,
+    /// Whether it is expected to be on air.
+    pub(crate) expected: bool,
 }
 
 /// The part of a route's table before its lists, keys and rules.
@@ -168,17 +171,19 @@ struct RouteHead<'a> {
     callers: Callers,
 }
 
-/// Reads the lists, keys and rules of a route's table, after the part before them.
+/// Reads the lists, keys and rules of a route's table, after the part before them, and whether it is expected to be on air.
 fn route_behind(alloc: Global, head: RouteHead<'_>, table: &Table) -> Result<ReadRoute, ConfigFault>
     ensures { Gives route_seen result
         (route_behind head.entry.name.now head.entry.mode (numbers_of head.entry.numbers) head.entry.schedule head.entry.callers (table_view table.now)) }
 {
     let access = access_at(alloc, table)?;
     let rules = rules_at(head.numbers.sessions, head.callers, table)?;
+    let expected = optional_flag_at(table, Key::Expect)?.unwrap_or(false);
     let entry = entry_with(alloc, head.name, head.mode, head.numbers, access, rules)?;
     Ok(ReadRoute {
         entry,
         schedule: head.schedule,
+        expected,
     })
 }
 
@@ -231,6 +236,8 @@ pub(crate) struct ReadRoutes {
     pub(crate) entries: Vec<Entry>,
     /// The schedules, one for each entry.
     pub(crate) schedules: Vec<Schedule>,
+    /// Whether each is expected to be on air.
+    pub(crate) expected: Vec<bool>,
 }
 
 /// Reads these values as routes; `WrongKind` if one isn't a table, else `OutOfRange` if there are none or more than
@@ -268,6 +275,9 @@ fn add_route(alloc: Global, routes: &mut ReadRoutes, value: &Value) -> Result<()
     if routes.schedules.push(route.schedule).is_err() {
         return Err(ConfigFault::OutOfMemory);
     }
+    if routes.expected.push(route.expected).is_err() {
+        return Err(ConfigFault::OutOfMemory);
+    }
     Ok(())
 }
 
@@ -279,6 +289,7 @@ fn routes_from(alloc: Global, values: &[Value]) -> Result<ReadRoutes, PlacedFaul
     let mut routes = ReadRoutes {
         entries: Vec::new(alloc),
         schedules: Vec::new(alloc),
+        expected: Vec::new(alloc),
     };
     let mut rest = values;
     let mut number = 1usize;
@@ -314,6 +325,7 @@ pub(crate) fn routes_at(alloc: Global, table: &Table) -> Result<ReadRoutes, Plac
     ensures sound { IfOk result (λ routes. fault_of (map terms_of routes.entries.items) ≡ None) }
     ensures scheduled { IfOk result (λ routes. length routes.schedules.items ≡ length routes.entries.items) }
     ensures later { IfOk result (λ routes. list_all closes_later routes.schedules.items ≡ true) }
+    ensures marked { IfOk result (λ routes. length routes.expected.items ≡ length routes.entries.items) }
 {
     all_routes(alloc, table)
 }

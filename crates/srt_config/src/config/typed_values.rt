@@ -7,7 +7,7 @@ ghost use Rattle.srt_types.specs.Entries.{is_between};
 ghost use Rattle.srt_config.specs.KeyTable.{key_name, limits_of};
 ghost use Rattle.srt_config.specs.FirstFault.{seen, Gives};
 ghost use Rattle.srt_config.specs.Keys.{is_key, least_unknown, known, value_at, value_seen, text_value, text_at, within, number_value};
-ghost use Rattle.srt_config.specs.Keys.{key_number_at, optional_number_at, optional_key_number_at};
+ghost use Rattle.srt_config.specs.Keys.{key_number_at, optional_number_at, optional_key_number_at, flag_value, optional_flag_at};
 
 use super::faults::ConfigFault;
 use super::keys::{Key, Limits};
@@ -141,4 +141,26 @@ pub(crate) fn optional_number_at(table: &Table, key: Key) -> Result<Option<u32>,
     ensures inside { IfOk result (λ found. IfSome found (λ n. is_between (limits_of key).least (limits_of key).most n ≡ true)) }
 {
     optional_number_within(table, key, key.limits())
+}
+
+/// Returns whether the value of a key is true, or `WrongKind`.
+#[tactic(auto, unfolding(crate::specs::Keys::flag_value))]
+fn flag_value(key: Key, value: &Value) -> Result<bool, ConfigFault>
+    ensures { seen (λ b. b) result ≡ flag_value key (view value.now) }
+{
+    match value.as_bool() {
+        Some(flag) => Ok(flag),
+        None => Err(ConfigFault::WrongKind(key)),
+    }
+}
+
+/// Returns whether a key that may be missing is true, or `WrongKind`.
+#[tactic(auto, unfolding(crate::specs::Keys::optional_flag_at))]
+pub(crate) fn optional_flag_at(table: &Table, key: Key) -> Result<Option<bool>, ConfigFault>
+    ensures { seen (λ b. b) result ≡ optional_flag_at key (table_view table.now) }
+{
+    match found_at(table, key) {
+        Some(value) => Ok(Some(flag_value(key, value)?)),
+        None => Ok(None),
+    }
 }

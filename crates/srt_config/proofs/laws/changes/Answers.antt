@@ -9,6 +9,9 @@ returns-clause-keys c = (terms_decide, schedules_decide)
 pub returns-clause-same : goal.returns-clause-same
 returns-clause-same c = same_requests_nothing
 
+pub returns-clause-expectations : goal.returns-clause-expectations
+returns-clause-expectations c = λ s expected names many. same_requests_nothing s names many
+
 pub returns-clause-meant : goal.returns-clause-meant
 returns-clause-meant c = are_meant
 

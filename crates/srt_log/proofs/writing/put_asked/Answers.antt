@@ -1,0 +1,10 @@
+use Rattle.srt_log.proofs.Puts.{followed}
+use Rattle.srt_log.proofs.writing.put_asked.Goals as goal
+
+pub returns : goal.returns
+returns c =
+    followed _ _ _ _ _
+    (followed _ _ _ _ _
+    (followed _ _ _ _ _ (followed _ _ _ _ _ (followed _ _ _ _ _ c.put_small.ensures c.put_code_name.ensures) c.put.ensures) c.put_escaped.ensures)
+    c.put-2.ensures)
+    c.put_refused_by.ensures
