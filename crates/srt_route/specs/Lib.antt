@@ -3,9 +3,10 @@ pub mod Conclusions
 pub mod Past
 pub mod Sessions
 pub mod RouteKeys
+pub mod Shifted
+pub mod Decryption
 pub mod Route
 pub mod Rests
-pub mod Shifted
 pub mod ShiftLaws
 pub mod Relabel
 pub mod Sendable

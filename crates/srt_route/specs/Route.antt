@@ -31,6 +31,7 @@ use Rattle.srt_route.specs.declared.slot_keys.KeyVerdict.TheVariants.{TooMany, W
 use Rattle.srt_route.specs.RouteKeys.{Brought, KeysOpened, RouteKeys, SlotKeys, Clear, brought_in, cookie_in, first_keys, has_secured_role, opening}
 use Rattle.srt_route.specs.RouteKeys.{passphrase_of}
 use Rattle.srt_route.specs.RouteKeys.{request_of}
+use Rattle.srt_route.specs.Decryption.{clear_bytes}
 use Rattle.srt_route.specs.Past.{Report, report_text, past_of, least_with, loses_window, publisher_end, has_all, has_left, is_shutdown}
 use Rattle.srt_route.specs.Sessions.{Session, is_open_in, is_same_peer, id_of, session_id, answer_of, publishes, is_subscriber, open_publishers}
 use Rattle.srt_route.specs.Sessions.{active, is_active, by_slot, free_slot, free_slots, sessions_from, generation_of, time_in, is_idle, terms_of}
@@ -293,6 +294,8 @@ pub data Verdict : Type 0 where
   Refused : (peer : Peer) (c : Conclusion) → Verdict
   -- its answer repeats the contents of the KMREQ block with which the session opened, if it has keys
   Repeats : (request : Option (List ℕ)) → Verdict
+  -- the session that it is for processes these bytes in its place
+  Decrypted : (bytes : List ℕ) → Verdict
 
 -- the same, with the route's keys after it
 pub record Judged : Type 0 where
@@ -347,17 +350,23 @@ abbrev pub info_of : Body → List ℕ
 info_of (Handshake info) = info
 info_of _ = []
 
-abbrev pub packet_judged : Terms → (index clock : ℕ) → Peer → Packet → List Session → RouteKeys → Judged
-packet_judged e index clock peer packet sessions keys =
-    if packet.dest == 0 then info_judged e index clock peer (info_of packet.body) sessions keys (concludes packet.body) else as_before keys
+-- a packet for a session, whose bytes are these
+abbrev pub session_judged : Packet → (bytes : List ℕ) → RouteKeys → Option Session → Judged
+session_judged packet bytes keys None = as_before keys
+session_judged packet bytes keys (Some s) = record { verdict = Decrypted (clear_bytes (keys.held s.slot) packet bytes); keys = keys }
 
-abbrev pub read_judged : Terms → (index clock : ℕ) → Peer → Result Packet PacketFault → List Session → RouteKeys → Judged
-read_judged e index clock peer (Ok packet) sessions keys = packet_judged e index clock peer packet sessions keys
-read_judged e index clock peer (Err fault) sessions keys = as_before keys
+abbrev pub packet_judged : Terms → (index clock : ℕ) → Peer → Packet → (bytes : List ℕ) → List Session → RouteKeys → Judged
+packet_judged e index clock peer packet bytes sessions keys =
+    if packet.dest == 0 then info_judged e index clock peer (info_of packet.body) sessions keys (concludes packet.body)
+    else session_judged packet bytes keys (find (is_for index peer packet.dest) sessions)
+
+abbrev pub read_judged : Terms → (index clock : ℕ) → Peer → Result Packet PacketFault → (bytes : List ℕ) → List Session → RouteKeys → Judged
+read_judged e index clock peer (Ok packet) bytes sessions keys = packet_judged e index clock peer packet bytes sessions keys
+read_judged e index clock peer (Err fault) bytes sessions keys = as_before keys
 
 abbrev pub item_judged : Terms → (index clock : ℕ) → Item → List Session → RouteKeys → Judged
 item_judged e index clock (Received datagram moment) sessions keys =
-    read_judged e index clock datagram.peer (packet_in datagram.bytes) sessions keys
+    read_judged e index clock datagram.peer (packet_in datagram.bytes) datagram.bytes sessions keys
 item_judged e index clock (Tick moment) sessions keys = as_before keys
 item_judged e index clock (Close moment) sessions keys = as_before keys
 
@@ -377,12 +386,18 @@ judged_if true e index clock item sessions keys = item_judged e index clock item
 abbrev pub judged : Terms → (index clock : ℕ) → Item → List Session → RouteKeys → Judged
 judged e index clock item sessions keys = judged_if (has_secured_role e) e index clock item sessions keys
 
--- the item as the sessions process it
+-- an item with other bytes, and the item as the sessions process it
+abbrev pub with_bytes : (bytes : List ℕ) → Item → Item
+with_bytes bytes (Received datagram moment) = Received (record { peer = datagram.peer; bytes = bytes }) moment
+with_bytes bytes (Tick moment) = Tick moment
+with_bytes bytes (Close moment) = Close moment
+
 abbrev pub heard_as : Verdict → Item → Item
 heard_as Passes item = item
 heard_as Ignored item = Tick (moment_of item)
 heard_as (Refused peer c) item = Tick (moment_of item)
 heard_as (Repeats request) item = item
+heard_as (Decrypted bytes) item = with_bytes bytes item
 
 -- an answer that repeats the contents of a KMREQ block (section 3.2.2)
 abbrev pub output_with : (request : List ℕ) → Output → Output
@@ -401,6 +416,7 @@ answers_as Ignored answers = answers
 answers_as (Refused peer c) answers = answered peer c.caller (refusal c codes.BadSecret)
 answers_as (Repeats None) answers = answers
 answers_as (Repeats (Some request)) answers = map (reply_with request) answers
+answers_as (Decrypted bytes) answers = answers
 
 abbrev pub taken_as : Verdict → Taken → Taken
 taken_as verdict t = record { sessions = t.sessions; answers = answers_as verdict t.answers }

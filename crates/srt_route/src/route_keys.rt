@@ -6,6 +6,7 @@ ghost use Rattle.srt_session_keys.specs.Source.{pool_of};
 
 use crate::key_text::BroughtRef;
 use crate::slot_keys::{KeyOpening, KeyVerdict, SlotKeys, clear_slots, session_keys};
+use srt_packet::PacketRef;
 use srt_session_keys::{DerivationLimiter, KeyPool, WrappingKey};
 use srt_types::{Entry, Role};
 use std::alloc::{AllocError, Global};
@@ -31,6 +32,8 @@ impl RouteKeys {
     ghost use Rattle.std.specs.Prelude.{◌≡◌, ◌<◌, ◌^◌, ℕ, length, option_map, string_bytes, true, Some, List, IfOk, IfSome};
     ghost use Rattle.srt_session_keys.specs.Wrapping.{kek_of, salt_of};
     ghost use Rattle.srt_types.specs.declared.shared.Role.TheVariants.{Publish, Request};
+    ghost use Rattle.srt_packet.specs.View.{packet_of};
+    ghost use Rattle.srt_route.specs.Decryption.{in_clear};
     ghost use Rattle.srt_route.specs.SlotKeys.{brought_of};
     ghost use Rattle.srt_types.specs.Terms.{Terms, terms_of};
     ghost use Rattle.srt_route.specs.RouteKeys.{RouteKeys as Keys, Clear, first_keys, has_secured_role, kek_for, opening as the_opening};
@@ -104,6 +107,24 @@ impl RouteKeys {
         ensures places { length self.new.slots.items ≡ length self.old.slots.items }
     {
         self.slots[slot].clear();
+    }
+
+    /// Returns a packet for the session of a slot as that processes it: a publisher's in clear, decrypted at the front of
+    /// `place`.
+    pub fn decrypt<'a>(
+        &mut self,
+        slot: usize,
+        packet: PacketRef<'a>,
+        place: &'a mut [u8; 1456],
+    ) -> PacketRef<'a>
+        requires { slot < length self.old.slots.items }
+        ensures packet { (e : Terms) (keys : Keys) → AreKeys e self.old keys → has_secured_role e ≡ true → slot < e.sessions
+            → packet_of result ≡ in_clear (keys.held slot) (packet_of packet.entry) }
+        ensures keys { (e : Terms) (keys : Keys) → AreKeys e self.old keys → AreKeys e self.new (with_slot slot (keys.held slot) keys) }
+        ensures stamp { result.stamp ≡ packet.entry.stamp }
+        ensures places { length self.new.slots.items ≡ length self.old.slots.items }
+    {
+        self.slots[slot].decrypt(packet, place)
     }
 
     /// Derives the key encrypting key from the passphrase of a role. None if the role isn't secured.

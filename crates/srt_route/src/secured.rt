@@ -32,7 +32,7 @@ use crate::reply_queue::ReplyQueue;
 use crate::route_keys::RouteKeys;
 use crate::seat::{Seat, slot_of};
 use crate::slot_keys::{KeyOpening, KeyVerdict, SlotKeys};
-use crate::socket_ids::id_at;
+use crate::socket_ids::{id_at, slot_in};
 use crate::table::Table;
 use srt_hs::{HsAnswer, RefusalCode};
 use srt_packet::{Kind, PacketRef, decode_parts};
@@ -212,6 +212,35 @@ fn repeat_request(table: &Table, keys: &RouteKeys, slot: usize, peer: Peer, repl
     }
 }
 
+/// Processes a packet for a session, a publisher's in clear. Returns true if `reply` has an answer.
+fn to_secured_session(
+    table: &mut Table,
+    keys: &mut RouteKeys,
+    ledger: &mut Ledger,
+    arrival: Arrival,
+    packet: &PacketRef<'_>,
+    reply: &mut Reply,
+) -> bool
+    requires stamp { arrival.stamp ≡ packet.now.stamp }
+    requires early { arrival.clock < 2 ^ 62 }
+    requires destined { 0 < packet.now.dest }
+    requires places { length keys.old.slots.items ≡ length table.old.seats.items }
+    ensures secured { SecuresPacket arrival (packet_of packet.now) table.old table.new keys.old keys.new (written_of (given result reply.new))
+        ledger.old ledger.new }
+    ensures sums { SumsGrow ledger.old.totals ledger.new.totals }
+{
+    let at = slot_in(packet.dest);
+    if at >= table.seats.len() {
+        return to_destination(table, ledger, arrival, packet, reply);
+    }
+    if !table.seats[at].is_for(arrival.peer, packet.dest) {
+        return to_destination(table, ledger, arrival, packet, reply);
+    }
+    let mut place = [0u8; 1456];
+    let clear = keys.decrypt(at, *packet, &mut place);
+    to_destination(table, ledger, arrival, &clear, reply)
+}
+
 /// Processes a packet. Returns true if `reply` has an answer.
 fn to_secured_destination(
     table: &mut Table,
@@ -229,7 +258,7 @@ fn to_secured_destination(
     ensures sums { SumsGrow ledger.old.totals ledger.new.totals }
 {
     if packet.dest != 0 {
-        return to_destination(table, ledger, arrival, packet, reply);
+        return to_secured_session(table, keys, ledger, arrival, packet, reply);
     }
     let Kind::Handshake { info } = packet.kind else {
         return false;

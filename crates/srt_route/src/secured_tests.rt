@@ -341,3 +341,144 @@ fn a_role_without_a_passphrase_is_as_on_a_route_without_keys(rt: HostRuntime) ->
     let with = keyed(alloc, FIRST, &PUBLISHES, &KEYS)?;
     assert_replied(&rt, &mut fresh, peer(5000), 1_000_000, &with, &clear)
 }
+
+/// Gives the route a datagram of these bytes.
+fn offer(
+    rt: &(impl AllocGlobal + Abort),
+    route: &mut Route,
+    from: Peer,
+    moment: u64,
+    bytes: &[u8],
+) -> Result<(), Fail> {
+    if bytes.len() < 16 || route.waits() || moment > 10_000_000 {
+        return Err(Fail::from("a header, an early moment, and no reply that waits"));
+    }
+    let mut head = [0u8; 16];
+    head.copy_from_slice(&bytes[..16]);
+    let item = Item::Datagram {
+        peer: from,
+        moment,
+        head,
+        body: Vec::from_slice(rt.alloc(), &bytes[16..])?,
+    };
+    route.step(&item);
+    Ok(())
+}
+
+/// Asserts the peer and the bytes of the reply that waits first.
+fn assert_next(
+    rt: &(impl AllocGlobal + Abort),
+    route: &mut Route,
+    to: Peer,
+    wanted: &[&str],
+) -> Result<(), Fail> {
+    let mut answer = Vec::new(rt.alloc());
+    push_hex(rt.alloc(), &mut answer, wanted)?;
+    let mut out = [0u8; 1472];
+    let mut place = Box::new(rt.alloc(), Reply::blank())?;
+    assert!(rt; route.next_reply(&mut place));
+    assert!(rt; place.peer == to);
+    let len = place.packet.copy_to(&mut out);
+    assert_eq!(rt; first_difference(&out[..len], &answer), None);
+    Ok(())
+}
+
+/// Bytes in hexadecimal digits.
+fn bytes_of(alloc: Global, text: &[&str]) -> Result<Vec<u8>, Fail> {
+    let mut bytes = Vec::new(alloc);
+    push_hex(alloc, &mut bytes, text)?;
+    Ok(bytes)
+}
+
+/// The answer to a subscriber in clear, whose session opens in slot 1.
+const CLEAR_SUBSCRIBER_ANSWER: [&str; 2] = [
+    "80000000000000000000000000000002000000050000000100000009000005dc00000400ffffffff001000010000000000000000000000000000000000000000",
+    "00020003000105000000003f00780078",
+];
+
+#[test]
+fn a_packet_of_a_publisher_is_decrypted(rt: HostRuntime) -> Result<(), Fail> {
+    let alloc = rt.alloc();
+    let mut route = secured(alloc, HORSE, None)?;
+    let first = keyed(alloc, FIRST, &PUBLISHES, &KEYS)?;
+    let second = keyed(alloc, SECOND, &REQUESTS, &[])?;
+    let data = bytes_of(alloc, &["00000005e8000001000003e800100000ad56"])?;
+    assert_replied(
+        &rt,
+        &mut route,
+        peer(5000),
+        1_000_000,
+        &first,
+        &PUBLISHER_ANSWER,
+    )?;
+    assert_replied(&rt, &mut route, peer(5000), 1_002_000, &data, &[])?;
+    offer(&rt, &mut route, peer(5001), 1_010_000, &second)?;
+    assert_next(&rt, &mut route, peer(5001), &CLEAR_SUBSCRIBER_ANSWER)?;
+    assert_next(
+        &rt,
+        &mut route,
+        peer(5000),
+        &[
+            "80020000000000010000271000000001",
+            "00000006000186a00000c350000003ff000000000000000000000000",
+        ],
+    )?;
+    assert!(rt; !route.waits());
+    route.step(&Item::Tick { moment: 1_121_000 });
+    assert_next(
+        &rt,
+        &mut route,
+        peer(5000),
+        &[
+            "80020000000000020001d8a800000001",
+            "00000006000186a00000c35000000400000000000000000000000000",
+        ],
+    )?;
+    assert_next(
+        &rt,
+        &mut route,
+        peer(5001),
+        &["00000009e00000010001b198000000026869"],
+    )?;
+    assert!(rt; !route.waits());
+    Ok(())
+}
+
+#[test]
+fn what_cannot_be_decrypted_is_not_received(rt: HostRuntime) -> Result<(), Fail> {
+    let alloc = rt.alloc();
+    let first = keyed(alloc, FIRST, &PUBLISHES, &KEYS)?;
+    let second = keyed(alloc, SECOND, &REQUESTS, &[])?;
+    // In clear, under the odd key, and under both.
+    for text in [
+        "00000005e0000001000003e8001000006869",
+        "00000005f0000001000003e800100000ad56",
+        "00000005f8000001000003e800100000ad56",
+    ] {
+        let mut route = secured(alloc, HORSE, None)?;
+        let data = bytes_of(alloc, &[text])?;
+        assert_replied(
+            &rt,
+            &mut route,
+            peer(5000),
+            1_000_000,
+            &first,
+            &PUBLISHER_ANSWER,
+        )?;
+        assert_replied(&rt, &mut route, peer(5000), 1_002_000, &data, &[])?;
+        assert_replied(
+            &rt,
+            &mut route,
+            peer(5001),
+            1_003_000,
+            &second,
+            &CLEAR_SUBSCRIBER_ANSWER,
+        )?;
+        route.step(&Item::Tick { moment: 1_121_000 });
+        let mut place = Box::new(alloc, Reply::blank())?;
+        while route.next_reply(&mut place) {
+            assert!(rt; place.peer == peer(5000));
+        }
+    }
+    Ok(())
+}

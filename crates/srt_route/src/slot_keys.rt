@@ -5,12 +5,15 @@ ghost use Rattle.srt_types.specs.declared.shared.Role.TheVariants.{Publish, Requ
 ghost use Rattle.srt_session_keys.specs.Source.{pool_of, Pool};
 ghost use Rattle.srt_session_keys.specs.Wrapping.{kek_of, salt_of};
 ghost use Rattle.srt_route.specs.RouteKeys.{Clear, keys_opened, pool_opened};
+ghost use Rattle.srt_packet.specs.View.{packet_of};
+ghost use Rattle.srt_route.specs.Decryption.{in_clear};
 ghost use Rattle.srt_route.specs.SlotKeys.{brought_of, slot_keys_of};
 ghost use Rattle.srt_route.specs.declared.slot_keys.KeyOpening.{KeyOpening as TheOpening};
 ghost use Rattle.srt_route.specs.declared.slot_keys.SlotKeys.{SlotKeys as TheKeys};
 
 use crate::brought_keys::text_of;
 use crate::key_text::{BroughtRef, KeyText};
+use srt_packet::PacketRef;
 use srt_session_keys::{KeyPool, PublisherKeys, SubscriberKeys, WrappingKey};
 use srt_types::{Peer, Role};
 use std::alloc::{AllocError, Global};
@@ -65,6 +68,18 @@ pub(crate) enum SlotKeys {
 }
 
 impl SlotKeys {
+    /// Returns a packet for the session as that processes it: a publisher's in clear, decrypted at the front of `place`.
+    pub fn decrypt<'a>(&mut self, packet: PacketRef<'a>, place: &'a mut [u8; 1456]) -> PacketRef<'a>
+        ensures packet { packet_of result ≡ in_clear (slot_keys_of self.old) (packet_of packet.entry) }
+        ensures keys { slot_keys_of self.new ≡ slot_keys_of self.old }
+    {
+        match self {
+            SlotKeys::Clear => packet,
+            SlotKeys::Publisher { keys, .. } => keys.decrypt_packet(packet, place),
+            SlotKeys::Subscriber { .. } => packet,
+        }
+    }
+
     /// Removes the keys, after they were overwritten with zeros.
     pub fn clear(&mut self)
         ensures { slot_keys_of self.new ≡ Clear }

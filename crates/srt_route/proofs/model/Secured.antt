@@ -24,7 +24,8 @@ use Rattle.srt_route.specs.RouteKeys.{Brought, RouteKeys, SlotKeys, OfPublisher,
 use Rattle.srt_route.specs.RouteKeys.{has_secured_role, kek_for, keys_opened, opened_with, opening_if, passphrase_of, request_of, subscriber_by}
 use Rattle.srt_route.specs.RouteKeys.{derivation_of}
 use Rattle.srt_route.specs.Sessions.{Session, advanced, generation_of, is_open_in}
-use Rattle.srt_route.specs.Route.{Judged, Route, Verdict, Passes, Ignored, Refused, Repeats, after, asked, clock_after, concludes, conclusion_judged, decision}
+use Rattle.srt_route.specs.Route.{Judged, Route, Verdict, Passes, Ignored, Refused, Repeats, Decrypted, is_for, session_judged, after, asked, clock_after}
+use Rattle.srt_route.specs.Route.{concludes, conclusion_judged, decision}
 use Rattle.srt_route.specs.Route.{heard_as, heard_by, info_judged, info_of, is_of, item_judged, judged_by, judged_if, judgement, kept_at, key_opening}
 use Rattle.srt_route.specs.Route.{keys_at, keys_kept}
 use Rattle.srt_route.specs.Route.{read_judged, taken, taken_as, taken_by}
@@ -41,6 +42,7 @@ IsShortVerdict Passes = ⊤
 IsShortVerdict Ignored = ⊤
 IsShortVerdict (Refused peer c) = ⊤
 IsShortVerdict (Repeats request) = IsShort request
+IsShortVerdict (Decrypted bytes) = ⊤
 
 record IsShortJudged (j : Judged) : Type 0 where
   verdict : IsShortVerdict j.verdict
@@ -124,19 +126,25 @@ info_short (Some c) e index clock peer info ss keys short =
     conclusion_short (passphrase_of e c.role) (brought_in info) (find (is_of peer c.caller) ss) e index clock peer (cookie_in info) c ss keys
     (asked_short (key_request_in info)) short
 
-packet_short : (zero : Bool) (e : Terms) (index clock : ℕ) (peer : Peer) (p : Packet) (ss : List Session) (keys : RouteKeys) → AreShort keys
-    → IsShortJudged (cond zero (info_judged e index clock peer (info_of p.body) ss keys (concludes p.body)) (record { verdict = Passes; keys = keys }))
-packet_short true e index clock peer p ss keys short = info_short (concludes p.body) e index clock peer (info_of p.body) ss keys short
-packet_short false e index clock peer p ss keys short = record { verdict = tt; keys = short }
+session_short : (o : Option Session) (p : Packet) (bytes : List ℕ) (keys : RouteKeys) → AreShort keys → IsShortJudged (session_judged p bytes keys o)
+session_short None p bytes keys short = record { verdict = tt; keys = short }
+session_short (Some s) p bytes keys short = record { verdict = tt; keys = short }
 
-packet_read_short : (read : Result Packet PacketFault) (e : Terms) (index clock : ℕ) (peer : Peer) (ss : List Session) (keys : RouteKeys)
-    → AreShort keys → IsShortJudged (read_judged e index clock peer read ss keys)
-packet_read_short (Ok p) e index clock peer ss keys short = packet_short (p.dest == 0) e index clock peer p ss keys short
-packet_read_short (Err fault) e index clock peer ss keys short = record { verdict = tt; keys = short }
+packet_short : (zero : Bool) (e : Terms) (index clock : ℕ) (peer : Peer) (p : Packet) (bytes : List ℕ) (ss : List Session) (keys : RouteKeys)
+    → AreShort keys
+    → IsShortJudged (cond zero (info_judged e index clock peer (info_of p.body) ss keys (concludes p.body))
+    (session_judged p bytes keys (find (is_for index peer p.dest) ss)))
+packet_short true e index clock peer p bytes ss keys short = info_short (concludes p.body) e index clock peer (info_of p.body) ss keys short
+packet_short false e index clock peer p bytes ss keys short = session_short (find (is_for index peer p.dest) ss) p bytes keys short
+
+packet_read_short : (read : Result Packet PacketFault) (e : Terms) (index clock : ℕ) (peer : Peer) (bytes : List ℕ) (ss : List Session)
+    (keys : RouteKeys) → AreShort keys → IsShortJudged (read_judged e index clock peer read bytes ss keys)
+packet_read_short (Ok p) e index clock peer bytes ss keys short = packet_short (p.dest == 0) e index clock peer p bytes ss keys short
+packet_read_short (Err fault) e index clock peer bytes ss keys short = record { verdict = tt; keys = short }
 
 item_short : (e : Terms) (index clock : ℕ) (item : Item) (ss : List Session) (keys : RouteKeys) → AreShort keys
     → IsShortJudged (item_judged e index clock item ss keys)
-item_short e index clock (Received d moment) ss keys short = packet_read_short (packet_in d.bytes) e index clock d.peer ss keys short
+item_short e index clock (Received d moment) ss keys short = packet_read_short (packet_in d.bytes) e index clock d.peer d.bytes ss keys short
 item_short e index clock (Tick moment) ss keys short = record { verdict = tt; keys = short }
 item_short e index clock (Close moment) ss keys short = record { verdict = tt; keys = short }
 

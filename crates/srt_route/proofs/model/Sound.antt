@@ -35,7 +35,7 @@ use Rattle.srt_route.specs.Sessions.{Session, is_publisher, is_subscriber, activ
 use Rattle.srt_route.specs.Sessions.{time_in, stamp_in, is_idle, is_over, terms_of, aged_at, aged, advanced, marked, marked_if, takes_over}
 use Rattle.srt_route.specs.Sessions.{is_recent, passed_at, passed, reported_at}
 use Rattle.srt_route.specs.RouteKeys.{has_secured_role}
-use Rattle.srt_route.specs.Route.{Verdict, Passes, Ignored, Refused, Repeats, answers_as, judgement, output_with, reply_with}
+use Rattle.srt_route.specs.Route.{Verdict, Passes, Ignored, Refused, Repeats, Decrypted, answers_as, judgement, output_with, reply_with}
 use Rattle.srt_route.specs.Route.{Output, Answers, AnswersWithKeys, Says, Ends, Reply, Taken, closed, ended, shutdown_to, decision, is_of, heard_if, opens}
 use Rattle.srt_route.specs.Route.{finished, finished_at, has_whole_file, idle_notified, is_file_over, lost_notified, packet_end, served, served_at, notified_if}
 use Rattle.srt_route.specs.Route.{drain_end, drain_of, gives_some, settled_by, took_packet}
@@ -117,6 +117,7 @@ answers_sent Passes xs short h = all_sent xs h
 answers_sent Ignored xs short h = all_sent xs h
 answers_sent (Refused peer c) xs short h = (tt, tt)
 answers_sent (Repeats None) xs short h = all_sent xs h
+answers_sent (Decrypted bytes) xs short h = all_sent xs h
 answers_sent (Repeats (Some request)) xs short h = all_with_sent request xs short h
 
 -- a session ages

@@ -18,7 +18,8 @@ use Rattle.srt_types.specs.Runs.{numbers_from}
 use Rattle.srt_types.specs.Terms.{Terms}
 use Rattle.srt_types.specs.Items.{Datagram, Item, Received, Tick, Close, moment_of}
 use Rattle.srt_packet.specs.declared.reading.PacketFault.{PacketFault}
-use Rattle.srt_packet.specs.Grammar.{Packet}
+use Rattle.srt_packet.specs.Grammar.{Packet, Body, Data, Handshake, KeepAlive, Ack, Nak, CongestionWarning, Shutdown, AckAck, DropRequest}
+use Rattle.srt_packet.specs.Grammar.{PeerError, UserDefined}
 use Rattle.srt_packet.specs.Reading.{packet_in}
 use Rattle.srt_hs.specs.declared.writing.HsAnswer.{HsAnswer}
 use Rattle.srt_route.specs.declared.refusals.RefusalCause.{RefusalCause}
@@ -55,6 +56,11 @@ use Rattle.srt_route.specs.RouteKeys.{opened_with, opening, opening_if, passphra
 use Rattle.srt_route.specs.Route.{Judged, Verdict, Passes, Ignored, Refused, Repeats, answers_as, asked, conclusion_judged, heard_as, info_judged}
 use Rattle.srt_route.specs.Route.{info_of, item_judged, judged_by, judged_if, judgement, kept_at, key_opening, keys_at, keys_kept, output_with, packet_judged}
 use Rattle.srt_route.specs.Route.{read_judged, reply_with, taken_as as taken_with}
+use Rattle.srt_route.specs.Route.{Decrypted, session_judged, with_bytes}
+use Rattle.srt_route.specs.RouteKeys.{Clear, OfPublisher, OfSubscriber}
+use Rattle.srt_route.specs.Decryption.{clear_bytes, in_clear}
+use Rattle.srt_session_keys.specs.Publisher.{Publisher, decrypted_body, decrypted_data, named_key}
+use Rattle.srt_route.proofs.model.Decrypting.{clear_read}
 use Rattle.srt_route.proofs.model.Standbys.{publishers_through, active_through, is_active_through}
 use Rattle.srt_route.proofs.model.Lists.{map_through, any_through, filter_same, filter_through, find_through, find_same, flat_through, picked_through}
 use Rattle.srt_route.proofs.model.Lists.{fold_through}
@@ -65,6 +71,9 @@ pub record Change : Type 0 where
   pub initial : ℕ → ℕ
   pub later : ℕ
   pub stamps_stay : (first word : ℕ) → stamped_from (stamp first) (stamp word) ≡ stamped_from first word
+  -- whether packets are decrypted; then no number changes, since it is part of a key stream
+  pub secured : Bool
+  pub numbers_stay : secured ≡ true → (n : ℕ) → initial n ≡ n
 
 abbrev pub changed_conclusion : Change → Conclusion → Conclusion
 changed_conclusion r c = record c { initial = r.initial c.initial }
@@ -106,6 +115,7 @@ pub record IsChangedPacket (r : Change) (q p : Packet) : Type 0 where
   pub concludes_is : concludes q.body ≡ option_map (changed_conclusion r) (concludes p.body)
   pub brought_is : brought_in (info_of q.body) ≡ brought_in (info_of p.body)
   pub cookie_is : cookie_in (info_of q.body) ≡ cookie_in (info_of p.body)
+  pub body_is : r.secured ≡ true → q.body ≡ p.body
 
 abbrev pub IsChangedReading : Change → Result Packet PacketFault → Result Packet PacketFault → Type 0
 IsChangedReading r (Ok q) (Ok p) = IsChangedPacket r q p
@@ -794,14 +804,20 @@ record AreChangedKeys (r : Change) (n m : RouteKeys) : Type 0 where
   pool_is : n.pool ≡ m.pool
   held_is : (slot : ℕ) → n.held slot ≡ m.held slot
 
-abbrev changed_verdict : Change → Verdict → Verdict
-changed_verdict r Passes = Passes
-changed_verdict r Ignored = Ignored
-changed_verdict r (Refused peer c) = Refused peer (changed_conclusion r c)
-changed_verdict r (Repeats request) = Repeats request
+record HasReading (r : Change) (w : Verdict) (bytes : List ℕ) : Type 0 where
+  other : List ℕ
+  verdict_is : w ≡ Decrypted other
+  reading_is : IsChangedReading r (packet_in other) (packet_in bytes)
+
+abbrev IsChangedVerdict : Change → (w v : Verdict) → Type 0
+IsChangedVerdict r w Passes = w ≡ Passes
+IsChangedVerdict r w Ignored = w ≡ Ignored
+IsChangedVerdict r w (Refused peer c) = w ≡ Refused peer (changed_conclusion r c)
+IsChangedVerdict r w (Repeats request) = w ≡ Repeats request
+IsChangedVerdict r w (Decrypted bytes) = HasReading r w bytes
 
 record IsChangedJudged (r : Change) (k j : Judged) : Type 0 where
-  verdict_is : k.verdict ≡ changed_verdict r j.verdict
+  verdict_is : IsChangedVerdict r k.verdict j.verdict
   keys_are : AreChangedKeys r k.keys j.keys
 
 -- the keys of a session that opens don't depend on the time
@@ -917,51 +933,116 @@ info_same e index r clock peer other info ss n m (Some c) brought cookie h =
     (sym (find_through (changed_session r) (is_of peer c.caller) (is_of peer c.caller) (of_same r peer c.caller) ss))
     (conclusion_same e index r clock (passphrase_of e c.role) (brought_in info) peer (cookie_in info) c ss n m (find (is_of peer c.caller) ss) h)))
 
-packet_judged_same : (e : Terms) (index : ℕ) (r : Change) (clock : ℕ) (peer : Peer) (q p : Packet) (ss : List Session) (n m : RouteKeys)
-    → IsChangedPacket r q p → AreChangedKeys r n m
-    → IsChangedJudged r (packet_judged e index (clock + r.later) peer q (map (changed_session r) ss) n) (packet_judged e index clock peer p ss m)
-packet_judged_same e index r clock peer q p ss n m h k =
+-- a packet in clear
+clear_concludes : (r : Change) (k : Publisher) (q b : Body) → q ≡ b → concludes q ≡ option_map (changed_conclusion r) (concludes b)
+    → concludes (decrypted_body k.keys k.salt q) ≡ option_map (changed_conclusion r) (concludes (decrypted_body k.keys k.salt b))
+clear_concludes r k q (Data number encryption payload) is h =
+    ap (λ (x : Body). concludes (decrypted_body k.keys k.salt x)) is ∙ by (named_key encryption k.keys)
+  where
+    by : (o : Option (List ℕ)) → concludes (decrypted_data o k.salt number payload)
+        ≡ option_map (changed_conclusion r) (concludes (decrypted_data o k.salt number payload))
+    by None = refl
+    by (Some key) = refl
+clear_concludes r k q (Handshake info) is h = ap (λ (x : Body). concludes (decrypted_body k.keys k.salt x)) is ∙ sym (ap concludes is) ∙ h
+clear_concludes r k q KeepAlive is h = ap (λ (x : Body). concludes (decrypted_body k.keys k.salt x)) is
+clear_concludes r k q (Ack number info) is h = ap (λ (x : Body). concludes (decrypted_body k.keys k.salt x)) is
+clear_concludes r k q (Nak info) is h = ap (λ (x : Body). concludes (decrypted_body k.keys k.salt x)) is
+clear_concludes r k q CongestionWarning is h = ap (λ (x : Body). concludes (decrypted_body k.keys k.salt x)) is
+clear_concludes r k q Shutdown is h = ap (λ (x : Body). concludes (decrypted_body k.keys k.salt x)) is
+clear_concludes r k q (AckAck number) is h = ap (λ (x : Body). concludes (decrypted_body k.keys k.salt x)) is
+clear_concludes r k q (DropRequest message first last) is h = ap (λ (x : Body). concludes (decrypted_body k.keys k.salt x)) is
+clear_concludes r k q PeerError is h = ap (λ (x : Body). concludes (decrypted_body k.keys k.salt x)) is
+clear_concludes r k q UserDefined is h = ap (λ (x : Body). concludes (decrypted_body k.keys k.salt x)) is
+
+clear_same : (r : Change) (k : SlotKeys) (q p : Packet) → r.secured ≡ true → IsChangedPacket r q p → IsChangedPacket r (in_clear k q) (in_clear k p)
+clear_same r Clear q p secured h = h
+clear_same r (OfSubscriber request keys) q p secured h = h
+clear_same r (OfPublisher request keys) q p secured h =
+    let same = h.body_is secured in
+    let body : decrypted_body keys.keys keys.salt q.body ≡ decrypted_body keys.keys keys.salt p.body = ap (decrypted_body keys.keys keys.salt) same in
+    record {
+      stamp_is = h.stamp_is;
+      dest_is = h.dest_is;
+      publisher_hears = λ initial. ap (λ (n : ℕ). to_publisher.heard_from n (decrypted_body keys.keys keys.salt q.body)) (r.numbers_stay secured initial)
+          ∙ ap (to_publisher.heard_from initial) body;
+      subscriber_hears = λ initial. ap (λ (n : ℕ). to_subscriber.heard_from n (decrypted_body keys.keys keys.salt q.body)) (r.numbers_stay secured initial)
+          ∙ ap (to_subscriber.heard_from initial) body;
+      shutdown_is = ap is_shutdown body;
+      concludes_is = clear_concludes r keys q.body p.body same h.concludes_is;
+      brought_is = ap (λ (b : Body). brought_in (info_of b)) body;
+      cookie_is = ap (λ (b : Body). cookie_in (info_of b)) body;
+      body_is = λ also. body;
+    }
+
+session_judged_same : (r : Change) (q p : Packet) (others bytes : List ℕ) (n m : RouteKeys) (o : Option Session) → r.secured ≡ true
+    → packet_in others ≡ Ok q → packet_in bytes ≡ Ok p → IsChangedPacket r q p → AreChangedKeys r n m
+    → IsChangedJudged r (session_judged q others n (option_map (changed_session r) o)) (session_judged p bytes m o)
+session_judged_same r q p others bytes n m None secured theirs ours h k = record { verdict_is = refl; keys_are = k }
+session_judged_same r q p others bytes n m (Some s) secured theirs ours h k =
+    let key = m.held s.slot in
+    record {
+      verdict_is = record {
+        other = clear_bytes key q others;
+        verdict_is = ap (λ (x : SlotKeys). Decrypted (clear_bytes x q others)) (k.held_is s.slot);
+        reading_is = rw (clear_read key q others theirs, clear_read key p bytes ours) (clear_same r key q p secured h);
+      };
+      keys_are = k;
+    }
+
+packet_judged_same : (e : Terms) (index : ℕ) (r : Change) (clock : ℕ) (peer : Peer) (q p : Packet) (theirs bytes : List ℕ) (ss : List Session)
+    (n m : RouteKeys) → r.secured ≡ true → packet_in theirs ≡ Ok q → packet_in bytes ≡ Ok p → IsChangedPacket r q p → AreChangedKeys r n m
+    → IsChangedJudged r (packet_judged e index (clock + r.later) peer q theirs (map (changed_session r) ss) n) (packet_judged e index clock peer p bytes ss m)
+packet_judged_same e index r clock peer q p theirs bytes ss n m secured reads read h k =
     subst
-    (λ (d : ℕ). IsChangedJudged r (cond (d == 0) (others (concludes q.body)) (record { verdict = Passes; keys = n }))
-    (packet_judged e index clock peer p ss m))
+    (λ (d : ℕ). IsChangedJudged r
+    (cond (d == 0) (others (concludes q.body)) (session_judged q theirs n (find (is_for index peer d) (map (changed_session r) ss))))
+    (packet_judged e index clock peer p bytes ss m))
     (sym h.dest_is) (by (p.dest == 0))
   where
     others : Option Conclusion → Judged
     others o = info_judged e index (clock + r.later) peer (info_of q.body) (map (changed_session r) ss) n o
 
     by : (b : Bool)
-        → IsChangedJudged r (cond b (others (concludes q.body)) (record { verdict = Passes; keys = n }))
-        (cond b (info_judged e index clock peer (info_of p.body) ss m (concludes p.body)) (record { verdict = Passes; keys = m }))
+        → IsChangedJudged r
+        (cond b (others (concludes q.body)) (session_judged q theirs n (find (is_for index peer p.dest) (map (changed_session r) ss))))
+        (cond b (info_judged e index clock peer (info_of p.body) ss m (concludes p.body))
+        (session_judged p bytes m (find (is_for index peer p.dest) ss)))
     by true =
         subst (λ (o : Option Conclusion). IsChangedJudged r (others o) (info_judged e index clock peer (info_of p.body) ss m (concludes p.body)))
         (sym h.concludes_is)
         (info_same e index r clock peer (info_of q.body) (info_of p.body) ss n m (concludes p.body) h.brought_is h.cookie_is k)
-    by false = record { verdict_is = refl; keys_are = k }
+    by false =
+        subst (λ (o : Option Session). IsChangedJudged r (session_judged q theirs n o) (session_judged p bytes m (find (is_for index peer p.dest) ss)))
+        (sym (find_through (changed_session r) (is_for index peer p.dest) (is_for index peer p.dest) (for_same r index peer p.dest) ss))
+        (session_judged_same r q p theirs bytes n m (find (is_for index peer p.dest) ss) secured reads read h k)
 
-read_judged_same : (e : Terms) (index : ℕ) (r : Change) (clock : ℕ) (peer : Peer) (q p : Result Packet PacketFault) (ss : List Session) (n m : RouteKeys)
-    → IsChangedReading r q p → AreChangedKeys r n m
-    → IsChangedJudged r (read_judged e index (clock + r.later) peer q (map (changed_session r) ss) n) (read_judged e index clock peer p ss m)
-read_judged_same e index r clock peer (Ok q) (Ok p) ss n m h k = packet_judged_same e index r clock peer q p ss n m h k
-read_judged_same e index r clock peer (Err f) (Err g) ss n m h k = record { verdict_is = refl; keys_are = k }
-read_judged_same e index r clock peer (Ok q) (Err g) ss n m h k = absurd h
-read_judged_same e index r clock peer (Err f) (Ok p) ss n m h k = absurd h
-
-item_judged_same : (e : Terms) (index : ℕ) (r : Change) (clock : ℕ) (j i : Item) (ss : List Session) (n m : RouteKeys) → IsChangedItem r j i
+read_judged_same : (e : Terms) (index : ℕ) (r : Change) (clock : ℕ) (peer : Peer) (q p : Result Packet PacketFault) (theirs bytes : List ℕ)
+    (ss : List Session) (n m : RouteKeys) → r.secured ≡ true → packet_in theirs ≡ q → packet_in bytes ≡ p → IsChangedReading r q p
     → AreChangedKeys r n m
+    → IsChangedJudged r (read_judged e index (clock + r.later) peer q theirs (map (changed_session r) ss) n) (read_judged e index clock peer p bytes ss m)
+read_judged_same e index r clock peer (Ok q) (Ok p) theirs bytes ss n m secured reads read h k =
+    packet_judged_same e index r clock peer q p theirs bytes ss n m secured reads read h k
+read_judged_same e index r clock peer (Err f) (Err g) theirs bytes ss n m secured reads read h k = record { verdict_is = refl; keys_are = k }
+read_judged_same e index r clock peer (Ok q) (Err g) theirs bytes ss n m secured reads read h k = absurd h
+read_judged_same e index r clock peer (Err f) (Ok p) theirs bytes ss n m secured reads read h k = absurd h
+
+item_judged_same : (e : Terms) (index : ℕ) (r : Change) (clock : ℕ) (j i : Item) (ss : List Session) (n m : RouteKeys) → r.secured ≡ true
+    → IsChangedItem r j i → AreChangedKeys r n m
     → IsChangedJudged r (item_judged e index (clock + r.later) j (map (changed_session r) ss) n) (item_judged e index clock i ss m)
-item_judged_same e index r clock (Received d y) (Received c x) ss n m h k =
+item_judged_same e index r clock (Received d y) (Received c x) ss n m secured h k =
     subst
-    (λ (peer : Peer). IsChangedJudged r (read_judged e index (clock + r.later) peer (packet_in d.bytes) (map (changed_session r) ss) n)
-    (read_judged e index clock c.peer (packet_in c.bytes) ss m))
-    (sym h.0.peer_is) (read_judged_same e index r clock c.peer (packet_in d.bytes) (packet_in c.bytes) ss n m h.0.reading_is k)
-item_judged_same e index r clock (Tick y) (Tick x) ss n m h k = record { verdict_is = refl; keys_are = k }
-item_judged_same e index r clock (Close y) (Close x) ss n m h k = record { verdict_is = refl; keys_are = k }
-item_judged_same e index r clock (Received d y) (Tick x) ss n m h k = absurd h
-item_judged_same e index r clock (Tick y) (Received c x) ss n m h k = absurd h
-item_judged_same e index r clock (Received d y) (Close x) ss n m h k = absurd h
-item_judged_same e index r clock (Tick y) (Close x) ss n m h k = absurd h
-item_judged_same e index r clock (Close y) (Received c x) ss n m h k = absurd h
-item_judged_same e index r clock (Close y) (Tick x) ss n m h k = absurd h
+    (λ (peer : Peer). IsChangedJudged r (read_judged e index (clock + r.later) peer (packet_in d.bytes) d.bytes (map (changed_session r) ss) n)
+    (read_judged e index clock c.peer (packet_in c.bytes) c.bytes ss m))
+    (sym h.0.peer_is)
+    (read_judged_same e index r clock c.peer (packet_in d.bytes) (packet_in c.bytes) d.bytes c.bytes ss n m secured refl refl h.0.reading_is k)
+item_judged_same e index r clock (Tick y) (Tick x) ss n m secured h k = record { verdict_is = refl; keys_are = k }
+item_judged_same e index r clock (Close y) (Close x) ss n m secured h k = record { verdict_is = refl; keys_are = k }
+item_judged_same e index r clock (Received d y) (Tick x) ss n m secured h k = absurd h
+item_judged_same e index r clock (Tick y) (Received c x) ss n m secured h k = absurd h
+item_judged_same e index r clock (Received d y) (Close x) ss n m secured h k = absurd h
+item_judged_same e index r clock (Tick y) (Close x) ss n m secured h k = absurd h
+item_judged_same e index r clock (Close y) (Received c x) ss n m secured h k = absurd h
+item_judged_same e index r clock (Close y) (Tick x) ss n m secured h k = absurd h
 
 kept_here : (r : Change) (o : Option Session) (k : SlotKeys) → kept_at (option_map (changed_session r) o) k ≡ kept_at o k
 kept_here r None k = refl
@@ -979,12 +1060,13 @@ kept_same r ss n m h =
           ∙ ap (λ (k : SlotKeys). kept_at (find (is_open_in slot) ss) k) (h.held_is slot);
     }
 
-judged_same : (secured : Bool) (e : Terms) (index : ℕ) (r : Change) (clock : ℕ) (j i : Item) (ss : List Session) (n m : RouteKeys) → IsChangedItem r j i
-    → AreChangedKeys r n m
+judged_same : (secured : Bool) (e : Terms) (index : ℕ) (r : Change) (clock : ℕ) (j i : Item) (ss : List Session) (n m : RouteKeys)
+    → (secured ≡ true → r.secured ≡ true)
+    → IsChangedItem r j i → AreChangedKeys r n m
     → IsChangedJudged r (judged_if secured e index (clock + r.later) j (map (changed_session r) ss) n) (judged_if secured e index clock i ss m)
-judged_same false e index r clock j i ss n m h k = record { verdict_is = refl; keys_are = k }
-judged_same true e index r clock j i ss n m h k =
-    item_judged_same e index r clock j i ss (keys_kept (map (changed_session r) ss) n) (keys_kept ss m) h (kept_same r ss n m k)
+judged_same false e index r clock j i ss n m fits h k = record { verdict_is = refl; keys_are = k }
+judged_same true e index r clock j i ss n m fits h k =
+    item_judged_same e index r clock j i ss (keys_kept (map (changed_session r) ss) n) (keys_kept ss m) (fits refl) h (kept_same r ss n m k)
 
 -- the item as the sessions process it, and the answers to it
 moment_same : (r : Change) (j i : Item) → IsChangedItem r j i → moment_of j ≡ moment_of i + r.later
@@ -998,11 +1080,26 @@ moment_same r (Tick y) (Close x) h = absurd h
 moment_same r (Close y) (Received c x) h = absurd h
 moment_same r (Close y) (Tick x) h = absurd h
 
-heard_same : (r : Change) (v : Verdict) (j i : Item) → IsChangedItem r j i → IsChangedItem r (heard_as (changed_verdict r v) j) (heard_as v i)
-heard_same r Passes j i h = h
-heard_same r Ignored j i h = moment_same r j i h
-heard_same r (Refused peer c) j i h = moment_same r j i h
-heard_same r (Repeats request) j i h = h
+bytes_same : (r : Change) (others bytes : List ℕ) (j i : Item) → IsChangedReading r (packet_in others) (packet_in bytes) → IsChangedItem r j i
+    → IsChangedItem r (with_bytes others j) (with_bytes bytes i)
+bytes_same r others bytes (Received d y) (Received c x) reading h = (record { peer_is = h.0.peer_is; reading_is = reading }, h.1)
+bytes_same r others bytes (Tick y) (Tick x) reading h = h
+bytes_same r others bytes (Close y) (Close x) reading h = h
+bytes_same r others bytes (Received d y) (Tick x) reading h = absurd h
+bytes_same r others bytes (Tick y) (Received c x) reading h = absurd h
+bytes_same r others bytes (Received d y) (Close x) reading h = absurd h
+bytes_same r others bytes (Tick y) (Close x) reading h = absurd h
+bytes_same r others bytes (Close y) (Received c x) reading h = absurd h
+bytes_same r others bytes (Close y) (Tick x) reading h = absurd h
+
+heard_same : (r : Change) (w v : Verdict) (j i : Item) → IsChangedVerdict r w v → IsChangedItem r j i → IsChangedItem r (heard_as w j) (heard_as v i)
+heard_same r w Passes j i is h = subst (λ (x : Verdict). IsChangedItem r (heard_as x j) i) (sym is) h
+heard_same r w Ignored j i is h = subst (λ (x : Verdict). IsChangedItem r (heard_as x j) (Tick (moment_of i))) (sym is) (moment_same r j i h)
+heard_same r w (Refused peer c) j i is h = subst (λ (x : Verdict). IsChangedItem r (heard_as x j) (Tick (moment_of i))) (sym is) (moment_same r j i h)
+heard_same r w (Repeats request) j i is h = subst (λ (x : Verdict). IsChangedItem r (heard_as x j) i) (sym is) h
+heard_same r w (Decrypted bytes) j i is h =
+    subst (λ (x : Verdict). IsChangedItem r (heard_as x j) (with_bytes bytes i)) (sym is.verdict_is)
+    (bytes_same r is.other bytes j i is.reading_is h)
 
 with_keys_same : (r : Change) (request : List ℕ) (o : Output) → output_with request (changed_output r o) ≡ changed_output r (output_with request o)
 with_keys_same r request (Answers caller answer) = refl
@@ -1010,15 +1107,17 @@ with_keys_same r request (AnswersWithKeys caller other answer) = refl
 with_keys_same r request (Says caller initial time report) = refl
 with_keys_same r request (Ends caller time) = refl
 
-answers_with_same : (r : Change) (v : Verdict) (xs : List Reply)
-    → answers_as (changed_verdict r v) (map (changed_reply r) xs) ≡ map (changed_reply r) (answers_as v xs)
-answers_with_same r Passes xs = refl
-answers_with_same r Ignored xs = refl
-answers_with_same r (Refused peer c) xs = refl
-answers_with_same r (Repeats None) xs = refl
-answers_with_same r (Repeats (Some request)) xs =
-    map_through (changed_reply r) (reply_with request) (reply_with request) (changed_reply r)
+answers_with_same : (r : Change) (w v : Verdict) (xs : List Reply) → IsChangedVerdict r w v
+    → answers_as w (map (changed_reply r) xs) ≡ map (changed_reply r) (answers_as v xs)
+answers_with_same r w Passes xs is = ap (λ (x : Verdict). answers_as x (map (changed_reply r) xs)) is
+answers_with_same r w Ignored xs is = ap (λ (x : Verdict). answers_as x (map (changed_reply r) xs)) is
+answers_with_same r w (Refused peer c) xs is = ap (λ (x : Verdict). answers_as x (map (changed_reply r) xs)) is
+answers_with_same r w (Repeats None) xs is = ap (λ (x : Verdict). answers_as x (map (changed_reply r) xs)) is
+answers_with_same r w (Repeats (Some request)) xs is =
+    ap (λ (x : Verdict). answers_as x (map (changed_reply r) xs)) is
+    ∙ map_through (changed_reply r) (reply_with request) (reply_with request) (changed_reply r)
     (λ x. ap (λ (o : Output). record { peer = x.peer; packet = o }) (with_keys_same r request x.packet)) xs
+answers_with_same r w (Decrypted bytes) xs is = ap (λ (x : Verdict). answers_as x (map (changed_reply r) xs)) is.verdict_is
 
 -- before the first item the clock is 0 in both
 record IsChangedRoute (r : Change) (n m : Route) : Type 0 where
@@ -1049,80 +1148,82 @@ closes_same r (Tick y) (Close x) h = absurd h
 closes_same r (Close y) (Received c x) h = absurd h
 closes_same r (Close y) (Tick x) h = absurd h
 
-judgement_same : (e : Terms) (index : ℕ) (r : Change) (j i : Item) (n m : Route) → IsChangedItem r j i → IsChangedRoute r n m
-    → IsChangedJudged r (judgement e index j n) (judgement e index i m)
-judgement_same e index r j i n m h k =
+judgement_same : (e : Terms) (index : ℕ) (r : Change) (fits : has_secured_role e ≡ true → r.secured ≡ true) (j i : Item) (n m : Route)
+    → IsChangedItem r j i → IsChangedRoute r n m → IsChangedJudged r (judgement e index j n) (judgement e index i m)
+judgement_same e index r fits j i n m h k =
     let clock = clock_after i m in
     let is = judgement e index i m in
     subst (λ (t : ℕ). IsChangedJudged r (judged_if (has_secured_role e) e index t j (advanced e t n.sessions) n.keys) is)
     (sym (clock_same r j i n m h k))
     (subst (λ (ss : List Session). IsChangedJudged r (judged_if (has_secured_role e) e index (clock + r.later) j ss n.keys) is)
     (sym (ap (λ ss. advanced e (clock + r.later) ss) k.sessions_are ∙ advanced_same e r clock m.sessions))
-    (judged_same (has_secured_role e) e index r clock j i (advanced e clock m.sessions) n.keys m.keys h k.keys_are))
+    (judged_same (has_secured_role e) e index r clock j i (advanced e clock m.sessions) n.keys m.keys fits h k.keys_are))
 
-taken_by_same : (e : Terms) (index : ℕ) (r : Change) (j i : Item) (n m : Route)
+taken_by_same : (e : Terms) (index : ℕ) (r : Change) (fits : has_secured_role e ≡ true → r.secured ≡ true) (j i : Item) (n m : Route)
     → IsChangedItem r j i → IsChangedRoute r n m → taken_by e index j n ≡ changed_taken r (taken_by e index i m)
-taken_by_same e index r j i n m h k =
+taken_by_same e index r fits j i n m h k =
     let clock = clock_after i m in
     let ss = advanced e clock m.sessions in
     let v = (judgement e index i m).verdict in
-    let w = changed_verdict r v in
-    ap (λ (x : Verdict). taken_with x (taken e index (clock_after j n) (heard_as x j) (advanced e (clock_after j n) n.sessions)))
-    (judgement_same e index r j i n m h k).verdict_is
-    ∙ ap (λ t. taken_with w (taken e index t (heard_as w j) (advanced e t n.sessions))) (clock_same r j i n m h k)
+    let w = (judgement e index j n).verdict in
+    let is = (judgement_same e index r fits j i n m h k).verdict_is in
+    ap (λ t. taken_with w (taken e index t (heard_as w j) (advanced e t n.sessions))) (clock_same r j i n m h k)
     ∙ ap (λ xs. taken_with w (taken e index (clock + r.later) (heard_as w j) (advanced e (clock + r.later) xs))) k.sessions_are
     ∙ ap (λ xs. taken_with w (taken e index (clock + r.later) (heard_as w j) xs)) (advanced_same e r clock m.sessions)
-    ∙ ap (taken_with w) (taken_same e index r clock (heard_as w j) (heard_as v i) (heard_same r v j i h) ss)
+    ∙ ap (taken_with w) (taken_same e index r clock (heard_as w j) (heard_as v i) (heard_same r w v j i is h) ss)
     ∙ ap (λ (xs : List Reply). taken_as (map (changed_session r) (taken e index clock (heard_as v i) ss).sessions) xs)
-    (answers_with_same r v (taken e index clock (heard_as v i) ss).answers)
+    (answers_with_same r w v (taken e index clock (heard_as v i) ss).answers is)
 
-passed_by_same : (e : Terms) (index : ℕ) (r : Change) (j i : Item) (n m : Route)
+passed_by_same : (e : Terms) (index : ℕ) (r : Change) (fits : has_secured_role e ≡ true → r.secured ≡ true) (j i : Item) (n m : Route)
     → IsChangedItem r j i → IsChangedRoute r n m → passed_by e index j n ≡ map (changed_session r) (passed_by e index i m)
-passed_by_same e index r j i n m h k =
+passed_by_same e index r fits j i n m h k =
     let clock = clock_after i m in
     ap (λ t. after_delivery e t (taken_by e index j n).sessions) (clock_same r j i n m h k)
-    ∙ ap (λ (t : Taken). after_delivery e (clock + r.later) t.sessions) (taken_by_same e index r j i n m h k)
+    ∙ ap (λ (t : Taken). after_delivery e (clock + r.later) t.sessions) (taken_by_same e index r fits j i n m h k)
     ∙ after_delivery_same e r clock (taken_by e index i m).sessions
 
 goes_on : (a b later moment : ℕ) → a ≡ b + later → max a (moment + later) ≡ max b moment + later
 goes_on a b later moment same = omega (arith, same)
 
-sessions_same : (is_closed : Bool) (e : Terms) (index : ℕ) (r : Change) (j i : Item) (n m : Route) → IsChangedItem r j i
+sessions_same : (is_closed : Bool) (e : Terms) (index : ℕ) (r : Change) (fits : has_secured_role e ≡ true → r.secured ≡ true) (j i : Item)
+    (n m : Route) → IsChangedItem r j i
     → IsChangedRoute r n m
     → sessions_at is_closed e index j n ≡ map (changed_session r) (sessions_at is_closed e index i m)
-sessions_same true e index r j i n m h k = k.sessions_are
-sessions_same false e index r j i n m h k =
+sessions_same true e index r fits j i n m h k = k.sessions_are
+sessions_same false e index r fits j i n m h k =
     let clock = clock_after i m in
     let others = passed_by e index j n in
     let ss = passed_by e index i m in
     let over = is_file_over e ss in
     ap (λ t. map (finished e t (is_file_over e others)) others) (clock_same r j i n m h k)
-    ∙ ap (λ xs. map (finished e (clock + r.later) (is_file_over e xs)) xs) (passed_by_same e index r j i n m h k)
+    ∙ ap (λ xs. map (finished e (clock + r.later) (is_file_over e xs)) xs) (passed_by_same e index r fits j i n m h k)
     ∙ ap (λ b. map (finished e (clock + r.later) b) (map (changed_session r) ss)) (over_same e r ss)
     ∙ map_through (changed_session r) (finished e (clock + r.later) over) (finished e clock over) (changed_session r)
     (λ s. finished_here e r clock (has_whole_file over s) s) ss
 
-keys_same : (is_closed : Bool) (e : Terms) (index : ℕ) (r : Change) (j i : Item) (n m : Route) → IsChangedItem r j i → IsChangedRoute r n m
+keys_same : (is_closed : Bool) (e : Terms) (index : ℕ) (r : Change) (fits : has_secured_role e ≡ true → r.secured ≡ true) (j i : Item)
+    (n m : Route) → IsChangedItem r j i → IsChangedRoute r n m
     → AreChangedKeys r (keys_at is_closed e index j n) (keys_at is_closed e index i m)
-keys_same true e index r j i n m h k = k.keys_are
-keys_same false e index r j i n m h k = (judgement_same e index r j i n m h k).keys_are
+keys_same true e index r fits j i n m h k = k.keys_are
+keys_same false e index r fits j i n m h k = (judgement_same e index r fits j i n m h k).keys_are
 
-notified_same : (e : Terms) (index : ℕ) (r : Change) (j i : Item) (n m : Route)
+notified_same : (e : Terms) (index : ℕ) (r : Change) (fits : has_secured_role e ≡ true → r.secured ≡ true) (j i : Item) (n m : Route)
     → IsChangedItem r j i → IsChangedRoute r n m → IsChangedRoute r (with_input e index j n) (with_input e index i m)
-notified_same e index r j i n m h k =
+notified_same e index r fits j i n m h k =
     record {
       clock_is = λ moment. goes_on (clock_after j n) (clock_after i m) r.later moment (clock_same r j i n m h k);
-      sessions_are = ap (λ b. sessions_at b e index j n) k.closed_is ∙ sessions_same m.is_closed e index r j i n m h k;
+      sessions_are = ap (λ b. sessions_at b e index j n) k.closed_is ∙ sessions_same m.is_closed e index r fits j i n m h k;
       closed_is = ap (λ b. b || closes j) k.closed_is ∙ ap (λ b. m.is_closed || b) (closes_same r j i h);
       keys_are = subst (λ (b : Bool). AreChangedKeys r (keys_at b e index j n) (keys_at m.is_closed e index i m)) (sym k.closed_is)
-          (keys_same m.is_closed e index r j i n m h k);
+          (keys_same m.is_closed e index r fits j i n m h k);
     }
 
-replies_at_same : (is_closed : Bool) (e : Terms) (index : ℕ) (r : Change) (j i : Item) (n m : Route) → IsChangedItem r j i
+replies_at_same : (is_closed : Bool) (e : Terms) (index : ℕ) (r : Change) (fits : has_secured_role e ≡ true → r.secured ≡ true) (j i : Item)
+    (n m : Route) → IsChangedItem r j i
     → IsChangedRoute r n m
     → replies_at is_closed e index j n ≡ map (changed_reply r) (replies_at is_closed e index i m)
-replies_at_same true e index r j i n m h k = refl
-replies_at_same false e index r j i n m h k =
+replies_at_same true e index r fits j i n m h k = refl
+replies_at_same false e index r fits j i n m h k =
     let clock = clock_after i m in
     let others = passed_by e index j n in
     let ss = passed_by e index i m in
@@ -1149,12 +1250,12 @@ replies_at_same false e index r j i n m h k =
     (λ (t : Taken).
     map (changed_reply r) idle ++ t.answers ++ packets_where e (clock + r.later) speaks others
     ++ served e (clock + r.later) (is_file_over e others) others)
-    (taken_by_same e index r j i n m h k)
+    (taken_by_same e index r fits j i n m h k)
     ∙ ap
     (λ xs.
     map (changed_reply r) idle ++ map (changed_reply r) first ++ packets_where e (clock + r.later) speaks xs
     ++ served e (clock + r.later) (is_file_over e xs) xs)
-    (passed_by_same e index r j i n m h k)
+    (passed_by_same e index r fits j i n m h k)
     ∙ ap
     (λ x.
     map (changed_reply r) idle ++ map (changed_reply r) first ++ packets_where e (clock + r.later) speaks (map (changed_session r) ss)
@@ -1170,9 +1271,9 @@ replies_at_same false e index r j i n m h k =
     ∙ ap (λ xs. xs ++ map (changed_reply r) third) (sym (map-append (changed_reply r) (idle ++ first) second))
     ∙ sym (map-append (changed_reply r) (idle ++ first ++ second) third)
 
-replies_same : (e : Terms) (index : ℕ) (r : Change) (j i : Item) (n m : Route)
+replies_same : (e : Terms) (index : ℕ) (r : Change) (fits : has_secured_role e ≡ true → r.secured ≡ true) (j i : Item) (n m : Route)
     → IsChangedItem r j i → IsChangedRoute r n m → replies_to e index j n ≡ map (changed_reply r) (replies_to e index i m)
-replies_same e index r j i n m h k = ap (λ b. replies_at b e index j n) k.closed_is ∙ replies_at_same m.is_closed e index r j i n m h k
+replies_same e index r fits j i n m h k = ap (λ b. replies_at b e index j n) k.closed_is ∙ replies_at_same m.is_closed e index r fits j i n m h k
 
 at_first : (later moment : ℕ) → max 0 (moment + later) ≡ max 0 moment + later
 at_first later moment = omega arith
@@ -1181,30 +1282,31 @@ none_requested : first_keys.moments ≡ moments_after []
 unfolding moments_after
 none_requested = refl
 
-after_same : (e : Terms) (index : ℕ) (r : Change) (js is : List Item) → AreChanged r js is → IsChangedRoute r (after e index js) (after e index is)
-after_same e index r [] [] h =
+after_same : (e : Terms) (index : ℕ) (r : Change) (fits : has_secured_role e ≡ true → r.secured ≡ true) (js is : List Item) → AreChanged r js is
+    → IsChangedRoute r (after e index js) (after e index is)
+after_same e index r fits [] [] h =
     record {
       clock_is = at_first r.later;
       sessions_are = refl;
       closed_is = refl;
       keys_are = record { moments_are = not_delayed r.later first_keys.moments none_requested; pool_is = refl; held_is = λ slot. refl };
     }
-after_same e index r (j ∷ js) (i ∷ is) h = notified_same e index r j i (after e index js) (after e index is) h.0 (after_same e index r js is h.1)
-after_same e index r [] (i ∷ is) h = absurd h
-after_same e index r (j ∷ js) [] h = absurd h
+after_same e index r fits (j ∷ js) (i ∷ is) h = notified_same e index r fits j i (after e index js) (after e index is) h.0 (after_same e index r fits js is h.1)
+after_same e index r fits [] (i ∷ is) h = absurd h
+after_same e index r fits (j ∷ js) [] h = absurd h
 
 -- all replies of a route so far, before their encoding
 abbrev pub all_replies : Terms → (index : ℕ) → List Item → List Reply
 all_replies e index [] = []
 all_replies e index (item ∷ items) = all_replies e index items ++ replies_to e index item (after e index items)
 
-pub all_same : (e : Terms) (index : ℕ) (r : Change) (js is : List Item)
+pub all_same : (e : Terms) (index : ℕ) (r : Change) (fits : has_secured_role e ≡ true → r.secured ≡ true) (js is : List Item)
     → AreChanged r js is → all_replies e index js ≡ map (changed_reply r) (all_replies e index is)
-all_same e index r [] [] h = refl
-all_same e index r (j ∷ js) (i ∷ is) h =
-    ap (λ xs. xs ++ replies_to e index j (after e index js)) (all_same e index r js is h.1)
+all_same e index r fits [] [] h = refl
+all_same e index r fits (j ∷ js) (i ∷ is) h =
+    ap (λ xs. xs ++ replies_to e index j (after e index js)) (all_same e index r fits js is h.1)
     ∙ ap (λ xs. map (changed_reply r) (all_replies e index is) ++ xs)
-    (replies_same e index r j i (after e index js) (after e index is) h.0 (after_same e index r js is h.1))
+    (replies_same e index r fits j i (after e index js) (after e index is) h.0 (after_same e index r fits js is h.1))
     ∙ sym (map-append (changed_reply r) (all_replies e index is) (replies_to e index i (after e index is)))
-all_same e index r [] (i ∷ is) h = absurd h
-all_same e index r (j ∷ js) [] h = absurd h
+all_same e index r fits [] (i ∷ is) h = absurd h
+all_same e index r fits (j ∷ js) [] h = absurd h

@@ -1,5 +1,6 @@
 -- A route with other items: other sequence numbers, other timestamps, or later times.
-use Rattle.std.proofs.Common.{◌≡◌, ℕ, ◌+◌, ◌%◌, ◌^◌, Option, None, Some, List, [], ◌∷◌, ◌++◌, map, Result, Ok, Err, refl, sym, ap, subst, ◌∙◌, arith}
+use Rattle.std.proofs.Common.{◌≡◌, ℕ, true, false, ◌+◌, ◌%◌, ◌^◌, Option, None, Some, List, [], ◌∷◌, ◌++◌, map, Result, Ok, Err, refl, sym, ap, subst, ◌∙◌}
+use Rattle.std.proofs.Common.{arith}
 use Rattle.std.specs.Prelude.{option_map}
 use Rattle.std.proofs.lemmas.List.{map-append}
 use Rattle.srt_types.specs.Terms.{Terms}
@@ -12,7 +13,7 @@ use Rattle.srt_packet.specs.Text.{text}
 use Rattle.srt_packet.specs.declared.writing.Body.TheVariants as out
 use Rattle.srt_route.specs.declared.conclusion_reading.Conclusion.{Conclusion}
 use Rattle.srt_route.specs.Past.{is_shutdown, ToPublisher, ToSubscriber}
-use Rattle.srt_route.specs.RouteKeys.{brought_in, cookie_in}
+use Rattle.srt_route.specs.RouteKeys.{brought_in, cookie_in, has_secured_role}
 use Rattle.srt_route.specs.Route.{info_of}
 use Rattle.srt_route.specs.Route.{Output, Answers, AnswersWithKeys, Says, Ends, Reply, output_text, sent, concludes, after, replies_to, reply, solo}
 use Rattle.srt_route.specs.Shifted.{shifted, shifted_body, shifted_reading, renumbered, renumbered_datagram, renumbered_item}
@@ -49,15 +50,24 @@ not_later n = omega arith
 
 -- other timestamps
 abbrev restamp : (by : ℕ) → Change
-restamp by = record { stamp = λ w. (w + by) % 2 ^ 32; initial = same; later = 0; stamps_stay = stamps_stay by }
+restamp by =
+    record { stamp = λ w. (w + by) % 2 ^ 32; initial = same; later = 0; stamps_stay = stamps_stay by; secured = true; numbers_stay = λ secured n. refl }
 
 -- all times later
 abbrev move : (by : ℕ) → Change
-move by = record { stamp = same; initial = same; later = by; stamps_stay = same_stamp }
+move by = record { stamp = same; initial = same; later = by; stamps_stay = same_stamp; secured = true; numbers_stay = λ secured n. refl }
 
 -- other sequence numbers
 abbrev renumber : (by : ℕ) → Change
-renumber by = record { stamp = same; initial = shifted by; later = 0; stamps_stay = same_stamp }
+renumber by =
+    record {
+      stamp = same;
+      initial = shifted by;
+      later = 0;
+      stamps_stay = same_stamp;
+      secured = false;
+      numbers_stay = λ secured n. absurd (let bad : false ≡ true = secured in cc);
+    }
 
 restamp_keeps : (by : ℕ) (c : Option Conclusion) → c ≡ option_map (changed_conclusion (restamp by)) c
 restamp_keeps by None = refl
@@ -78,6 +88,7 @@ restamped_read by (Ok p) =
       concludes_is = restamp_keeps by (concludes p.body);
       brought_is = refl;
       cookie_is = refl;
+      body_is = λ secured. refl;
     }
 restamped_read by (Err fault) = tt
 
@@ -92,6 +103,7 @@ moved_read by (Ok p) =
       concludes_is = move_keeps by (concludes p.body);
       brought_is = refl;
       cookie_is = refl;
+      body_is = λ secured. refl;
     }
 moved_read by (Err fault) = tt
 
@@ -158,6 +170,7 @@ renumbered_read by (Ok p) =
       concludes_is = concludes_shifts by p.body;
       brought_is = brought_stays by p.body;
       cookie_is = cookie_of_stays by p.body;
+      body_is = λ secured. absurd (let bad : false ≡ true = secured in cc);
     }
 renumbered_read by (Err fault) = tt
 
@@ -212,17 +225,20 @@ same_replies r numbers [] = refl
 same_replies r numbers (x ∷ xs) =
     ap (λ o. record { peer = x.peer; packet = o } ∷ map (changed_reply r) xs) (same_output r numbers x.packet) ∙ ap (λ ys. x ∷ ys) (same_replies r numbers xs)
 
-alike : (e : Terms) (index : ℕ) (r : Change) → ((n : ℕ) → r.initial n ≡ n) → (js is : List Item) → AreChanged r js is → solo e index js ≡ solo e index is
-alike e index r numbers js is h =
-    solo_is e index js ∙ ap (λ xs. map sent xs) (all_same e index r js is h ∙ same_replies r numbers (all_replies e index is)) ∙ sym (solo_is e index is)
+alike : (e : Terms) (index : ℕ) (r : Change) → (has_secured_role e ≡ true → r.secured ≡ true) → ((n : ℕ) → r.initial n ≡ n)
+    → (js is : List Item) → AreChanged r js is → solo e index js ≡ solo e index is
+alike e index r fits numbers js is h =
+    solo_is e index js ∙ ap (λ xs. map sent xs) (all_same e index r fits js is h ∙ same_replies r numbers (all_replies e index is)) ∙ sym (solo_is e index is)
 
 pub restamps : Restamps
 restamps e index by items =
-    alike e index (restamp by) (λ n. refl) (map (restamped_item by) items) items
+    alike e index (restamp by) (λ secured. refl) (λ n. refl) (map (restamped_item by) items) items
     (all_changed (restamp by) (restamped_item by) (restamped_item_is by) items)
 
 pub moves : Moves
-moves e index by items = alike e index (move by) (λ n. refl) (map (moved_item by) items) items (all_changed (move by) (moved_item by) (moved_item_is by) items)
+moves e index by items =
+    alike e index (move by) (λ secured. refl) (λ n. refl) (map (moved_item by) items) items
+    (all_changed (move by) (moved_item by) (moved_item_is by) items)
 
 -- a SHUTDOWN has no numbers
 shutdown_says : (by stamp dest : ℕ)
@@ -250,6 +266,8 @@ pub renumbers : Renumbers
 renumbers e index by items clear =
     let changed = all_changed (renumber by) (renumbered_item by) (renumbered_item_is by) items in
     solo_is e index (map (renumbered_item by) items)
-    ∙ ap (λ xs. map sent xs) (all_same e index (renumber by) (map (renumbered_item by) items) items changed)
+    ∙ ap (λ xs. map sent xs)
+    (all_same e index (renumber by) (λ secured. absurd (let bad : true ≡ false = sym secured ∙ clear in cc)) (map (renumbered_item by) items) items
+    changed)
     ∙ all_shift by (all_replies e index items) (all_said e index items clear)
     ∙ ap (λ xs. map (renumbered_datagram by) xs) (sym (solo_is e index items))

@@ -19,16 +19,17 @@ use Rattle.srt_route.specs.declared.secured.Verdict.TheVariants as code
 use Rattle.srt_route.specs.declared.table.Table.{Table}
 use Rattle.srt_route.specs.RouteKeys.{Brought, RouteKeys, SlotKeys, Clear, brought_in, cookie_in, has_secured_role, passphrase_of, request_of}
 use Rattle.srt_route.specs.Sessions.{Session, answer_of, is_open_in}
-use Rattle.srt_route.specs.Route.{Answers, Judged, Reply, Taken, Verdict, Passes, Ignored, Refused, Repeats, answers_as, asked, concluded, conclusion_judged}
+use Rattle.srt_route.specs.Route.{Answers, Judged, Reply, Taken, Verdict, Passes, Ignored, Refused, Repeats, Decrypted, answers_as, asked, concluded}
+use Rattle.srt_route.specs.Route.{conclusion_judged}
 use Rattle.srt_route.specs.Route.{decision}
-use Rattle.srt_route.specs.Route.{heard_as, info_judged, is_of, item_judged, judged, kept_at, keys_kept, nothing_taken, packet_judged, packet_taken}
+use Rattle.srt_route.specs.Route.{heard_as, info_judged, is_of, item_judged, judged, kept_at, keys_kept, nothing_taken, packet_judged}
 use Rattle.srt_route.specs.Route.{read_judged, read_taken}
 use Rattle.srt_route.specs.Route.{reply_with, sent, taken, taken_as}
 use Rattle.srt_route.specs.StoredKeys.{AreKeys}
 use Rattle.srt_route.specs.Written.{written}
 use Rattle.srt_route.specs.Tables.{IsTable, IsTaken}
-use Rattle.srt_route.specs.Ends.{Ending, EndsAre, destined_ending, item_ending, kept_of, read_ending}
-use Rattle.srt_route.specs.Tallies.{Tally, conclusion_tally, item_tally, packet_tally, read_tally, tally_of, verdict_tally}
+use Rattle.srt_route.specs.Ends.{Ending, EndsAre, item_ending, kept_of, read_ending}
+use Rattle.srt_route.specs.Tallies.{Tally, conclusion_tally, item_tally, read_tally, tally_of, verdict_tally}
 use Rattle.srt_route.specs.inside.Reports.{Queues}
 
 -- the verdict that a value of the code represents, on a conclusion of this caller, where slots have these keys
@@ -116,6 +117,7 @@ heard_taken Passes sessions t = t
 heard_taken Ignored sessions t = nothing_taken sessions
 heard_taken (Refused peer c) sessions t = nothing_taken sessions
 heard_taken (Repeats request) sessions t = t
+heard_taken (Decrypted bytes) sessions t = t
 
 -- counts after a verdict, from those before and after what the sessions make of the item
 abbrev pub heard_tally : Verdict → (before after : Tally) → Tally
@@ -123,6 +125,7 @@ heard_tally Passes before after = after
 heard_tally Ignored before after = before
 heard_tally (Refused peer c) before after = before
 heard_tally (Repeats request) before after = after
+heard_tally (Decrypted bytes) before after = after
 
 -- how sessions end by an item after a verdict
 abbrev pub none_ends : Ending
@@ -133,6 +136,7 @@ heard_ending Passes ending = ending
 heard_ending Ignored ending = none_ends
 heard_ending (Refused peer c) ending = none_ends
 heard_ending (Repeats request) ending = ending
+heard_ending (Decrypted bytes) ending = ending
 
 -- a conclusion as judged, without the contents of a KMREQ block in its answer
 abbrev pub ConcludesAs : TheVerdict → Arrival → Conclusion → (old new : Table) → List Datagram → Type 0
@@ -174,23 +178,36 @@ pub record IsSecured (e : Terms) (index clock : ℕ) (sessions : List Session) (
   pub ends : EndsAre e index (heard_ending j.verdict ending) clock sessions (kept_of old) (kept_of new)
   pub tally : tally_of new ≡ verdict_tally j.verdict (heard_tally j.verdict (tally_of old) (later (tally_of old)))
 
--- a packet was processed so, and a datagram with these bytes
+-- the bytes of a datagram as the sessions process them after a verdict
+abbrev pub heard_bytes : Verdict → List ℕ → List ℕ
+heard_bytes Passes bytes = bytes
+heard_bytes Ignored bytes = bytes
+heard_bytes (Refused peer c) bytes = bytes
+heard_bytes (Repeats request) bytes = bytes
+heard_bytes (Decrypted other) bytes = other
+
+-- a datagram with these bytes was processed so
+abbrev pub IsHeard : Terms → (index clock : ℕ) → Peer → (bytes : List ℕ) → List Session → Judged → Table → TheRouteKeys → List Datagram
+    → (old new : Ledger) → Type 0
+IsHeard e index clock peer bytes sessions j table keys replies old new =
+    let read = packet_in (heard_bytes j.verdict bytes) in
+    IsSecured e index clock sessions j (read_taken e index clock peer read sessions) (read_ending e index clock peer read sessions)
+    (read_tally e peer read sessions) table keys replies old new
+
+-- a packet was processed so, whatever its bytes are, and a datagram with these bytes
 abbrev pub SecuresPacket : Arrival → Packet → (old new : Table) → (before after : TheRouteKeys) → List Datagram → (earlier later : Ledger) → Type 0
 SecuresPacket arrival packet old new before after replies earlier later =
-    (e : Terms) (index : ℕ) (sessions : List Session) (keys : RouteKeys)
-    → IsTable e index arrival.clock old sessions → AreKeys e before keys → has_secured_role e ≡ true
-    → IsSecured e index arrival.clock sessions (packet_judged e index arrival.clock arrival.peer packet sessions keys)
-    (packet_taken e index arrival.clock arrival.peer packet sessions) (destined_ending e index arrival.clock arrival.peer packet sessions)
-    (packet_tally e arrival.peer packet sessions) new after replies earlier later
+    (e : Terms) (index : ℕ) (sessions : List Session) (keys : RouteKeys) (bytes : List ℕ)
+    → IsTable e index arrival.clock old sessions → AreKeys e before keys → has_secured_role e ≡ true → packet_in bytes ≡ Ok packet
+    → IsHeard e index arrival.clock arrival.peer bytes sessions (packet_judged e index arrival.clock arrival.peer packet bytes sessions keys) new after
+    replies earlier later
 
 abbrev pub SecuresDatagram : (clock : ℕ) → Peer → (bytes : List ℕ) → (old new : Table) → (before after : TheRouteKeys) → List Datagram
     → (earlier later : Ledger) → Type 0
 SecuresDatagram clock peer bytes old new before after replies earlier later =
     (e : Terms) (index : ℕ) (sessions : List Session) (keys : RouteKeys)
     → IsTable e index clock old sessions → AreKeys e before keys → has_secured_role e ≡ true
-    → IsSecured e index clock sessions (read_judged e index clock peer (packet_in bytes) sessions keys)
-    (read_taken e index clock peer (packet_in bytes) sessions) (read_ending e index clock peer (packet_in bytes) sessions)
-    (read_tally e peer (packet_in bytes) sessions) new after replies earlier later
+    → IsHeard e index clock peer bytes sessions (read_judged e index clock peer (packet_in bytes) bytes sessions keys) new after replies earlier later
 
 -- the keys of a slot with this stored session
 abbrev pub kept_stored : Option TheSession → SlotKeys → SlotKeys
