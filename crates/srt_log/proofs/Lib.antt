@@ -6,3 +6,5 @@ pub mod Between
 pub mod Limits
 pub mod Apart
 pub mod Calendar
+pub mod Callers
+pub mod Waiting

@@ -13,3 +13,4 @@ pub mod Snapshots
 pub mod Changes
 pub mod Telling
 pub mod Between
+pub mod Repeats

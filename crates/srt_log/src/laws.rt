@@ -3,6 +3,7 @@
 ghost use Rattle.std.specs.Prelude.{ℕ, List};
 ghost use Rattle.srt_log.specs.Changes.{NothingBetweenEqual};
 ghost use Rattle.srt_log.specs.LineShares.{SharedCall, AreOthers, KeepsApart, KeepsShares, CountsEachLine};
+ghost use Rattle.srt_log.specs.Repeats.{EachIsToldOrCounted, CountsAreToldOnce};
 ghost use Rattle.srt_log.specs.declared.line_limits.LineKind.{LineKind};
 
 /// Two equal snapshots have nothing between them.
@@ -24,4 +25,11 @@ pub fn shares_are_apart()
 /// Of each kind's lines of a second the first ones are written, as many as its share has; both kinds together have 50 at most.
 pub fn most_shared_lines()
     ensures { (calls : List SharedCall) → KeepsShares calls }
+{}
+
+/// Each refusal has a line of its own or is counted with its caller's, and each count is told by one line: no refusal is lost. For up to
+/// 2^64 - 1 refusals that wait to be told.
+pub fn repeats()
+    ensures each { EachIsToldOrCounted }
+    ensures once { CountsAreToldOnce }
 {}

@@ -8,7 +8,7 @@
 //! Types: [`LogEvent`] (`events.rt`) is the content of a line, [`ConfigEvent`] (`config_events.rt`) that of a line about a
 //! changed configuration. [`LineShares`] (`line_limits.rt`) is the limit of lines in a second, with
 //! a share for each kind. [`RouteSnapshot`] (`snapshots.rt`) has the sessions of a route at one time, each with its
-//! `srt_route::SessionView`. [`Change`] (`changes.rt`) is what changed between two snapshots.
+//! `srt_route::SessionView`. [`RefusalRepeats`] (`repeats.rt`) counts refusals of one caller. [`Change`] (`changes.rt`) is what changed between two snapshots.
 //!
 //! Calls: [`write_line`] (`writing.rt`, `config_lines.rt`) writes an event's line, [`event_line`] returns it, [`put_object`] (`objects.rt`,
 //! `config_objects.rt`) puts it as a JSON object, [`LineShares::line`] returns whether a line may be written,
@@ -28,6 +28,7 @@ mod line_limits;
 mod members;
 mod objects;
 mod peers;
+mod repeats;
 mod snapshots;
 mod telling;
 mod times;
@@ -38,6 +39,7 @@ pub use config_events::{ChangeSummary, CloseCause, ConfigEvent};
 pub use events::{Caller, ClockDrift, EndReason, LogEvent, SessionCounts, StopCause, Trouble};
 pub use line_limits::{LineAllowance, LineKind, LineShares};
 pub use objects::put_object;
+pub use repeats::{MAX_REPEATS, Refusal, RefusalRepeats, Repeat, Telling};
 pub use snapshots::{RouteSnapshot, SlotSession, slot_of};
 pub use telling::event_of;
 pub use times::utc_text;
@@ -45,6 +47,8 @@ pub use writing::{event_line, write_line};
 
 #[cfg(test)]
 mod object_tests;
+#[cfg(test)]
+mod repeat_tests;
 #[cfg(test)]
 mod tests;
 #[cfg(test)]
