@@ -21,6 +21,8 @@ use Rattle.srt_poller.specs.declared.pace.Pause.{Pause}
 use Rattle.srt_poller.specs.declared.pace.Pause.TheVariants.{Poll, Nap}
 use Rattle.srt_poller.specs.declared.sockets.Family.{Family}
 use Rattle.srt_poller.specs.declared.sockets.Family.TheVariants as families
+use Rattle.srt_poller.specs.declared.sockets.called.Call.{Call}
+use Rattle.srt_poller.specs.declared.sockets.called.Call.TheVariants as call
 use Rattle.srt_poller.specs.declared.sockets.system.SystemCalls.{SystemCalls}
 use Rattle.srt_poller.specs.declared.sockets.system.Handed.{Handed}
 use Rattle.srt_poller.specs.declared.sockets.system.Handed.TheVariants as handed
@@ -29,36 +31,57 @@ use Rattle.srt_poller.specs.declared.sockets.system.Received.TheVariants as rece
 
 -- all calls, the oldest first
 abbrev pub notes_of : SystemCalls → List Note
-notes_of calls = calls.journal.notes
+notes_of calls = calls.notes.journal.notes
 
 -- the bytes of an IP address, four or sixteen
 abbrev pub octets_of : IpAddr → List ℕ
 octets_of (ip.V4 a) = ipv4_octets a
 octets_of (ip.V6 a) = ipv6_octets a
 
--- a call of this kind that returned this number, with an address and bytes
-abbrev pub note_at : (kind number : ℕ) → SocketAddr → (bytes : List ℕ) → Note
-note_at kind number a bytes = (kind ∷ number ∷ socket_port a ∷ socket_flowinfo a ∷ socket_scope_id a ∷ [], octets_of (socket_ip a), bytes)
+-- the number of a call in its note
+abbrev pub number_of : Call → ℕ
+number_of call.Send = 0
+number_of call.Read = 1
+number_of call.Poll = 2
+number_of call.Nap = 3
+number_of call.TakePutOff = 4
+number_of call.TakeSent = 5
+number_of call.MarkPutOff = 6
+number_of call.CountSent = 7
+number_of call.Bind = 8
+number_of call.OpenIpv6 = 9
+number_of call.LetIpv4In = 10
+number_of call.BindIpv6 = 11
+number_of call.AskForRoom = 12
+number_of call.Register = 13
+
+-- a call that ended so and returned this number, with an address and bytes
+abbrev pub note_at : (call end number : ℕ) → SocketAddr → (bytes : List ℕ) → Note
+note_at call end number a bytes = (
+  call ∷ end ∷ number ∷ socket_port a ∷ socket_flowinfo a ∷ socket_scope_id a ∷ [],
+  octets_of (socket_ip a),
+  bytes,
+)
 
 -- a send of these bytes to this address
 abbrev pub send_note : SocketAddr → (bytes : List ℕ) → Handed → Note
-send_note a bytes (handed.Took n) = note_at 0 n a bytes
-send_note a bytes handed.NoRoom = note_at 1 0 a bytes
-send_note a bytes handed.Failed = note_at 2 0 a bytes
+send_note a bytes (handed.Took n) = note_at 0 0 n a bytes
+send_note a bytes handed.NoRoom = note_at 0 1 0 a bytes
+send_note a bytes handed.Failed = note_at 0 2 0 a bytes
 
 -- a read, which left these bytes in the buffer
 abbrev pub receive_note : (buffer : List ℕ) → Received → Note
-receive_note buffer (received.Datagram n from) = note_at 3 n from buffer
-receive_note buffer received.Nothing = (4 ∷ [], [], buffer)
-receive_note buffer received.Failed = (5 ∷ [], [], buffer)
+receive_note buffer (received.Datagram n from) = note_at 1 0 n from buffer
+receive_note buffer received.Nothing = (1 ∷ 1 ∷ [], [], buffer)
+receive_note buffer received.Failed = (1 ∷ 2 ∷ [], [], buffer)
 
 -- a wait for at most this many nanoseconds, and a nap
 abbrev pub poll_note : (nanos : ℕ) → Polled → Note
-poll_note nanos polled.Ready = (6 ∷ nanos / 1_000_000_000 ∷ nanos % 1_000_000_000 ∷ [], [], [])
-poll_note nanos polled.Failed = (7 ∷ nanos / 1_000_000_000 ∷ nanos % 1_000_000_000 ∷ [], [], [])
+poll_note nanos polled.Ready = (2 ∷ 0 ∷ nanos / 1_000_000_000 ∷ nanos % 1_000_000_000 ∷ [], [], [])
+poll_note nanos polled.Failed = (2 ∷ 2 ∷ nanos / 1_000_000_000 ∷ nanos % 1_000_000_000 ∷ [], [], [])
 
 abbrev pub nap_note : Note
-nap_note = (8 ∷ [], [], [])
+nap_note = (3 ∷ [], [], [])
 
 -- what no call notes
 abbrev pub no_note : Note
@@ -66,39 +89,39 @@ no_note = ([], [], [])
 
 -- the marks that a wire leaves for its source were taken: whether a send was put off, and how many were made
 abbrev pub put_off_note : Bool → Note
-put_off_note put_off = (9 ∷ (if put_off then 1 else 0) ∷ [], [], [])
+put_off_note put_off = (4 ∷ (if put_off then 1 else 0) ∷ [], [], [])
 
 abbrev pub sent_note : (sent : ℕ) → Note
-sent_note sent = (10 ∷ sent ∷ [], [], [])
+sent_note sent = (5 ∷ sent ∷ [], [], [])
 
 -- a wire left its mark that a send was put off, and that one more was made
 abbrev pub mark_note : Note
-mark_note = (11 ∷ [], [], [])
+mark_note = (6 ∷ [], [], [])
 
 abbrev pub count_note : Note
-count_note = (12 ∷ [], [], [])
+count_note = (7 ∷ [], [], [])
 
 -- the calls that open a socket at an address of IPv4: one
 abbrev pub bind_note : SocketAddr → Note
-bind_note a = note_at 13 0 a []
+bind_note a = note_at 8 0 0 a []
 
 -- those of IPv6: a socket, which also has callers over IPv4, and which is bound at C's name of the address
 abbrev pub open_note : Note
-open_note = (14 ∷ [], [], [])
+open_note = (9 ∷ [], [], [])
 
 abbrev pub callers_note : Note
-callers_note = (15 ∷ [], [], [])
+callers_note = (10 ∷ [], [], [])
 
 abbrev pub name_note : (name : List ℕ) → Note
-name_note name = (16 ∷ [], name, [])
+name_note name = (11 ∷ [], name, [])
 
 -- a larger receive buffer was requested
 abbrev pub room_note : (size : ℕ) → Note
-room_note size = (17 ∷ size ∷ [], [], [])
+room_note size = (12 ∷ size ∷ [], [], [])
 
 -- the socket is polled for datagrams that may be read
 abbrev pub register_note : Note
-register_note = (18 ∷ [], [], [])
+register_note = (13 ∷ [], [], [])
 
 -- the calls that bind a socket at this address
 abbrev pub binding_notes : SocketAddr → List Note

@@ -20,8 +20,8 @@
 //! (the reply that is kept), which outboxes a round has drained in `visits.rt`, the inputs in `context.rt`,
 //! the memory of copies in `buffers.rt`, evidence that memory was refused in `memory.rt`, the calls in `pumping.rt` and
 //! `changing_rounds.rt`, the counts in `report.rt`, the greatest timestamp in `latest.rt`, the calls that devices in memory
-//! record in `journal.rt`, a socket's source and wire in `sockets.rt`, the calls of the system that they make in
-//! `sockets/system.rt`, how a source waits in `pace.rt` and `density.rt`, tuned constants in `tuning.rt`, laws of the
+//! record in `journal.rt`, a socket's source and wire in `sockets.rt`, the calls of the system that they note in
+//! `sockets/system.rt`, and make in `sockets/called.rt`, how a source waits in `pace.rt` and `density.rt`, tuned constants in `tuning.rt`, laws of the
 //! definitions in `laws.rt`.
 //! `specs/History.antt` has the events of a poller, `specs/Plans.antt` what becomes of schedules
 //! while routes are added and removed, `specs/Takings.antt` which changes are taken, `specs/Told.antt` what an observer is told.

@@ -14,17 +14,17 @@ ghost use Rattle.srt_poller.specs.SystemCalls.{notes_of, binding_notes, opening_
 use crate::devices::{Clock, Polled, Read, Sent, Source, Wire};
 use crate::pace::{Pace, Pause};
 use crate::tuning::RECEIVE_BUFFER;
-use mio::net::UdpSocket;
-use mio::{Events, Poll};
+use called::{Marks, Socket, SocketPoll};
+use mio::Events;
 use srt_types::Peer;
 use std::alloc::{AllocError, Global};
 use std::net::{IpAddr, Ipv4Addr, Ipv6Addr, Net, SocketAddr, SocketAddrV4, SocketAddrV6};
 use std::sync::Arc;
-use std::sync::atomic::{AtomicBool, AtomicU32, Ordering};
 use std::time::Duration;
 use system::{Handed, Received, SystemCalls};
 use thiserror::Error;
 
+mod called;
 mod ipv6;
 #[cfg(test)]
 mod refused;
@@ -51,26 +51,16 @@ pub(crate) enum Family {
     V6,
 }
 
-/// What a wire tells its source. Hints.
-#[derive(Drop)]
-struct Marks {
-    // A send returned Later since the source last waited.
-    put_off: AtomicBool,
-    // The number of datagrams sent since the source last waited, modulo 2^32. Sends by another thread than the source's may
-    // be counted short.
-    sent: AtomicU32,
-}
-
 #[derive(Drop)]
 struct Shared {
-    socket: UdpSocket,
+    socket: Socket,
     marks: Marks,
 }
 
 /// A source over a UDP socket. It doesn't record its datagrams and calls, so `gave` and `calls` are `None`.
 #[derive(Drop)]
 pub struct MioSource<C: Clock> {
-    poll: Poll,
+    poll: SocketPoll,
     events: Events<Global>,
     shared: Arc<Shared>,
     clock: C,
@@ -172,42 +162,17 @@ fn is_whole(taken: usize, bytes: &[u8]) -> bool
     taken == bytes.len()
 }
 
-impl Marks {
-    fn mark_put_off(&self) {
-        self.put_off.store(true, Ordering::SeqCst);
-    }
-
-    fn take_put_off(&self) -> bool {
-        self.put_off.swap(false, Ordering::SeqCst)
-    }
-
-    fn count_sent(&self) {
-        let sent = self.sent.load(Ordering::Relaxed);
-        self.sent.store(sent.wrapping_add(1), Ordering::Relaxed);
-    }
-
-    /// The number of datagrams sent since the last call, modulo 2^32.
-    fn take_sent(&self) -> u32 {
-        let sent = self.sent.load(Ordering::Relaxed);
-        self.sent.store(0, Ordering::Relaxed);
-        sent
-    }
-}
-
 impl Shared {
     ghost use Rattle.std.specs.Arc.{arc_value};
 
-    fn share(alloc: Global, socket: UdpSocket) -> Result<(Arc<Shared>, Arc<Shared>), AllocError>
+    fn share(alloc: Global, socket: Socket) -> Result<(Arc<Shared>, Arc<Shared>), AllocError>
         ensures { IfOk result (λ r. ((arc_value r.0).socket ≡ socket) × ((arc_value r.1).socket ≡ socket)) }
     {
         let ours = Arc::new(
             alloc,
             Shared {
                 socket,
-                marks: Marks {
-                    put_off: AtomicBool::new(false),
-                    sent: AtomicU32::new(0),
-                },
+                marks: Marks::new(),
             },
         )?;
         let theirs = Arc::try_clone(&ours)?;
@@ -230,7 +195,7 @@ fn socket_at<N: Net>(
     calls: &mut SystemCalls,
     net: &N,
     addr: SocketAddr,
-) -> Result<UdpSocket, BindFault>
+) -> Result<Socket, BindFault>
     ensures { OnOk result (notes_of calls.new ≡ notes_of calls.old ++ binding_notes addr) }
 {
     match addr {
@@ -278,10 +243,10 @@ impl<C: Clock> MioSource<C> {
         ensures same { IfOk result (λ r. (arc_value r.0.shared).socket ≡ (arc_value r.1.shared).socket) }
         ensures pace { IfOk result (λ r. r.0.pace ≡ at_first) }
     {
-        let mut calls = SystemCalls::new();
+        let mut calls = SystemCalls::new(alloc);
         let mut socket = socket_at(&mut calls, net, addr)?;
         calls.ask_for_room(&socket, RECEIVE_BUFFER);
-        let poll = match Poll::new(net) {
+        let poll = match SocketPoll::new(net) {
             Ok(poll) => poll,
             Err(error) => return Err(BindFault::Socket(error.raw_os_error())),
         };
@@ -307,14 +272,14 @@ impl<C: Clock> MioSource<C> {
             shared: theirs,
             bound: addr,
             failures: 0,
-            calls: SystemCalls::new(),
+            calls: SystemCalls::new(alloc),
         };
         Ok((source, wire))
     }
 
     /// The socket's own address, with the port that the system chose. `None` if the system doesn't give it.
     pub fn address(&self) -> Option<SocketAddr> {
-        self.shared.socket.local_addr().ok()
+        self.shared.socket.address()
     }
 }
 

@@ -1,8 +1,8 @@
-//! The calls of the system at a socket. Each function makes one call, whose effect is trusted, and notes it with its arguments
-//! and its answer for contracts alone. Nothing else calls the system, nor notes a call, so that all else is proved to call with
+//! The calls of the system at a socket, each noted with its arguments and its answer for contracts alone. `called.rt` makes the
+//! calls, and each gives evidence that has to be noted. Nothing else can note a call, so that all else is proved to call with
 //! these values, so often, and to use each answer.
 
-ghost use Rattle.std.specs.Prelude.{◌≡◌, ◌≢◌, ℕ, ◌≤◌, pos, ◌≤ℤ◌, ◌<ℤ◌, ◌∷◌, ◌++◌, [], IfOk, IfErr, OnOk};
+ghost use Rattle.std.specs.Prelude.{◌≡◌, ◌≢◌, ℕ, ◌≤◌, pos, ◌≤ℤ◌, ◌<ℤ◌, ◌∷◌, ◌++◌, [], IfOk, IfErr, OnOk, slice_index};
 ghost use Rattle.std.specs.Duration.{as_nanos};
 ghost use Rattle.std.specs.IoError.{error_kind};
 ghost use Rattle.std.specs.declared.net.socket_addr.SocketAddr.{SocketAddr as TheAddress};
@@ -11,61 +11,52 @@ ghost use Rattle.srt_poller.specs.declared.sockets.system.Handed.TheVariants as 
 ghost use Rattle.srt_poller.specs.declared.sockets.system.Received.TheVariants as TheReceived;
 
 use crate::devices::Polled;
-use crate::journal::Journal;
-use crate::sockets::Marks;
+use crate::sockets::called::{self, CallNotes, Called, Marks, Socket, SocketPoll};
 use crate::tuning::NAP_NS;
-use libc::net;
 use libc::types::timespec;
-use mio::net::UdpSocket;
-use mio::{Events, Interest, Poll, Token};
-use os::{FromRawFd, errno};
+use mio::Events;
+use os::errno;
 use std::alloc::Global;
 use std::io::{self, ErrorKind};
 use std::net::{Net, SocketAddr};
-use std::os::fd::AsRawFd;
 use std::time::Duration;
 
-/// Which call a note is of; a failed call has a number of its own where its answer is used.
-const TOOK: u64 = 0;
+/// The numbers of the calls in the notes.
+const SEND: u64 = 0;
 
-const NO_ROOM: u64 = 1;
+const READ: u64 = 1;
 
-const SEND_FAILED: u64 = 2;
+const POLL: u64 = 2;
 
-const RECEIVED: u64 = 3;
+const NAP: u64 = 3;
 
-const RECEIVED_NOTHING: u64 = 4;
+const TAKE_PUT_OFF: u64 = 4;
 
-const READ_FAILED: u64 = 5;
+const TAKE_SENT: u64 = 5;
 
-const WAITED: u64 = 6;
+const MARK_PUT_OFF: u64 = 6;
 
-const WAIT_FAILED: u64 = 7;
+const COUNT_SENT: u64 = 7;
 
-const NAPPED: u64 = 8;
+const BIND: u64 = 8;
 
-const TOOK_PUT_OFF: u64 = 9;
+const OPEN_IPV6: u64 = 9;
 
-const TOOK_SENT: u64 = 10;
+const LET_IPV4_IN: u64 = 10;
 
-const MARKED_PUT_OFF: u64 = 11;
+const BIND_IPV6: u64 = 11;
 
-const COUNTED_SENT: u64 = 12;
+const ASK_FOR_ROOM: u64 = 12;
 
-const BOUND: u64 = 13;
+const REGISTER: u64 = 13;
 
-const OPENED_IPV6: u64 = 14;
+/// How a call ended: it did what it does.
+const DONE: u64 = 0;
 
-const LET_IPV4_IN: u64 = 15;
+/// There is no room, or nothing to read.
+const NONE_NOW: u64 = 1;
 
-const BOUND_IPV6: u64 = 16;
-
-const ASKED_FOR_ROOM: u64 = 17;
-
-const REGISTERED: u64 = 18;
-
-/// The size of C's `sockaddr_in6`, in bytes.
-const NAME_SIZE: u32 = 28;
+const FAILED: u64 = 2;
 
 /// The answer to a send.
 #[derive(Clone, Copy)]
@@ -92,7 +83,7 @@ pub(super) enum Received {
 /// The calls so far. It has no bytes.
 #[derive(Drop)]
 pub(super) struct SystemCalls {
-    journal: Journal,
+    notes: CallNotes,
 }
 
 /// The answer to a send.
@@ -151,67 +142,75 @@ fn short_nap() -> timespec
 
 impl SystemCalls {
     ghost use Rattle.std.specs.Net.Socket.{socket_port, socket_flowinfo, socket_scope_id};
-    ghost use Rattle.srt_poller.specs.SystemCalls.{notes_of, note_at, send_note, receive_note, poll_note, nap_note};
+    ghost use Rattle.srt_poller.specs.SystemCalls.{number_of, notes_of, note_at, send_note, receive_note, poll_note, nap_note};
     ghost use Rattle.srt_poller.specs.SystemCalls.{put_off_note, sent_note, mark_note, count_note};
     ghost use Rattle.srt_poller.specs.SystemCalls.{bind_note, open_note, callers_note, name_note, room_note, register_note};
 
-    /// None yet.
-    pub(super) fn new() -> SystemCalls
+    /// None yet, as `CallNotes::new`.
+    pub(super) fn new(alloc: Global) -> SystemCalls
         ensures { notes_of result ≡ [] }
     {
         SystemCalls {
-            journal: Journal::new(),
+            notes: CallNotes::new(alloc),
         }
     }
 
-    // Notes numbers alone.
-    fn note(&mut self, numbers: &[u64])
+    // Notes a call by numbers alone.
+    fn note(&mut self, called: Called, numbers: &[u64])
+        requires { slice_index numbers.now 0 ≡ number_of called.call }
         ensures { notes_of self.new ≡ notes_of self.old ++ (numbers.now, [], []) ∷ [] }
     {
-        self.journal.note(numbers, &[], &[]);
+        self.notes.note(called, numbers, &[], &[]);
     }
 
-    // Notes a call of this kind that returned this number, with an address and bytes.
-    fn note_at(&mut self, kind: u64, number: u64, address: SocketAddr, bytes: &[u8])
-        ensures { notes_of self.new ≡ notes_of self.old ++ note_at kind number address bytes.now ∷ [] }
+    // Notes a call by its own number, and how it ended with which number, with an address and bytes.
+    fn note_at(&mut self, called: Called, of: [u64; 3], address: SocketAddr, bytes: &[u8])
+        requires { slice_index of 0 ≡ number_of called.call }
+        ensures { notes_of self.new ≡ notes_of self.old ++ note_at (slice_index of 0) (slice_index of 1) (slice_index of 2) address bytes.now ∷ [] }
     {
+        let [call, end, number] = of;
         match address {
             SocketAddr::V4(it) => {
-                let numbers = [kind, number, u64::from(it.port()), 0, 0];
-                self.journal.note(&numbers, &it.ip().octets(), bytes);
+                let numbers = [call, end, number, u64::from(it.port()), 0, 0];
+                self.notes.note(called, &numbers, &it.ip().octets(), bytes);
             }
             SocketAddr::V6(it) => {
                 let label = u64::from(it.flowinfo());
                 let zone = u64::from(it.scope_id());
-                let numbers = [kind, number, u64::from(it.port()), label, zone];
-                self.journal.note(&numbers, &it.ip().octets(), bytes);
+                let numbers = [call, end, number, u64::from(it.port()), label, zone];
+                self.notes.note(called, &numbers, &it.ip().octets(), bytes);
             }
         }
     }
 
     /// Sends these bytes to this address.
-    pub(super) fn send(&mut self, socket: &UdpSocket, to: SocketAddr, bytes: &[u8]) -> Handed
+    pub(super) fn send(&mut self, socket: &Socket, to: SocketAddr, bytes: &[u8]) -> Handed
         ensures { notes_of self.new ≡ notes_of self.old ++ send_note to bytes.now result ∷ [] }
     {
-        let answer = answer_to_send(socket.send_to(bytes, to));
-        match answer {
-            Handed::Took(len) => self.note_at(TOOK, len as u64, to, bytes),
-            Handed::NoRoom => self.note_at(NO_ROOM, 0, to, bytes),
-            Handed::Failed => self.note_at(SEND_FAILED, 0, to, bytes),
-        }
+        let (answer, called) = socket.send_to(bytes, to);
+        let answer = answer_to_send(answer);
+        let of = match answer {
+            Handed::Took(len) => [SEND, DONE, len as u64],
+            Handed::NoRoom => [SEND, NONE_NOW, 0],
+            Handed::Failed => [SEND, FAILED, 0],
+        };
+        self.note_at(called, of, to, bytes);
         answer
     }
 
     /// Reads a datagram to the front of the buffer.
-    pub(super) fn receive(&mut self, socket: &UdpSocket, buffer: &mut [u8; 2048]) -> Received
+    pub(super) fn receive(&mut self, socket: &Socket, buffer: &mut [u8; 2048]) -> Received
         ensures noted { notes_of self.new ≡ notes_of self.old ++ receive_note buffer.new result ∷ [] }
         ensures within { (n : ℕ) (from : TheAddress) → result ≡ TheReceived.Datagram n from → n ≤ 2048 }
     {
-        let answer = answer_to_read(socket.recv_from(buffer.as_mut_slice()));
+        let (answer, called) = socket.recv_from(buffer);
+        let answer = answer_to_read(answer);
         match answer {
-            Received::Datagram(len, from) => self.note_at(RECEIVED, len as u64, from, buffer),
-            Received::Nothing => self.journal.note(&[RECEIVED_NOTHING], &[], buffer),
-            Received::Failed => self.journal.note(&[READ_FAILED], &[], buffer),
+            Received::Datagram(len, from) => {
+                self.note_at(called, [READ, DONE, len as u64], from, buffer)
+            }
+            Received::Nothing => self.notes.note(called, &[READ, NONE_NOW], &[], buffer),
+            Received::Failed => self.notes.note(called, &[READ, FAILED], &[], buffer),
         }
         answer
     }
@@ -219,17 +218,21 @@ impl SystemCalls {
     /// Waits until the socket has a datagram, for at most this time.
     pub(super) fn poll(
         &mut self,
-        poll: &mut Poll,
+        poll: &mut SocketPoll,
         events: &mut Events<Global>,
         most: Duration,
     ) -> Polled
         ensures { notes_of self.new ≡ notes_of self.old ++ poll_note (as_nanos most) result ∷ [] }
     {
-        let (kind, polled) = match poll.poll(events, Some(most)) {
-            Ok(()) => (WAITED, Polled::Ready),
-            Err(_) => (WAIT_FAILED, Polled::Failed),
+        let (answer, called) = poll.poll(events, most);
+        let (end, polled) = match answer {
+            Ok(()) => (DONE, Polled::Ready),
+            Err(_) => (FAILED, Polled::Failed),
         };
-        self.note(&[kind, most.as_secs(), u64::from(most.subsec_nanos())]);
+        self.note(
+            called,
+            &[POLL, end, most.as_secs(), u64::from(most.subsec_nanos())],
+        );
         polled
     }
 
@@ -237,21 +240,20 @@ impl SystemCalls {
     pub(super) fn nap(&mut self)
         ensures { notes_of self.new ≡ notes_of self.old ++ nap_note ∷ [] }
     {
-        let requested = short_nap();
         let mut left = timespec {
             tv_sec: 0,
             tv_nsec: 0,
         };
-        let _ = libc::nanosleep(&requested, &mut left);
-        self.note(&[NAPPED]);
+        let (_, called) = called::nap(&short_nap(), &mut left);
+        self.note(called, &[NAP]);
     }
 
     /// Takes the mark that a send was put off.
     pub(super) fn take_put_off(&mut self, marks: &Marks) -> bool
         ensures { notes_of self.new ≡ notes_of self.old ++ put_off_note result ∷ [] }
     {
-        let put_off = marks.take_put_off();
-        self.note(&[TOOK_PUT_OFF, u64::from(put_off)]);
+        let (put_off, called) = marks.take_put_off();
+        self.note(called, &[TAKE_PUT_OFF, u64::from(put_off)]);
         put_off
     }
 
@@ -259,8 +261,8 @@ impl SystemCalls {
     pub(super) fn take_sent(&mut self, marks: &Marks) -> u32
         ensures { notes_of self.new ≡ notes_of self.old ++ sent_note result ∷ [] }
     {
-        let sent = marks.take_sent();
-        self.note(&[TOOK_SENT, u64::from(sent)]);
+        let (sent, called) = marks.take_sent();
+        self.note(called, &[TAKE_SENT, u64::from(sent)]);
         sent
     }
 
@@ -268,16 +270,16 @@ impl SystemCalls {
     pub(super) fn mark_put_off(&mut self, marks: &Marks)
         ensures { notes_of self.new ≡ notes_of self.old ++ mark_note ∷ [] }
     {
-        marks.mark_put_off();
-        self.note(&[MARKED_PUT_OFF]);
+        let called = marks.mark_put_off();
+        self.note(called, &[MARK_PUT_OFF]);
     }
 
     /// Counts a send.
     pub(super) fn count_sent(&mut self, marks: &Marks)
         ensures { notes_of self.new ≡ notes_of self.old ++ count_note ∷ [] }
     {
-        marks.count_sent();
-        self.note(&[COUNTED_SENT]);
+        let called = marks.count_sent();
+        self.note(called, &[COUNT_SENT]);
     }
 
     /// Binds a socket at an address of IPv4. An error is the system's number of it, if it gave one.
@@ -285,78 +287,61 @@ impl SystemCalls {
         &mut self,
         net: &N,
         address: SocketAddr,
-    ) -> Result<UdpSocket, Option<i32>>
-        ensures { OnOk result (notes_of self.new ≡ notes_of self.old ++ bind_note address ∷ []) }
+    ) -> Result<Socket, Option<i32>>
+        ensures { notes_of self.new ≡ notes_of self.old ++ bind_note address ∷ [] }
     {
-        match UdpSocket::bind(net, address) {
-            Ok(socket) => {
-                self.note_at(BOUND, 0, address, &[]);
-                Ok(socket)
-            }
+        let (answer, called) = Socket::bind(net, address);
+        self.note_at(called, [BIND, DONE, 0], address, &[]);
+        match answer {
+            Ok(socket) => Ok(socket),
             Err(error) => Err(error.raw_os_error()),
         }
     }
 
     /// Opens a socket of IPv6 that isn't bound. An error is the system's number of it.
-    pub(super) fn open_ipv6(&mut self) -> Result<UdpSocket, i32>
-        ensures { OnOk result (notes_of self.new ≡ notes_of self.old ++ open_note ∷ []) }
+    pub(super) fn open_ipv6(&mut self) -> Result<Socket, i32>
+        ensures { notes_of self.new ≡ notes_of self.old ++ open_note ∷ [] }
     {
-        let kind = net::SOCK_DGRAM | net::SOCK_NONBLOCK | net::SOCK_CLOEXEC;
-        let fd = unsafe { net::socket(net::AF_INET6, kind, 0) };
-        if fd < 0 {
-            return Err(errno());
-        }
-        self.note(&[OPENED_IPV6]);
-        Ok(unsafe { UdpSocket::from_raw_fd(fd) })
+        let (answer, called) = Socket::open_ipv6();
+        self.note(called, &[OPEN_IPV6]);
+        answer
     }
 
     /// Lets a socket of IPv6 that isn't bound also have callers over IPv4: IPV6_V6ONLY is off.
-    pub(super) fn let_ipv4_in(&mut self, socket: &UdpSocket) -> Result<(), i32>
-        ensures { OnOk result (notes_of self.new ≡ notes_of self.old ++ callers_note ∷ []) }
+    pub(super) fn let_ipv4_in(&mut self, socket: &Socket) -> Result<(), i32>
+        ensures { notes_of self.new ≡ notes_of self.old ++ callers_note ∷ [] }
     {
-        let fd = socket.as_raw_fd();
-        let status = unsafe {
-            net::setsockopt(fd, net::IPPROTO_IPV6, net::IPV6_V6ONLY, &[0; 16], 4)
-        };
-        self.note(&[LET_IPV4_IN]);
+        let (status, called) = socket.let_ipv4_in();
+        self.note(called, &[LET_IPV4_IN]);
         status_of(status)
     }
 
     /// Binds a socket of IPv6 at this C name of an address.
-    pub(super) fn bind_at(&mut self, socket: &UdpSocket, name: &[u8; 128]) -> Result<(), i32>
-        ensures { OnOk result (notes_of self.new ≡ notes_of self.old ++ name_note name.now ∷ []) }
+    pub(super) fn bind_at(&mut self, socket: &Socket, name: &[u8; 128]) -> Result<(), i32>
+        ensures { notes_of self.new ≡ notes_of self.old ++ name_note name.now ∷ [] }
     {
-        let status = unsafe { net::bind(socket.as_raw_fd(), name, NAME_SIZE) };
-        self.journal.note(&[BOUND_IPV6], name, &[]);
+        let (status, called) = socket.bind_at(name);
+        self.notes.note(called, &[BIND_IPV6], name, &[]);
         status_of(status)
     }
 
     /// Asks for a receive buffer of this many bytes. The system may give less; that isn't checked.
-    pub(super) fn ask_for_room(&mut self, socket: &UdpSocket, size: u32)
+    pub(super) fn ask_for_room(&mut self, socket: &Socket, size: u32)
         ensures { notes_of self.new ≡ notes_of self.old ++ room_note size ∷ [] }
     {
         let mut value = [0; 16];
         value[..4].copy_from_slice(&size.to_ne_bytes());
-        let _ = unsafe {
-            net::setsockopt(
-                socket.as_raw_fd(),
-                net::SOL_SOCKET,
-                net::SO_RCVBUF,
-                &value,
-                4,
-            )
-        };
-        self.note(&[ASKED_FOR_ROOM, u64::from(size)]);
+        let (_, called) = socket.ask_for_room(&value);
+        self.note(called, &[ASK_FOR_ROOM, u64::from(size)]);
     }
 
     /// Has the socket polled for datagrams that may be read.
-    pub(super) fn register(&mut self, poll: &Poll, socket: &mut UdpSocket) -> io::Result<()>
-        ensures noted { OnOk result (notes_of self.new ≡ notes_of self.old ++ register_note ∷ []) }
+    pub(super) fn register(&mut self, poll: &SocketPoll, socket: &mut Socket) -> io::Result<()>
+        ensures noted { notes_of self.new ≡ notes_of self.old ++ register_note ∷ [] }
         ensures same { socket.new ≡ socket.old }
     {
-        poll.registry()
-            .register(socket, Token(0), Interest::READABLE)?;
-        self.note(&[REGISTERED]);
-        Ok(())
+        let (answer, called) = poll.register(socket);
+        self.note(called, &[REGISTER]);
+        answer
     }
 }
