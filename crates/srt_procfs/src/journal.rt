@@ -18,6 +18,9 @@ impl Model for Journal {
     ghost also_owns = { λ _. ftrue };
 }
 
+// It owns nothing.
+unsafe impl Send for Journal {}
+
 impl Journal {
     /// No calls.
     pub fn new() -> Journal
