@@ -5,3 +5,4 @@ pub mod Tokens
 pub mod Turns
 pub mod Syncs
 pub mod SeatSyncs
+mod Shown

@@ -15,3 +15,4 @@ pub mod Settled
 pub mod Identities
 pub mod Seats
 pub mod Places
+pub mod Readers

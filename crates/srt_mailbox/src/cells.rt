@@ -1,11 +1,11 @@
 //! The cell in which workers find a route: the route and a claim word. A worker that finds the route claimed doesn't
 //! wait for it.
 
-ghost use Rattle.std.specs.Prelude.{◌≡◌, ◌≢◌, ◌≤◌, true, false, Some, None, IfOk, IfErr, option_map};
+ghost use Rattle.std.specs.Prelude.{◌≡◌, ◌≢◌, ◌≤◌, ℕ, Some, None, IfOk, IfErr, OnOk, option_map};
 ghost use Rattle.srt_types.specs.Terms.{terms_of};
 ghost use Rattle.srt_mailbox.specs.Counts.{Grew};
 ghost use Rattle.srt_mailbox.specs.Cells.{CellIdentity, Bears};
-ghost use Rattle.srt_mailbox.specs.Looks.{Seen, WasShown, OneWasShown, SawMore};
+ghost use Rattle.srt_mailbox.specs.Looks.{WasShown};
 ghost use Rattle.srt_mailbox.specs.declared.gates.Served.TheVariants.{GateRefused, ClaimedElsewhere};
 
 use crate::claims::{Claimed, GivenBack};
@@ -13,6 +13,7 @@ use crate::gates::{Gate, Served, Visit};
 use crate::inbox_rule::Inbox;
 use crate::observer::Observer;
 use crate::outbox_rule::Outbox;
+use crate::places::EmptyPlace;
 use crate::running::Running;
 use crate::slots::{TakenElsewhere, take_out};
 use counted_slot::{Counted, Fits};
@@ -175,7 +176,7 @@ impl RouteCell {
         rt: &R,
         look: &mut L,
     ) -> Result<GivenBack, TakenElsewhere>
-        ensures shown { IfOk result (λ b. Bears (identity_in self.now) b.was × WasShown b.was (L.looked look.old) (L.looked look.new)) }
+        ensures shown { IfOk result (λ b. Bears (identity_in self.now) b.was × WasShown b.was (L.noted look.old look.new)) }
         ensures same { IfOk result (λ b. b.now ≡ b.was) }
         ensures busy { IfErr result (λ _. look.new ≡ look.old) }
     {
@@ -197,23 +198,30 @@ impl RouteCell {
             Err(_) => Served::ClaimedElsewhere,
         }
     }
+}
 
-    /// Shows the route once to `look`, if no other call has it. False if another call has it; then nothing was shown.
-    /// Makes no step: the route is returned unchanged. Doesn't allocate and doesn't wait for the route.
-    pub fn show<R: Wait, L: Observer>(&self, rt: &R, look: &mut L) -> bool
-        ensures shown { result ≡ true → OneWasShown (identity_in self.now) (L.looked look.old) (L.looked look.new) }
-        ensures busy { result ≡ false → look.new ≡ look.old }
-    {
-        let Ok(_) = self.show_claimed(rt, look) else {
-            return false;
-        };
-        true
-    }
+/// Evidence that no route was shown.
+#[derive(Drop)]
+pub enum Unshown {
+    /// Another call has the route.
+    Claimed(TakenElsewhere),
+    /// There is no route.
+    Empty(EmptyPlace),
 }
 
 /// A route that can be served, as `RouteCell` is by workers. Code that passes cells to threads is generic over this
 /// trait, so that it can require `Sync` by a bound.
 pub trait Serve {
+    ghost use Rattle.std.specs.Prelude.{ℕ};
+    ghost use Rattle.srt_route.specs.declared.route.Route.{Route as TheRoute};
+
+    /// What is known of a route that it shows, with the number of waiting replies. This and the next one may be nothing, but
+    /// only by `show` can code that is generic over this trait show them.
+    ghost holds: { Self → TheRoute → (waiting : ℕ) → Type 0 } = { λ _ _ _. Unit {0} };
+
+    /// What is known once it showed no route.
+    ghost shows_none: { Self → Type 0 } = { λ _. Unit {0} };
+
     /// Makes a batch of at most `most` steps of the route, if no other call has it, until a step finds no work or a full
     /// outbox, or the gate refuses one.
     fn visit<R: Wait, G: Gate>(&self, rt: &R, gate: &mut G, most: u32) -> Visit
@@ -228,15 +236,20 @@ pub trait Serve {
     fn serve<R: Wait, G: Gate>(&self, rt: &R, gate: &mut G) -> Served
         ensures held { result ≡ GateRefused → Grew (G.held gate.old) (G.held gate.new) };
 
-    /// Shows the route, as `RouteCell::show` does.
-    fn show<R: Wait, L: Observer>(&self, rt: &R, look: &mut L) -> bool
-        ensures shown { result ≡ true → (s : Seen) × SawMore s (L.looked look.old) (L.looked look.new) }
-        ensures busy { result ≡ false → look.new ≡ look.old };
+    /// Shows the route once to `look`. The error is evidence that another call has it, or that there is none; then nothing
+    /// was shown. Makes no step: the route is given back unchanged. Doesn't allocate and doesn't wait for the route.
+    fn show<R: Wait, L: Observer>(&self, rt: &R, look: &mut L) -> Result<(), Unshown>
+        ensures shown { OnOk result ((route : TheRoute) × (waiting : ℕ) × holds self.now route waiting × L.noted look.old look.new route waiting) }
+        ensures none { IfErr result (λ _. shows_none self.now) }
+        ensures same { IfErr result (λ _. look.new ≡ look.old) };
 }
 
 impl Serve for RouteCell {
     ghost use Rattle.srt_mailbox.specs.Identities.{identity_in};
+    ghost use Rattle.srt_mailbox.specs.Looks.{IsRouteWith};
     ghost use Rattle.srt_mailbox.specs.Visits.{queried_in};
+
+    ghost holds = { λ cell route waiting. IsRouteWith (identity_in cell) route waiting };
 
     /// Makes a batch of at most `most` steps of the route, if no other call has it, until a step finds no work or a
     /// full outbox, or the gate refuses one; the gate is queried before each. The route is claimed once for the batch,
@@ -264,8 +277,12 @@ impl Serve for RouteCell {
         RouteCell::serve(self, rt, gate)
     }
 
-    fn show<R: Wait, L: Observer>(&self, rt: &R, look: &mut L) -> bool {
-        RouteCell::show(self, rt, look)
+    fn show<R: Wait, L: Observer>(&self, rt: &R, look: &mut L) -> Result<(), Unshown> {
+        match self.show_claimed(rt, look) {
+            Ok(_) => {}
+            Err(elsewhere) => return Err(Unshown::Claimed(elsewhere)),
+        }
+        Ok(())
     }
 }
 

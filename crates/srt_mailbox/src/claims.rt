@@ -99,7 +99,7 @@ impl Claimed {
     /// As `Running::show`.
     #[inline(always)]
     pub fn show<L: Observer>(&self, look: &mut L)
-        ensures { WasShown self.now.now (L.looked look.old) (L.looked look.new) }
+        ensures { WasShown self.now.now (L.noted look.old look.new) }
     {
         self.boxed.running.show(look);
     }

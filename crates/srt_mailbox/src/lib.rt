@@ -8,15 +8,16 @@
 //! offers ticks), `RouteCell` (workers serve the route) and `Drain` (the poller takes replies). A `Gate` may refuse a
 //! turn (`Ungated` never does), `Served` is the outcome of a turn that was asked for, `Visit` that of several, and
 //! `Account` has the counts of a route that has ended. A `Observer` is shown a route under its claim. `InboxFull` and
-//! `OutboxEmpty` are evidence of a refusal, `TakenElsewhere` of what another call has taken. For routes that come while
+//! `OutboxEmpty` are evidence of a refusal, `TakenElsewhere` of what another call has taken, `Unshown` of a route that
+//! couldn't be shown, `NoneSeated` of a place without a further route. For routes that come while
 //! threads run: a `Seat` has a route and its ends until their owners take them (`PollerEnds` with a `Attachment`,
 //! `ClockHand`), a `Place` has a seat or is empty, and each owner has a `SeatReader`.
 //!
 //! Calls: `open_route`; then, each from its own thread, `offer` on `Ingress` (for a datagram also `offer_datagram`) and
-//! on `ClockEnd`, `RouteCell::visit` or `RouteCell::serve` (any number of workers; `RouteCell::show` makes no turn),
+//! on `ClockEnd`, `RouteCell::visit` or `RouteCell::serve` (any number of workers; `Serve::show` makes no turn),
 //! and `Drain::take` with `Drain::reply` and `Drain::take_buffer`; last `settle`, which takes all four ends. With seats
 //! `open_seat` and `Place::put`; then, each owner, `SeatReader::next_poller` or `next_clock`; last `SeatReader::agree`,
-//! `seat` and `Seat::settle`.
+//! `seat` and `Seat::close_out`.
 //!
 //! Files: the claim word is in `cells.rt` and `slots.rt`, what a call has of a claimed route in `claims.rt`, one turn
 //! of a route in `running.rt`, what a snapshot is handed in `observer.rt`, the queues in `inbox.rt` and `outbox.rt`,
@@ -45,15 +46,15 @@ mod slots;
 mod spares;
 
 pub use accounts::{Account, Unsettled, settle};
-pub use cells::{RouteCell, Serve};
+pub use cells::{RouteCell, Serve, Unshown};
 pub use evidence::{InboxFull, OutboxEmpty};
 pub use gates::{Gate, Served, Ungated, Visit};
 pub use inbox::{ClockEnd, Ingress, OfferFault};
 pub use observer::Observer;
 pub use openings::open_route;
 pub use outbox::Drain;
-pub use places::Place;
-pub use readers::SeatReader;
+pub use places::{EmptyPlace, Place};
+pub use readers::{NoneSeated, SeatReader};
 pub use running::{BUFFER_ROOM, Running};
 pub use seats::{Attachment, ClockHand, PollerEnds, Seat, SeatTag, open_seat};
 pub use slots::TakenElsewhere;

@@ -1,17 +1,17 @@
 //! The receiver of snapshots of a claimed route.
 
-ghost use Rattle.std.specs.Prelude.{◌≡◌, Option, List, ◌∷◌, option_map};
-ghost use Rattle.srt_mailbox.specs.Looks.{Seen, seen};
-
 use srt_route::Route;
 
 /// Receives a snapshot of a claimed route. Workers can't serve the route meanwhile.
 pub trait Observer {
-    /// The routes of its snapshots, each in its state at that time, newest first; `None` for an observer that keeps no
-    /// record.
-    ghost looked: { Self → Option (List Seen) };
+    ghost use Rattle.std.specs.Prelude.{ℕ};
+    ghost use Rattle.srt_route.specs.declared.route.Route.{Route as TheRoute};
+
+    /// What is known of an observer, as it was and as it is, once it was shown this route, once, with this number of waiting
+    /// replies. It may be nothing, but only by that one call can code that is generic over observers show it.
+    ghost noted: { (old new : Self) → TheRoute → (waiting : ℕ) → Type 0 } = { λ _ _ _ _. Unit {0} };
 
     /// Inspects a route with this number of waiting replies.
     fn look(&mut self, route: &Route, waiting: usize)
-        ensures { looked self.new ≡ option_map (λ earlier. seen route.now waiting ∷ earlier) (looked self.old) };
+        ensures { noted self.old self.new route.now waiting };
 }

@@ -1,12 +1,12 @@
 //! Places for the seats of routes added at run time. Each is written once, and any thread may read it.
 
-ghost use Rattle.std.specs.Prelude.{◌≡◌, ◌≢◌, ◌≤◌, true, false, Some, None, IfOk, IfErr, IfSome};
+ghost use Rattle.std.specs.Prelude.{◌≡◌, ◌≢◌, ◌≤◌, Some, None, IfOk, IfErr};
 ghost use Rattle.srt_mailbox.specs.Counts.{Grew};
+ghost use Rattle.srt_mailbox.specs.Places.{lock_in};
 ghost use Rattle.srt_mailbox.specs.Visits.{QueriedOrEmpty, QueriedOnceOrEmpty};
-ghost use Rattle.srt_mailbox.specs.Looks.{Seen, SawMore};
 ghost use Rattle.srt_mailbox.specs.declared.gates.Served.TheVariants.{GateRefused, ClaimedElsewhere};
 
-use crate::cells::Serve;
+use crate::cells::{Serve, Unshown};
 use crate::gates::{Gate, Served, Visit};
 use crate::observer::Observer;
 use crate::seats::{Attachment, Seat};
@@ -20,8 +20,6 @@ pub struct Place<X: Attachment + Drop> {
 }
 
 impl<X: Attachment + Drop> Place<X> {
-    ghost use Rattle.srt_mailbox.specs.Places.{lock_in};
-
     /// Makes an empty place. Doesn't allocate.
     pub fn new() -> Place<X> {
         Place {
@@ -39,7 +37,37 @@ impl<X: Attachment + Drop> Place<X> {
     }
 }
 
+/// Evidence that a place was empty.
+#[derive(Drop)]
+pub struct EmptyPlace(());
+
+// The seat that was put into a place. The error is evidence that none was.
+fn seat_in<X: Attachment + Drop>(place: &Place<X>) -> Result<&Seat<X>, EmptyPlace> {
+    match place.seat.get() {
+        Some(seat) => Ok(seat),
+        None => Err(EmptyPlace(())),
+    }
+}
+
+/// A token of the seat that was put into a place. The error is evidence that none was.
+pub(crate) fn token_in<X: Attachment + Drop>(
+    place: &Place<X>,
+) -> Result<OnceToken<'_, Seat<X>>, EmptyPlace>
+    ensures { IfOk result (λ token. token.of ≡ lock_in place.now) }
+{
+    match place.seat.witness() {
+        Some(token) => Ok(token),
+        None => Err(EmptyPlace(())),
+    }
+}
+
 impl<X: Attachment + Drop> Serve for Place<X> {
+    ghost use Rattle.std.specs.Prelude.{ℕ};
+    ghost use Rattle.srt_mailbox.specs.Cells.{CellIdentity};
+    ghost use Rattle.srt_mailbox.specs.Looks.{IsRouteWith};
+
+    ghost holds = { λ place route waiting. (n : CellIdentity) × IsRouteWith n route waiting };
+
     // An empty place has nothing to do: that is an idle turn.
     fn visit<R: Wait, G: Gate>(&self, rt: &R, gate: &mut G, most: u32) -> Visit
         ensures most { result.turns ≤ most }
@@ -50,9 +78,9 @@ impl<X: Attachment + Drop> Serve for Place<X> {
         ensures busy { result.end ≡ Some ClaimedElsewhere → (result.turns ≡ 0) × (gate.new ≡ gate.old) }
         ensures requested { QueriedOrEmpty result (G.requested gate.old) (G.requested gate.new) }
     {
-        match self.seat.get() {
-            Some(seat) => seat.cell.visit(rt, gate, most),
-            None => Visit {
+        match seat_in(self) {
+            Ok(seat) => seat.cell.visit(rt, gate, most),
+            Err(_) => Visit {
                 turns: 0,
                 moved: 0,
                 end: Some(Served::Turned(Turned::Idle)),
@@ -64,17 +92,17 @@ impl<X: Attachment + Drop> Serve for Place<X> {
         ensures held { result ≡ GateRefused → Grew (G.held gate.old) (G.held gate.new) }
         ensures requested { QueriedOnceOrEmpty result (G.requested gate.old) (G.requested gate.new) }
     {
-        match self.seat.get() {
-            Some(seat) => seat.cell.serve(rt, gate),
-            None => Served::Turned(Turned::Idle),
+        match seat_in(self) {
+            Ok(seat) => seat.cell.serve(rt, gate),
+            Err(_) => Served::Turned(Turned::Idle),
         }
     }
 
     // An empty place has no route to show.
-    fn show<R: Wait, L: Observer>(&self, rt: &R, look: &mut L) -> bool {
-        match self.seat.get() {
-            Some(seat) => seat.cell.show(rt, look),
-            None => false,
+    fn show<R: Wait, L: Observer>(&self, rt: &R, look: &mut L) -> Result<(), Unshown> {
+        match seat_in(self) {
+            Ok(seat) => seat.cell.show(rt, look),
+            Err(empty) => Err(Unshown::Empty(empty)),
         }
     }
 }

@@ -1,16 +1,44 @@
 //! Readers of the places of routes, in order. Each owner of ends has one: the poller, and the clock's thread.
 
 ghost use Rattle.std.specs.Prelude.{◌≡◌, ◌≤◌, ◌<◌, ℕ, List, [], ◌∷◌, ◌++◌, length, map, take, get_or, slice_get, Some};
-ghost use Rattle.std.specs.Prelude.{IfSome, IfNone, IfOk, vec_len, vec_capacity};
+ghost use Rattle.std.specs.Prelude.{IfOk, IfErr, OnOk, vec_len, vec_capacity};
 ghost use Rattle.srt_mailbox.specs.Cells.{CellIdentity};
 ghost use Rattle.srt_mailbox.specs.Identities.{identity_in};
 ghost use Rattle.srt_mailbox.specs.Seats.{IsNewPoller, IsNewClock};
 
-use crate::places::Place;
+use crate::places::{EmptyPlace, Place, token_in};
 use crate::seats::{Attachment, ClockHand, PollerEnds, Seat};
-use crate::slots::take_out;
+use crate::slots::{TakenElsewhere, take_out};
 use std::alloc::{AllocError, Global};
 use std::sync::OnceToken;
+
+/// Evidence that a route has another index than the place that it is in.
+#[derive(Drop)]
+pub struct Misplaced(());
+
+/// Evidence that a reader found no further route, or no ends of it.
+#[derive(Drop)]
+pub enum NoneSeated {
+    /// It has reached the routes of all its places.
+    Past,
+    /// The next place is empty.
+    Empty(EmptyPlace),
+    /// The route in the next place has another index.
+    Misplaced(Misplaced),
+    /// Another call has taken the ends.
+    Taken(TakenElsewhere),
+}
+
+// Checks that the route of this seat has this index. The error is evidence that it has another one.
+fn check_index<X: Attachment + Drop>(seat: &Seat<X>, index: usize) -> Result<(), Misplaced>
+    ensures { OnOk result ((identity_in seat.now.cell).index ≡ index) }
+{
+    if seat.cell.index() == index {
+        Ok(())
+    } else {
+        Err(Misplaced(()))
+    }
+}
 
 /// One owner's reader of places. It reaches the routes one after the other.
 #[derive(Drop)]
@@ -34,6 +62,7 @@ fn item_at<T>(items: &[T], index: usize) -> &T
 
 impl<'a, X: Attachment + Drop> SeatReader<'a, X> {
     ghost use Rattle.srt_mailbox.specs.Places.{arrived, places_of, locks_of, is_next};
+    ghost use Rattle.srt_mailbox.specs.Readers.{IsPast};
 
     /// Allocates a reader of these places that has reached none of them. The only call that allocates; the error is a
     /// failed allocation.
@@ -46,21 +75,28 @@ impl<'a, X: Attachment + Drop> SeatReader<'a, X> {
         })
     }
 
-    // Returns the seat in the next place. `None` if that place is empty, if there is no further place, or if the route
-    // there has another index than its place.
-    fn coming(&self) -> Option<(&'a Seat<X>, OnceToken<'a, Seat<X>>)>
-        ensures value { IfSome result (λ r. r.0.now ≡ r.1.value) }
-        ensures next { IfSome result (λ r. is_next self.now r.1.of) }
-        ensures index { IfSome result (λ r. (identity_in r.0.now.cell).index ≡ length self.now.tokens.items) }
+    // Returns the seat in the next place. The error is evidence that there is no further place, that the place is empty, or
+    // that the route there has another index.
+    fn coming(&self) -> Result<(&'a Seat<X>, OnceToken<'a, Seat<X>>), NoneSeated>
+        ensures value { IfOk result (λ r. r.0.now ≡ r.1.value) }
+        ensures next { IfOk result (λ r. is_next self.now r.1.of) }
+        ensures index { IfOk result (λ r. (identity_in r.0.now.cell).index ≡ length self.now.tokens.items) }
+        ensures past { IfErr result (λ none. IsPast (places_of self.now) (length self.now.tokens.items) none) }
     {
         let at = self.tokens.len();
-        let place = self.places.get(at)?;
-        let token = place.seat.witness()?;
+        let Some(place) = self.places.get(at) else {
+            return Err(NoneSeated::Past);
+        };
+        let token = match token_in(place) {
+            Ok(token) => token,
+            Err(empty) => return Err(NoneSeated::Empty(empty)),
+        };
         let seat = place.seat.value(&token);
-        if seat.cell.index() != at {
-            return None;
+        match check_index(seat, at) {
+            Ok(()) => {}
+            Err(misplaced) => return Err(NoneSeated::Misplaced(misplaced)),
         }
-        Some((seat, token))
+        Ok((seat, token))
     }
 
     // Moves on past the next place, which has this seat.
@@ -74,35 +110,41 @@ impl<'a, X: Attachment + Drop> SeatReader<'a, X> {
         };
     }
 
-    /// Takes the poller's ends of the route in the next place, if one was added there. Doesn't allocate and never
-    /// waits.
-    pub fn next_poller(&mut self) -> Option<PollerEnds<X>>
-        ensures some { IfSome result (λ e. (n : CellIdentity) × (arrived self.new ≡ arrived self.old ++ n ∷ []) × (n.index ≡ length (arrived self.old)) ×
+    /// Takes the poller's ends of the route in the next place. The error is evidence that none was added there, or that they
+    /// were taken. Doesn't allocate and never waits.
+    pub fn next_poller(&mut self) -> Result<PollerEnds<X>, NoneSeated>
+        ensures some { IfOk result (λ e. (n : CellIdentity) × (arrived self.new ≡ arrived self.old ++ n ∷ []) × (n.index ≡ length (arrived self.old)) ×
             IsNewPoller n e.ingress e.drain × X.belongs n.terms n.index e.companion) }
-        ensures none { IfNone result (self.new ≡ self.old) }
+        ensures none { IfErr result (λ _. self.new ≡ self.old) }
+        ensures past { IfErr result (λ none. IsPast (places_of self.old) (length (arrived self.old)) none) }
         ensures places { places_of self.new ≡ places_of self.old }
     {
         let (seat, token) = self.coming()?;
-        let Ok(ends) = take_out(&seat.poller) else {
-            return None;
-        };
-        self.pass(token);
-        Some(ends)
+        match take_out(&seat.poller) {
+            Ok(ends) => {
+                self.pass(token);
+                Ok(ends)
+            }
+            Err(taken) => Err(NoneSeated::Taken(taken)),
+        }
     }
 
-    /// Takes the clock's end of the route in the next place, if one was added there. Doesn't allocate and never waits.
-    pub fn next_clock(&mut self) -> Option<ClockHand>
-        ensures some { IfSome result (λ h. (n : CellIdentity) × (arrived self.new ≡ arrived self.old ++ n ∷ []) × (n.index ≡ length (arrived self.old)) ×
+    /// Takes the clock's end of the route in the next place, likewise.
+    pub fn next_clock(&mut self) -> Result<ClockHand, NoneSeated>
+        ensures some { IfOk result (λ h. (n : CellIdentity) × (arrived self.new ≡ arrived self.old ++ n ∷ []) × (n.index ≡ length (arrived self.old)) ×
             IsNewClock n h.end) }
-        ensures none { IfNone result (self.new ≡ self.old) }
+        ensures none { IfErr result (λ _. self.new ≡ self.old) }
+        ensures past { IfErr result (λ none. IsPast (places_of self.old) (length (arrived self.old)) none) }
         ensures places { places_of self.new ≡ places_of self.old }
     {
         let (seat, token) = self.coming()?;
-        let Ok(hand) = take_out(&seat.clock) else {
-            return None;
-        };
-        self.pass(token);
-        Some(hand)
+        match take_out(&seat.clock) {
+            Ok(hand) => {
+                self.pass(token);
+                Ok(hand)
+            }
+            Err(taken) => Err(NoneSeated::Taken(taken)),
+        }
     }
 
     /// Returns the number of routes that the reader has reached.

@@ -305,7 +305,7 @@ impl Running {
 
     /// Shows the route once to `look`, with the number of waiting replies. Changes nothing.
     pub fn show<L: Observer>(&self, look: &mut L)
-        ensures { WasShown self.now (L.looked look.old) (L.looked look.new) }
+        ensures { WasShown self.now (L.noted look.old look.new) }
     {
         look.look(&self.route, self.waiting);
     }

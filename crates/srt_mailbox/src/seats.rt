@@ -8,11 +8,13 @@ ghost use Rattle.srt_route.specs.Opening.{fault_of};
 ghost use Rattle.srt_mailbox.specs.Cells.{CellIdentity, AreEndsOf};
 ghost use Rattle.srt_mailbox.specs.Identities.{identity_in};
 ghost use Rattle.srt_mailbox.specs.Seats.{IsNewPoller, IsNewClock};
+ghost use Rattle.srt_mailbox.specs.Looks.{WasShown};
 ghost use Rattle.srt_mailbox.specs.Settled.{Settles};
 
 use crate::accounts::Account;
 use crate::cells::RouteCell;
 use crate::inbox::{ClockEnd, Ingress};
+use crate::observer::Observer;
 use crate::openings::open_route;
 use crate::outbox::Drain;
 use crate::slots::TakenElsewhere;
@@ -121,21 +123,27 @@ pub fn open_seat<X: Attachment + Drop>(
 }
 
 impl<X: Attachment + Drop> Seat<X> {
-    /// Ends the route and returns its account, as `settle` does; the three ends must be of this seat's route. The error is
-    /// evidence that another call has the route, or that it was settled before. What is left in the queues is counted and
-    /// discarded; the ends are gone in both cases. Doesn't allocate.
-    pub fn settle<R: Wait>(
+    /// Takes the route out for good, so that no call makes a further turn of it, shows it to `look`, and ends it as `settle`
+    /// does; the three ends must be of this seat's route. The error is evidence that another call has the route, or that it
+    /// was closed out before; then nothing is shown. What is left in the queues is counted and discarded; the ends are gone
+    /// in both cases. Doesn't allocate.
+    pub fn close_out<R: Wait, L: Observer>(
         &self,
         rt: &R,
         ingress: Ingress,
         clock: ClockEnd,
         drain: Drain,
+        look: &mut L,
     ) -> Result<Account, TakenElsewhere>
         requires { AreEndsOf (identity_in self.now.cell) ingress clock drain }
-        ensures { IfOk result (λ a. Settles a (identity_in self.now.cell) ingress clock drain) }
+        ensures settled { IfOk result (λ a. (s : Settles a (identity_in self.now.cell) ingress clock drain) × WasShown s.route (L.noted look.old look.new)) }
+        ensures busy { IfErr result (λ _. look.new ≡ look.old) }
     {
         match self.cell.take() {
-            Ok(running) => Ok(running.settle(rt, ingress, clock, drain)),
+            Ok(running) => {
+                running.show(look);
+                Ok(running.settle(rt, ingress, clock, drain))
+            }
             Err(elsewhere) => Err(elsewhere),
         }
     }

@@ -1,11 +1,11 @@
 -- Which routes the watcher answered to open.
-use Rattle.std.proofs.Common.{◌≡◌, inl, inr, ℕ, zero, suc, ◌+◌, ◌<◌, ◌≤◌, List, [], ◌∷◌, ◌++◌, length, map, get_or, sym, ap, subst, append_assoc, arith}
+use Rattle.std.proofs.Common.{◌≡◌, inl, inr, ℕ, zero, suc, ◌+◌, ◌<◌, ◌≤◌, List, [], ◌∷◌, ◌++◌, length, map, get_or, sym, subst, append_assoc, arith}
 use Rattle.std.specs.Prelude.{Result, Ok, Err, IfOk, IfErr}
 use Rattle.std.proofs.Math.Seq.{get_or-append_seam}
 use Rattle.std.proofs.lemmas.Bool.{cases_lt}
 use Rattle.std.proofs.lemmas.List.{get_or_append_left, length-append}
 use Rattle.srt_types.specs.declared.shared.Entry.{Entry}
-use Rattle.srt_types.specs.Terms.{Terms, terms_of}
+use Rattle.srt_types.specs.Terms.{terms_of}
 use Rattle.srt_mailbox.specs.Cells.{CellIdentity}
 use Rattle.srt_supervision.specs.Answers.{Answer, Opens, AreOpenings}
 use Rattle.srt_serve.specs.inside.Arrived.{IsAnswered, AreAnswered}

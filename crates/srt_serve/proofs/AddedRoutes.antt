@@ -26,7 +26,7 @@ use Rattle.srt_poller.specs.Pumped.{PumpedUnder, before, after}
 use Rattle.srt_serve.specs.inside.Arrived.{AreIndexed, report_of, marked}
 use Rattle.srt_serve.specs.NamesAtStart.{first_names}
 use Rattle.srt_serve.specs.Opened.{IsOpened, AreOpened, terms_in, new_clock, new_clocks}
-use Rattle.srt_serve.specs.Ran.{RanChanging, WereAdded, WereAnswered, RanUnder, RanUnderFrom, recorded_by, names_before}
+use Rattle.srt_serve.specs.Ran.{RanChanging, WereAdded, WereAnswered, RanUnder, recorded_by, names_before}
 use Rattle.srt_serve.specs.Settled.{AreJoined, AreSettled}
 use Rattle.srt_serve.specs.inside.Polled.{PolledLate}
 use Rattle.srt_serve.proofs.Moments.{HaveTicks}

@@ -17,3 +17,4 @@ pub mod Sorted
 pub mod Marks
 pub mod LeftAlone
 pub mod OpenRoutes
+pub mod Looks

@@ -12,3 +12,5 @@ pub mod Inline
 pub mod Leaving
 pub mod Quiet
 pub mod UpTo
+pub mod Looking
+pub mod Taken

@@ -11,12 +11,14 @@ ghost use Rattle.srt_supervision.specs.Answers.{Closes};
 
 use crate::answers::{Beginning, ClosesRoute};
 use crate::evidence::{
-    CloseRequest, FlagClear, Marked, MarkedBefore, NoneMarked, NoneSeated, NoneStated, WordWritten,
-    mark, next_clock, next_poller, raise_flag, request_in, take_flag, take_mark, write_word,
+    CloseRequest, FlagRaised, Marked, MarkedBefore, NoNotice, NoneAdded, NoneMarked, NoneStated,
+    WordWritten, mark, next_poller, raise_flag, request_in, take_flag, take_mark, write_word,
 };
 use crate::ticking::TickEnds;
 use srt_lobby::NewName;
-use srt_mailbox::{Attachment, ClockEnd, Place, PollerEnds, Seat, SeatReader, open_seat};
+use srt_mailbox::{
+    Attachment, ClockEnd, NoneSeated, Place, PollerEnds, Seat, SeatReader, open_seat,
+};
 use srt_poller::{AddedRoute, Ends, Openings};
 use srt_supervision::Answers;
 use srt_types::Entry;
@@ -92,7 +94,7 @@ impl<A: Answers + Beginning> TickEnds<ClockEnd> for ClockArrivals<'_, A> {
     type NoneLeft = NoneSeated;
 
     fn next(&mut self) -> Result<ClockEnd, NoneSeated> {
-        match next_clock(&mut self.reader) {
+        match self.reader.next_clock() {
             Ok(hand) => Ok(hand.end),
             Err(none) => Err(none),
         }
@@ -111,13 +113,16 @@ pub trait ChangeNotices: Answers {
     /// What is known once the polling thread was notified.
     ghost notified: { Self → Type 0 };
 
+    /// What became of a request to close a route.
+    type Notice: Drop;
+
     /// Requests that this route be closed, once `notify` is called. The watcher requested it.
-    fn close(&self, route: usize)
+    fn close(&self, route: usize) -> Self::Notice
         requires { Self.answered (Closes route) }
         ensures { requested self.now route };
 
     /// Notifies the polling thread, which checks before its next round. For the watching thread, at the end of a change.
-    fn notify(&self)
+    fn notify(&self) -> FlagRaised
         ensures { notified self.now };
 }
 
@@ -171,7 +176,7 @@ fn open_words<A: Answers>(
 }
 
 impl<A: Answers> RouteNotices<A> {
-    ghost use Rattle.srt_serve.specs.inside.Notices.{AreFor, HasNoWord, IsNoticed};
+    ghost use Rattle.srt_serve.specs.inside.Notices.{AreFor, HasNoneAt};
 
     /// For this many routes at most. Allocates two bits and a word for each; an error means out of memory.
     pub fn open(alloc: Global, routes: usize) -> Result<RouteNotices<A>, AllocError>
@@ -185,9 +190,41 @@ impl<A: Answers> RouteNotices<A> {
         })
     }
 
-    // What became of a request that this route be closed, which the watcher requested. A second request for a route is
-    // ignored.
-    fn request(&self, route: usize) -> CloseNotice<A>
+    // The next route that is to close, among this many. The watcher requested that. The error is evidence that there is
+    // none at this look.
+    fn next_close(&self, routes: usize, look: u64) -> Result<CloseRequest<A>, NoneToClose>
+        ensures some { IfOk result (λ request. request.route < routes) }
+        ensures none { IfErr result (HasNoneAt self.now routes look) }
+    {
+        let index = match take_mark(&self.closings, routes, look) {
+            Ok(index) => index,
+            Err(none) => return Err(NoneToClose::Unmarked(none)),
+        };
+        let Some(word) = self.words.get(index) else {
+            return Err(NoneToClose::Wordless(index));
+        };
+        match request_in(word, routes, look) {
+            Ok(request) => Ok(request),
+            Err(none) => Err(NoneToClose::Unstated(none)),
+        }
+    }
+}
+
+impl<A: Answers> Answers for RouteNotices<A> {
+    ghost answered = { λ a. A.answered a };
+}
+
+impl<A: Answers> ChangeNotices for RouteNotices<A> {
+    ghost use Rattle.srt_serve.specs.inside.Notices.{IsNoticed};
+
+    ghost requested = { λ _ _. Unit {0} };
+
+    ghost notified = { λ _. Unit {0} };
+
+    type Notice = CloseNotice<A>;
+
+    // A second request for a route is ignored.
+    fn close(&self, route: usize) -> CloseNotice<A>
         requires { A.answered (Closes route) }
         ensures { IsNoticed self.now route result }
     {
@@ -203,43 +240,8 @@ impl<A: Answers> RouteNotices<A> {
         }
     }
 
-    // The next route that is to close, among this many. The watcher requested that. The error is evidence that there is
-    // none.
-    fn next_close(&self, routes: usize) -> Result<CloseRequest<A>, NoneToClose>
-        ensures some { IfOk result (λ request. request.route < routes) }
-        ensures none { IfErr result (HasNoWord self.now routes) }
-    {
-        let index = match take_mark(&self.closings, routes) {
-            Ok(index) => index,
-            Err(none) => return Err(NoneToClose::Unmarked(none)),
-        };
-        let Some(word) = self.words.get(index) else {
-            return Err(NoneToClose::Wordless(index));
-        };
-        match request_in(word, routes) {
-            Ok(request) => Ok(request),
-            Err(none) => Err(NoneToClose::Unstated(none)),
-        }
-    }
-}
-
-impl<A: Answers> Answers for RouteNotices<A> {
-    ghost answered = { λ a. A.answered a };
-}
-
-impl<A: Answers> ChangeNotices for RouteNotices<A> {
-    ghost use Rattle.srt_serve.specs.inside.Notices.{was_requested};
-
-    ghost requested = { λ notices route. was_requested notices route };
-
-    ghost notified = { λ _. Unit {0} };
-
-    fn close(&self, route: usize) {
-        let _ = self.request(route);
-    }
-
-    fn notify(&self) {
-        let _ = raise_flag(&self.is_pending);
+    fn notify(&self) -> FlagRaised {
+        raise_flag(&self.is_pending)
     }
 }
 
@@ -254,9 +256,11 @@ where
     notices: &'n RouteNotices<A>,
     // the routes that were requested to close, the oldest first, each at most once
     requested: Vec<CloseRequest<A>>,
-    // evidence that there was no notice, no further route, and none to close, when that was found last
-    unnoticed: Option<FlagClear>,
-    none_added: Option<NoneSeated>,
+    // the number of looks, wrapping, and evidence of the last one that found no notice, no further route, or none to close:
+    // an answer that there is none rests on evidence of its own look
+    looks: u64,
+    unnoticed: Option<NoNotice>,
+    none_added: Option<NoneAdded>,
     none_to_close: Option<NoneToClose>,
     ghost indexed: { AreIndexed (arrived reader) },
     ghost answered: { AreAnswered A.answered A.first (arrived reader) },
@@ -278,6 +282,7 @@ impl<'a, 'n, A: Answers + Beginning> PollerArrivals<'a, 'n, A> {
             reader,
             notices,
             requested: Vec::with_capacity(alloc, routes)?,
+            looks: 0,
             unnoticed: None,
             none_added: None,
             none_to_close: None,
@@ -286,7 +291,10 @@ impl<'a, 'n, A: Answers + Beginning> PollerArrivals<'a, 'n, A> {
 }
 
 impl<A: Answers + Beginning> Openings for PollerArrivals<'_, '_, A> {
-    ghost use Rattle.std.specs.Prelude.{◌⊎◌, ◌≤◌, Some, IsSome, length};
+    ghost use Rattle.std.specs.Prelude.{◌⊎◌, ◌≤◌, ◌+◌, ◌%◌, ◌^◌, ◌++◌, false, Some, IsSome, IfSome, IfNone, length};
+    ghost use Rattle.srt_poller.specs.Devices.{joined};
+    ghost use Rattle.srt_poller.specs.Openings.{reported_route, additions, closings};
+    ghost use Rattle.srt_serve.specs.inside.Notices.{HasNoneAt};
     ghost use Rattle.std.specs.Vec.{vec_capacity};
     ghost use Rattle.srt_serve.specs.inside.Arrived.{marked};
     ghost use Rattle.srt_serve.specs.inside.Requests.{routes_of};
@@ -297,16 +305,24 @@ impl<A: Answers + Beginning> Openings for PollerArrivals<'_, '_, A> {
     // them.
     ghost requested = { λ s. Some (marked (locks_of s.reader) (routes_of s.requested.items)) };
 
-    // Only with evidence it answers that nothing has changed, or that there is no further route.
-    ghost unchanged = { λ s. IsSome s.unnoticed };
+    // Only with evidence of its own look, which `has_changes` begins, it answers that nothing has changed, or that there is no
+    // further route.
+    ghost unchanged = { λ s. IfSome s.unnoticed (λ none. none.look ≡ s.looks) × IsSome s.unnoticed };
 
-    ghost no_more = { λ s. IsSome s.none_added };
+    ghost no_more = { λ s. IfSome s.none_added (λ none. none.look ≡ s.looks) × IsSome s.none_added };
 
     // or there is no room for a further request; there is for one of each route
-    ghost none_to_close = { λ s routes. IsSome s.none_to_close ⊎ (vec_capacity s.requested ≤ length s.requested.items) };
+    ghost none_to_close = { λ s routes. (IfSome s.none_to_close (HasNoneAt s.notices.now routes s.looks) × IsSome s.none_to_close)
+        ⊎ (vec_capacity s.requested ≤ length s.requested.items) };
 
-    fn has_changes(&mut self) -> bool {
-        match take_flag(&self.notices.is_pending) {
+    fn has_changes(&mut self) -> bool
+        ensures added { self.new.reader ≡ self.old.reader }
+        ensures requested { self.new.requested ≡ self.old.requested }
+        ensures unchanged { result ≡ false → IfSome self.new.unnoticed (λ none. none.look ≡ self.new.looks) × IsSome self.new.unnoticed }
+        ensures look { self.new.looks ≡ (self.old.looks + 1) % 2 ^ 64 }
+    {
+        self.looks = self.looks.wrapping_add(1);
+        match take_flag(&self.notices.is_pending, self.looks) {
             Ok(()) => true,
             Err(clear) => {
                 self.unnoticed = Some(clear);
@@ -315,8 +331,15 @@ impl<A: Answers + Beginning> Openings for PollerArrivals<'_, '_, A> {
         }
     }
 
-    fn next(&mut self) -> Option<AddedRoute> {
-        match next_poller(&mut self.reader) {
+    fn next(&mut self) -> Option<AddedRoute>
+        ensures added { Some (map report_of (arrived self.new.reader)) ≡ joined (Some (map report_of (arrived self.old.reader)))
+            (map reported_route (additions result)) }
+        ensures requested { Some (marked (locks_of self.new.reader) (routes_of self.new.requested.items))
+            ≡ Some (marked (locks_of self.old.reader) (routes_of self.old.requested.items)) }
+        ensures all { IfNone result (IfSome self.new.none_added (λ none. none.look ≡ self.new.looks) × IsSome self.new.none_added) }
+        ensures look { self.new.looks ≡ self.old.looks }
+    {
+        match next_poller(&mut self.reader, self.looks) {
             Ok(taken) => {
                 let PollerEnds {
                     ingress,
@@ -335,11 +358,21 @@ impl<A: Answers + Beginning> Openings for PollerArrivals<'_, '_, A> {
         }
     }
 
-    fn next_close(&mut self, routes: usize) -> Option<usize> {
+    fn next_close(&mut self, routes: usize) -> Option<usize>
+        ensures known { IfSome result (λ r. r < routes) }
+        ensures added { self.new.reader ≡ self.old.reader }
+        ensures requested { Some (marked (locks_of self.new.reader) (routes_of self.new.requested.items))
+            ≡ joined (Some (marked (locks_of self.old.reader) (routes_of self.old.requested.items))) (closings result) }
+        ensures no_more { IfSome self.old.none_added (λ none. none.look ≡ self.old.looks) × IsSome self.old.none_added
+            → IfSome self.new.none_added (λ none. none.look ≡ self.new.looks) × IsSome self.new.none_added }
+        ensures all { IfNone result ((IfSome self.new.none_to_close (HasNoneAt self.new.notices.now routes self.new.looks) × IsSome self.new.none_to_close)
+            ⊎ (vec_capacity self.new.requested ≤ length self.new.requested.items)) }
+        ensures look { self.new.looks ≡ self.old.looks }
+    {
         if self.requested.len() >= self.requested.capacity() {
             return None;
         }
-        let request = match self.notices.next_close(routes) {
+        let request = match self.notices.next_close(routes, self.looks) {
             Ok(request) => request,
             Err(none) => {
                 self.none_to_close = Some(none);
@@ -351,22 +384,5 @@ impl<A: Answers + Beginning> Openings for PollerArrivals<'_, '_, A> {
             unreachable!();
         };
         Some(route)
-    }
-}
-
-/// A place that a route can be put into. Code that opens routes while threads run is generic over this trait.
-pub trait RouteHost {
-    /// A route that can be put here.
-    type Seat: Drop;
-
-    /// Puts a route here. False if the place has one already; then the new one is dropped.
-    fn host(&self, seat: Self::Seat) -> bool;
-}
-
-impl<X: Attachment + Drop> RouteHost for Place<X> {
-    type Seat = Seat<X>;
-
-    fn host(&self, seat: Seat<X>) -> bool {
-        self.put(seat).is_ok()
     }
 }

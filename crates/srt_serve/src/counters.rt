@@ -31,8 +31,11 @@ pub struct Count<K> {
 
 /// Evidence that one of `K` was counted.
 #[derive(Drop)]
-pub struct Counted<K> {
+pub struct Counted<K: Rule> {
+    // how many there were before
+    before: u64,
     of: PhantomData<K>,
+    ghost counted: { ∥ K.invariant before ∥₁ },
 }
 
 /// Counts `K`, from 0 on.
@@ -55,8 +58,11 @@ impl<K: Rule> Counter<K> {
     pub fn add(&self) -> Counted<K>
         requires { StaysUnderAdd K.invariant 1 }
     {
-        self.count.fetch_add(1, Ordering::SeqCst);
-        Counted { of: PhantomData }
+        let before = self.count.fetch_add(1, Ordering::SeqCst);
+        Counted {
+            before,
+            of: PhantomData,
+        }
     }
 
     /// How many there were so far.

@@ -1,18 +1,19 @@
 //! Evidence of what a thread found in a value that other threads change at any time: of a plain atomic no clause states
 //! what it has. Only the functions of this file make any, each where it found that.
 
-ghost use Rattle.std.specs.Prelude.{◌≡◌, ◌≢◌, ◌<◌, ◌++◌, ◌∷◌, [], IfSome, IfOk, IfErr, length};
+ghost use Rattle.std.specs.Prelude.{◌≡◌, ◌≢◌, ◌<◌, ◌++◌, ◌∷◌, [], Some, IfSome, IfOk, IfErr, length, slice_get};
 ghost use Rattle.srt_mailbox.specs.Cells.{CellIdentity};
 ghost use Rattle.srt_mailbox.specs.Places.{arrived, places_of};
-ghost use Rattle.srt_mailbox.specs.Seats.{IsNewClock, IsNewPoller};
+ghost use Rattle.srt_mailbox.specs.Seats.{IsNewPoller};
 ghost use Rattle.srt_supervision.specs.Answers.{AllClose, Closes, RunEnds, IsOrdered};
 ghost use Rattle.srt_serve.specs.inside.Orders.{order_in};
 
 use crate::answers::{ClosesAll, ClosesRoute, EndsRun};
 use crossbeam_queue::ArrayQueue;
-use srt_mailbox::{Attachment, ClockHand, PollerEnds, SeatReader};
-use srt_supervision::{Answers, Order};
+use srt_mailbox::{Attachment, NoneSeated, Place, PollerEnds, Seat, SeatReader};
+use srt_supervision::{Answers, Order, Refusal, Watch};
 use srt_wakeups::{AtomicBitSet, Wakeups};
+use std::alloc::{AllocError, Global};
 use std::marker::PhantomData;
 use std::snapshot::Snapshot;
 use std::sync::Wait;
@@ -45,27 +46,34 @@ pub fn gather<R: Wait>(rt: &R, wakeups: &Wakeups) -> Result<(), ThreadsMissing> 
 }
 
 /// A route that the calling worker serves. It has no `Drop`: whoever entered a route has to leave it.
-pub struct Entered<'a> {
+pub struct Entered<'a, C> {
     /// The marks of the routes.
     pub wakeups: &'a Wakeups,
+    /// The route's cell.
+    pub cell: &'a C,
     /// The route.
     pub route: usize,
     entered: (),
 }
 
-/// As `Wakeups::enter`.
-pub fn enter(wakeups: &Wakeups, route: usize) -> Option<Entered<'_>>
-    ensures { IfSome result (λ e. e.route ≡ route) }
+/// Enters the route with this index, of these, as `Wakeups::enter` does. `None` if there is none, or if another worker
+/// serves it.
+pub fn enter<'a, C>(wakeups: &'a Wakeups, cells: &'a [C], route: usize) -> Option<Entered<'a, C>>
+    ensures route { IfSome result (λ e. e.route ≡ route) }
+    ensures cell { IfSome result (λ e. slice_get cells.now route ≡ Some e.cell.now) }
 {
-    if wakeups.enter(route) {
-        Some(Entered {
-            wakeups,
-            route,
-            entered: (),
-        })
-    } else {
-        None
+    let Some(cell) = cells.get(route) else {
+        return None;
+    };
+    if !wakeups.enter(route) {
+        return None;
     }
+    Some(Entered {
+        wakeups,
+        cell,
+        route,
+        entered: (),
+    })
 }
 
 /// Evidence that a worker left a route.
@@ -76,13 +84,14 @@ pub struct LeftRoute {
     left: (),
 }
 
-impl Entered<'_> {
+impl<C> Entered<'_, C> {
     /// Leaves the route, as `Wakeups::leave` does.
     pub fn leave(self, is_left: bool) -> LeftRoute
         ensures { result.is_left ≡ is_left }
     {
         let Entered {
             wakeups,
+            cell: _,
             route,
             entered: _,
         } = self;
@@ -91,17 +100,23 @@ impl Entered<'_> {
     }
 }
 
-/// Evidence that a flag was clear.
+/// Evidence that a flag was clear at the look with this number.
 #[derive(Drop)]
-pub struct FlagClear(());
+pub struct NoNotice {
+    /// The number of the look.
+    pub look: u64,
+    found: (),
+}
 
-/// Clears a flag that is set; it may be set again at once. The error is evidence that it was clear.
-pub fn take_flag(flag: &AtomicBool) -> Result<(), FlagClear> {
+/// Clears a flag that is set; it may be set again at once. The error is evidence that it was clear at this look.
+pub fn take_flag(flag: &AtomicBool, look: u64) -> Result<(), NoNotice>
+    ensures { IfErr result (λ none. none.look ≡ look) }
+{
     if flag.load(Ordering::SeqCst) {
         flag.store(false, Ordering::SeqCst);
         Ok(())
     } else {
-        Err(FlagClear(()))
+        Err(NoNotice { look, found: () })
     }
 }
 
@@ -143,54 +158,50 @@ pub fn mark(marks: &AtomicBitSet, route: usize) -> Result<Marked, MarkedBefore>
     }
 }
 
-/// Evidence that no route was marked, of some first ones.
+/// Evidence that no route was marked, of some first ones, at the look with this number.
 #[derive(Drop)]
-pub struct NoneMarked(());
+pub struct NoneMarked {
+    /// The number of the look.
+    pub look: u64,
+    found: (),
+}
 
-/// Clears the mark of the first route that has one, of this many. The error is evidence that none has.
-pub fn take_mark(marks: &AtomicBitSet, routes: usize) -> Result<usize, NoneMarked>
-    ensures { IfOk result (λ route. route < routes) }
+/// Clears the mark of the first route that has one, of this many. The error is evidence that none has at this look.
+pub fn take_mark(marks: &AtomicBitSet, routes: usize, look: u64) -> Result<usize, NoneMarked>
+    ensures some { IfOk result (λ route. route < routes) }
+    ensures none { IfErr result (λ none. none.look ≡ look) }
 {
     let first = marks.next_from(0);
     if first < routes {
         marks.clear(first);
         Ok(first)
     } else {
-        Err(NoneMarked(()))
+        Err(NoneMarked { look, found: () })
     }
 }
 
-/// Evidence that a reader found no ends in its next place: there is no route, or they had been taken.
+/// Evidence that a reader found no further route, or no ends of it, at the look with this number.
 #[derive(Drop)]
-pub struct NoneSeated(());
+pub struct NoneAdded {
+    /// The number of the look.
+    pub look: u64,
+    none: NoneSeated,
+}
 
-/// As `SeatReader::next_poller`. The error is evidence that it returned none.
+/// As `SeatReader::next_poller`. The error is evidence of this look.
 pub fn next_poller<X: Attachment + Drop>(
     reader: &mut SeatReader<'_, X>,
-) -> Result<PollerEnds<X>, NoneSeated>
+    look: u64,
+) -> Result<PollerEnds<X>, NoneAdded>
     ensures some { IfOk result (λ e. (n : CellIdentity) × (arrived reader.new ≡ arrived reader.old ++ n ∷ []) × (n.index ≡ length (arrived reader.old)) ×
         IsNewPoller n e.ingress e.drain × X.belongs n.terms n.index e.companion) }
     ensures none { IfErr result (λ _. reader.new ≡ reader.old) }
+    ensures look { IfErr result (λ none. none.look ≡ look) }
     ensures places { places_of reader.new ≡ places_of reader.old }
 {
     match reader.next_poller() {
-        Some(ends) => Ok(ends),
-        None => Err(NoneSeated(())),
-    }
-}
-
-/// As `SeatReader::next_clock`. The error is evidence that it returned none.
-pub fn next_clock<X: Attachment + Drop>(
-    reader: &mut SeatReader<'_, X>,
-) -> Result<ClockHand, NoneSeated>
-    ensures some { IfOk result (λ h. (n : CellIdentity) × (arrived reader.new ≡ arrived reader.old ++ n ∷ []) × (n.index ≡ length (arrived reader.old)) ×
-        IsNewClock n h.end) }
-    ensures none { IfErr result (λ _. reader.new ≡ reader.old) }
-    ensures places { places_of reader.new ≡ places_of reader.old }
-{
-    match reader.next_clock() {
-        Some(hand) => Ok(hand),
-        None => Err(NoneSeated(())),
+        Ok(ends) => Ok(ends),
+        Err(none) => Err(NoneAdded { look, none }),
     }
 }
 
@@ -203,20 +214,26 @@ pub struct CloseRequest<A: Answers> {
     ghost known: { ∥ A.answered (Closes route) ∥₁ },
 }
 
-/// Evidence that a route's word stated no route, of some first ones.
+/// Evidence that a route's word stated no route, of some first ones, at the look with this number.
 #[derive(Drop)]
-pub struct NoneStated(());
+pub struct NoneStated {
+    /// The number of the look.
+    pub look: u64,
+    found: (),
+}
 
-/// The route that a word states, if it is among this many. The error is evidence that it states none.
+/// The route that a word states, if it is among this many. The error is evidence that it states none at this look.
 pub fn request_in<A: Answers>(
     word: &AtomicIn<ClosesRoute<A>>,
     routes: usize,
+    look: u64,
 ) -> Result<CloseRequest<A>, NoneStated>
-    ensures { IfOk result (λ request. request.route < routes) }
+    ensures some { IfOk result (λ request. request.route < routes) }
+    ensures none { IfErr result (λ none. none.look ≡ look) }
 {
     let stated = word.load(Ordering::SeqCst);
     if stated == 0 {
-        return Err(NoneStated(()));
+        return Err(NoneStated { look, found: () });
     }
     let route = (stated - 1) as usize;
     if route < routes {
@@ -225,7 +242,7 @@ pub fn request_in<A: Answers>(
             of: PhantomData,
         })
     } else {
-        Err(NoneStated(()))
+        Err(NoneStated { look, found: () })
     }
 }
 
@@ -305,25 +322,90 @@ impl<T> Drop for WasPut<T> {
     }
 }
 
-/// Whether a queue has a place. The error is evidence that it had none.
-pub fn look_for_place<T>(queue: &ArrayQueue<T>) -> Result<(), NoPlace> {
-    if queue.is_full() {
-        Err(NoPlace(()))
-    } else {
-        Ok(())
+/// The refusals that wait for a watcher. What is taken out has to be reported to one.
+#[derive(Drop)]
+pub struct RefusalQueue {
+    queue: ArrayQueue<Refusal>,
+}
+
+impl RefusalQueue {
+    /// Allocates room for this many; an error means out of memory.
+    pub fn open(alloc: Global, places: usize) -> Result<RefusalQueue, AllocError>
+        requires { 0 < places }
+    {
+        Ok(RefusalQueue {
+            queue: ArrayQueue::new(alloc, places)?,
+        })
+    }
+
+    /// Whether there is a place. The error is evidence that there was none.
+    pub fn look_for_place(&self) -> Result<(), NoPlace> {
+        if self.queue.is_full() {
+            Err(NoPlace(()))
+        } else {
+            Ok(())
+        }
+    }
+
+    /// Puts a refusal into a place. The error is evidence that there was none; then the refusal is dropped.
+    pub fn put<R: Wait>(&self, rt: &R, refusal: Refusal) -> Result<WasPut<Refusal>, NoPlace>
+        ensures { IfOk result (λ put. put.value.value ≡ refusal) }
+    {
+        let was = Snapshot::of(&refusal);
+        match self.queue.push(rt, refusal) {
+            Ok(()) => Ok(WasPut { value: was }),
+            Err(_) => Err(NoPlace(())),
+        }
+    }
+
+    /// Takes the refusal that has waited longest. The error is evidence that none waits.
+    pub fn take<R: Wait>(&self, rt: &R) -> Result<TakenRefusal, NothingWaits> {
+        match self.queue.pop(rt) {
+            Some(refusal) => Ok(TakenRefusal { refusal }),
+            None => Err(NothingWaits(())),
+        }
     }
 }
 
-/// Puts a value into a queue. The error is evidence that it had no place; then the value is dropped.
-pub fn put<T: Drop, R: Wait>(queue: &ArrayQueue<T>, rt: &R, value: T) -> Result<WasPut<T>, NoPlace>
-    ensures { IfOk result (λ put. put.value.value ≡ value) }
-{
-    let was = Snapshot::of(&value);
-    match queue.push(rt, value) {
-        Ok(()) => Ok(WasPut { value: was }),
-        Err(_) => Err(NoPlace(())),
+/// Evidence that nothing waited in a queue.
+#[derive(Drop)]
+pub struct NothingWaits(());
+
+/// A refusal that was taken out of its queue. It has no `Drop`: whoever took it has to report it.
+pub struct TakenRefusal {
+    refusal: Refusal,
+}
+
+impl TakenRefusal {
+    /// Reports it to the watcher.
+    pub fn report<T: Watch>(self, watch: &mut T)
+        ensures { T.told self.refusal }
+    {
+        let TakenRefusal { refusal } = self;
+        watch.refused(&refusal);
     }
 }
+
+/// Evidence that no outbox had the hint of a reply.
+#[derive(Drop)]
+pub struct OutboxesRest(());
+
+/// Evidence that an outbox had one.
+#[derive(Drop)]
+pub struct OutboxHasHint(());
+
+/// As `Wakeups::any_outbox_ready`: the error is evidence that it returned true.
+pub fn look_at_outboxes(wakeups: &Wakeups) -> Result<OutboxesRest, OutboxHasHint> {
+    if wakeups.any_outbox_ready() {
+        Err(OutboxHasHint(()))
+    } else {
+        Ok(OutboxesRest(()))
+    }
+}
+
+/// Evidence that a flag was clear.
+#[derive(Drop)]
+pub struct FlagClear(());
 
 /// Evidence that a flag was set.
 #[derive(Drop)]
@@ -363,12 +445,48 @@ pub fn write_counts(counts: &[AtomicU64; COUNTS], numbers: [u64; COUNTS]) -> Cou
     }
 }
 
-/// Counts as they were read.
+/// Evidence that counts were written, and that a flag was cleared after that.
 #[derive(Drop)]
+pub struct CountsLeft {
+    /// What was written.
+    pub written: CountsWritten,
+    cleared: (),
+}
+
+/// Clears a flag, once counts have been written.
+pub fn clear_after(flag: &AtomicBool, written: CountsWritten) -> CountsLeft
+    ensures { result.written ≡ written }
+{
+    flag.store(false, Ordering::SeqCst);
+    CountsLeft {
+        written,
+        cleared: (),
+    }
+}
+
+/// Counts as they were read. They have no `Drop`: whoever read them has to set their flag.
 pub struct CountsRead {
+    numbers: [u64; COUNTS],
+}
+
+/// Counts that were read before their flag was set.
+#[derive(Drop)]
+pub struct CountsTaken {
     /// The counts.
     pub numbers: [u64; COUNTS],
-    read: (),
+    raised: (),
+}
+
+/// Sets a flag, once counts have been read.
+pub fn raise_after(flag: &AtomicBool, read: CountsRead) -> CountsTaken
+    ensures { result.numbers ≡ read.numbers }
+{
+    let CountsRead { numbers } = read;
+    flag.store(true, Ordering::SeqCst);
+    CountsTaken {
+        numbers,
+        raised: (),
+    }
 }
 
 /// Reads counts, in their order.
@@ -378,5 +496,46 @@ pub fn read_counts(counts: &[AtomicU64; COUNTS]) -> CountsRead {
     for at in 0..COUNTS {
         numbers[at] = counts[at].load(Ordering::SeqCst);
     }
-    CountsRead { numbers, read: () }
+    CountsRead { numbers }
+}
+
+/// Evidence that a route was put into a place.
+#[derive(Drop)]
+pub struct Hosted(());
+
+/// Evidence that a place had a route.
+#[derive(Drop)]
+pub struct Occupied(());
+
+/// A place that a route can be put into. Code that opens routes while threads run is generic over this trait: what is known
+/// once a call has returned it can show only by the call.
+pub trait RouteHost {
+    /// A route that can be put here.
+    type Seat: Drop;
+
+    /// What is known once a route was put here.
+    ghost hosts: { Self → Self.Seat → Type 0 };
+
+    /// What is known once the place had a route.
+    ghost has_route: { Self → Type 0 };
+
+    /// Puts a route here. The error is evidence that the place has one already; then the new one is dropped.
+    fn host(&self, seat: Self::Seat) -> Result<Hosted, Occupied>
+        ensures hosted { IfOk result (λ _. hosts self.now seat) }
+        ensures occupied { IfErr result (λ _. has_route self.now) };
+}
+
+impl<X: Attachment + Drop> RouteHost for Place<X> {
+    type Seat = Seat<X>;
+
+    ghost hosts = { λ _ _. Unit {0} };
+
+    ghost has_route = { λ _. Unit {0} };
+
+    fn host(&self, seat: Seat<X>) -> Result<Hosted, Occupied> {
+        match self.put(seat) {
+            Ok(_) => Ok(Hosted(())),
+            Err(_) => Err(Occupied(())),
+        }
+    }
 }

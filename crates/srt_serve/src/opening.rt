@@ -59,7 +59,7 @@ fn take_first<'a, A: Answers + Beginning>(
     let Ok(put) = place.put(seat) else {
         return Err(AllocError);
     };
-    let Some(taken) = routes.next_poller() else {
+    let Ok(taken) = routes.next_poller() else {
         return Err(AllocError);
     };
     routes.reached(index, &put);
@@ -77,7 +77,7 @@ fn take_first_clock<A: Answers + Beginning>(
         × (clocks.new.items ≡ clocks.old.items ++ new_clock n ∷ [])) }
     ensures places { locks_of arrivals.new.reader ≡ locks_of arrivals.old.reader }
 {
-    let Some(hand) = arrivals.reader.next_clock() else {
+    let Ok(hand) = arrivals.reader.next_clock() else {
         return Err(AllocError);
     };
     clocks.push(hand.end)?;

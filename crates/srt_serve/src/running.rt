@@ -19,6 +19,7 @@ ghost use Rattle.srt_wakeups.specs.Marks.{IsFor};
 ghost use Rattle.srt_serve.specs.inside.Notices.{AreFor};
 ghost use Rattle.srt_serve.specs.inside.Polled.{AreReady};
 ghost use Rattle.srt_serve.specs.Opened.{AreOpened, terms_in, new_clocks};
+ghost use Rattle.srt_serve.specs.Settled.{AreLastShown};
 ghost use Rattle.srt_supervision.specs.Answers.{AllClose, RunEnds};
 ghost use Rattle.srt_serve.specs.Ran.{recorded_by, RanChanging, RanUnder, Ran as TheRan};
 
@@ -29,7 +30,7 @@ use crate::serving::{OtherThreads, PollerState, RunContext, serve_routes};
 use crate::settling::{Busy, began_with, reached_all, settle_routes};
 use crate::ticking::{Clocks, Ticker, take_new};
 use crate::watcher_channel::WatcherChannel;
-use crate::watching::watch_last;
+use crate::watching::{Viewer, report_refusals};
 use srt_cookie::Secret;
 use srt_lobby::Names;
 use srt_mailbox::{Account, Attachment, ClockEnd, Gate, Place, Seat, SeatReader};
@@ -270,15 +271,13 @@ fn take_late<A: Answers, O: Openings>(
     }
 }
 
-// After all threads have ended: takes the clock's ends of the routes that were added since its last tick, and shows each
-// route once more to the watcher. Fails if the polling thread's reader hasn't reached all routes with which the run began,
-// or the ticking thread's all that the polling thread's has, or if these are more than 511.
-fn come_to_all<'a, R: Wait, K: Drop, A: Answers + Beginning, T: Watch>(
-    context: &RunContext<'a, R, Place<NameAttachment<A>>, A>,
+// After all threads have ended: takes the clock's ends of the routes that were added since its last tick. Fails if the
+// polling thread's reader hasn't reached all routes with which the run began, or the ticking thread's all that the polling
+// thread's has, or if these are more than 511.
+fn come_to_all<'a, K: Drop, A: Answers + Beginning>(
     put: &Vec<OnceToken<'a, Seat<NameAttachment<A>>>>,
     routes: &SeatReader<'a, NameAttachment<A>>,
     clocks: &mut Clocks<K, ClockEnd, ClockArrivals<'a, A>>,
-    watch: &mut T,
 ) -> Result<(), Busy>
     requires put { map (λ t. t.of) put.now.items ≡ take (length put.now.items) (locks_of routes.now) }
     requires places { locks_of clocks.old.arrivals.reader ≡ locks_of routes.now }
@@ -295,7 +294,6 @@ fn come_to_all<'a, R: Wait, K: Drop, A: Answers + Beginning, T: Watch>(
     let Ok(()) = began_with(routes, put) else {
         return Err(Busy);
     };
-    watch_last(context.rt, context.cells, context.channel, watch);
     let _ = take_new(&mut clocks.ends, &mut clocks.arrivals);
     reached_all(routes, &clocks.arrivals.reader)
 }
@@ -339,6 +337,7 @@ where
         (recorded_by (heard (S.gave source.new) (S.calls source.new)) (carried (W.handed wire.new) (W.attempts wire.new)) (K.gave r.ticker))
         r.report r.accounts.items) }
     ensures rounds { IfOk result (λ r. (r.rounds ≤ context.now.rounds) × ((r.rounds ≡ context.now.rounds) ⊎ T.answered RunEnds)) }
+    ensures shown { IsSome context.now.channel → IfOk result (λ r. AreLastShown T.shown 0 r.accounts.items) }
     ensures unread { (result ≡ Err RunFault.OutOfMemory) ⊎ (result ≡ Err RunFault.Thread) → (source.new ≡ source.old) × (wire.new ≡ wire.old) }
 {
     let Some(pumping) = serve_routes(context, source, wire, &mut polling, &mut others) else {
@@ -356,7 +355,7 @@ where
     } = others;
     take_late(context.channel, &mut ends, &mut openings);
     let routes = openings.reader;
-    let Ok(()) = come_to_all(context, &ending.put, &routes, &mut clocks, &mut watch) else {
+    let Ok(()) = come_to_all(&ending.put, &routes, &mut clocks) else {
         return Err(RunFault::Busy);
     };
     let Clocks {
@@ -365,9 +364,13 @@ where
         ..
     } = clocks;
     let rt = context.rt;
-    let Ok(accounts) = settle_routes(rt, &routes, ends, clocks, ending.accounts) else {
+    let mut viewer = Viewer::new(&mut watch, context.channel.is_some());
+    let Ok(accounts) = settle_routes(rt, &routes, ends, clocks, ending.accounts, &mut viewer) else {
         return Err(RunFault::Busy);
     };
+    if let Some(channel) = context.channel {
+        let _ = report_refusals(rt, channel, &mut watch);
+    }
     Ok(Watched {
         report: pumping.report,
         rounds: pumping.rounds,
@@ -410,6 +413,7 @@ where
         (recorded_by (heard (S.gave source.new) (S.calls source.new)) (carried (W.handed wire.new) (W.attempts wire.new)) (K.gave r.ticker))
         r.report r.accounts.items) }
     ensures rounds { IfOk result (λ r. (r.rounds ≤ context.now.rounds) × ((r.rounds ≡ context.now.rounds) ⊎ T.answered RunEnds)) }
+    ensures shown { IsSome context.now.channel → IfOk result (λ r. AreLastShown T.shown 0 r.accounts.items) }
     ensures unread { (result ≡ Err RunFault.OutOfMemory) ⊎ (result ≡ Err RunFault.Thread) → (source.new ≡ source.old) × (wire.new ≡ wire.old) }
 {
     let RunContext {
@@ -489,6 +493,7 @@ where
         (recorded_by (heard (S.gave source.new) (S.calls source.new)) (carried (W.handed wire.new) (W.attempts wire.new)) (K.gave r.ticker))
         r.report r.accounts.items) }
     ensures rounds { IfOk result (λ r. (r.rounds ≤ task.entry.rounds) × ((r.rounds ≡ task.entry.rounds) ⊎ T.answered RunEnds)) }
+    ensures shown { task.entry.is_watched ≡ true → IfOk result (λ r. AreLastShown T.shown 0 r.accounts.items) }
     ensures unread { (result ≡ Err RunFault.OutOfMemory) ⊎ (result ≡ Err RunFault.Thread) → (source.new ≡ source.old) × (wire.new ≡ wire.old) }
 {
     let Task {
@@ -598,8 +603,8 @@ where
 /// latest order holds for each round: in a round that closes all, no route opens, and Close is offered to each visible one.
 ///
 /// A further thread watches. It repeats these steps: it lets the watcher rest (`Watch::next`), reports the refusals, and
-/// shows it the routes if it wants them. After all threads have ended and before the routes are settled, each route is
-/// shown once more, and the remaining refusals are reported. After each rest the watcher may change the routes too
+/// shows it the routes if it wants them. After all threads have ended each route is shown once more, as it is after its last
+/// turn, and settled, and then the remaining refusals are reported. After each rest the watcher may change the routes too
 /// (`Watch::change_routes`): those that open get the next of the 511 indexes, and clients find them from one of the next
 /// rounds on, once no other visible route has their name; those that close are offered Close from then on. The threads end whatever the
 /// watcher does; but one that rests for long delays that, as a ticker that waits does.
@@ -630,6 +635,7 @@ where
         (recorded_by (heard (S.gave source.new) (S.calls source.new)) (carried (W.handed wire.new) (W.attempts wire.new)) (K.gave r.ticker))
         r.report r.accounts.items) }
     ensures rounds { IfOk result (λ r. (r.rounds ≤ plan.entry.rounds) × ((r.rounds ≡ plan.entry.rounds) ⊎ T.answered RunEnds)) }
+    ensures shown { IfOk result (λ r. AreLastShown T.shown 0 r.accounts.items) }
     ensures unread { (result ≡ Err RunFault.OutOfMemory) ⊎ (result ≡ Err RunFault.Thread) → (source.new ≡ source.old) × (wire.new ≡ wire.old) }
 {
     let task = Task {

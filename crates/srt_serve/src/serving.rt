@@ -12,8 +12,8 @@ ghost use Rattle.srt_supervision.specs.Answers.{Answer, AllClose, RunEnds};
 ghost use Rattle.srt_serve.specs.inside.Polled.{AreReady, Polled, AreUntouched};
 
 use crate::answers::Beginning;
-use crate::arrivals::{NameAttachment, RouteHost, RouteNotices};
-use crate::evidence::{RunOver, ThreadsMissing, gather};
+use crate::arrivals::{NameAttachment, RouteNotices};
+use crate::evidence::{RouteHost, RunOver, ThreadsMissing, gather};
 use crate::inline_serving::InlineServer;
 use crate::ticking::Clockwork;
 use crate::watcher_channel::WatcherChannel;
@@ -27,6 +27,7 @@ use srt_supervision::{Answers, Watch};
 use srt_types::Schedule;
 use srt_wakeups::{ThreadName, Wakeups, name_thread};
 use std::alloc::Global;
+use std::marker::PhantomData;
 use std::sync::Wait;
 use std::thread::{Threads, join_mut};
 use std::{mem, thread};
@@ -134,6 +135,7 @@ where
         places: context.cells,
         notices: context.notices,
         routes: context.routes,
+        of: PhantomData,
     };
     Some(watch_routes(context.rt, changer, context.wakeups, channel, watch))
 }

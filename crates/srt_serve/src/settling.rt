@@ -1,18 +1,20 @@
 //! Settles all routes at the end of a run.
 
-ghost use Rattle.std.specs.Prelude.{◌≡◌, ◌⊎◌, ◌<◌, ◌≤◌, List, [], ◌++◌, IfOk, IfErr, OnOk, length, map, take};
+ghost use Rattle.std.specs.Prelude.{◌≡◌, ◌⊎◌, ◌<◌, ◌≤◌, true, List, [], ◌++◌, IfOk, IfErr, OnOk, length, map, take};
 ghost use Rattle.std.specs.Vec.{vec_capacity};
 ghost use Rattle.srt_mailbox.specs.Cells.{CellIdentity};
 ghost use Rattle.srt_mailbox.specs.Identities.{identity_in};
 ghost use Rattle.srt_mailbox.specs.Places.{arrived, locks_of};
-ghost use Rattle.srt_serve.specs.Settled.{AreJoined, AreSettled};
+ghost use Rattle.srt_serve.specs.Settled.{AreJoined, AreSettled, AreLastShown};
 
-use srt_mailbox::{Account, Attachment, ClockEnd, Seat, SeatReader};
+use crate::watching::Viewer;
+use srt_mailbox::{Account, Attachment, ClockEnd, Seat, SeatReader, TakenElsewhere};
 use srt_poller::Ends;
+use srt_supervision::Watch;
 use srt_types::product_limits::MAX_ROUTES;
 use std::sync::{OnceToken, Wait};
 
-/// A route could not be settled, since another call had claimed it.
+/// The routes can't be settled, since a reader hasn't reached all of them.
 #[derive(Clone, Copy)]
 pub struct Busy;
 
@@ -60,17 +62,20 @@ pub fn reached_all<'a, X: Attachment + Drop>(
 
 /// Settles all routes that this reader reached and returns their final counters, in the order of their indexes. The lists
 /// must be in that order too; there may be more clock's ends. `accounts` must be empty and have room for all of them, so
-/// that nothing allocates.
-pub fn settle_routes<R: Wait, X: Attachment + Drop>(
+/// that nothing allocates. Each route is shown to the viewer, under its index, after its last turn. The error is evidence
+/// that another call has a route.
+pub fn settle_routes<R: Wait, X: Attachment + Drop, T: Watch>(
     rt: &R,
     routes: &SeatReader<'_, X>,
     ends: Vec<Ends>,
     clocks: Vec<ClockEnd>,
     mut accounts: Vec<Account>,
-) -> Result<Vec<Account>, Busy>
+    viewer: &mut Viewer<'_, T>,
+) -> Result<Vec<Account>, TakenElsewhere>
     requires joined { AreJoined (arrived routes.now) ends.items clocks.items }
     requires room { (accounts.items ≡ []) × (length (arrived routes.now) ≤ vec_capacity accounts) }
-    ensures { IfOk result (λ done. AreSettled done.items (arrived routes.now) ends.items clocks.items) }
+    ensures settled { IfOk result (λ done. AreSettled done.items (arrived routes.now) ends.items clocks.items) }
+    ensures shown { IfOk result (λ done. viewer.old.looks ≡ true → AreLastShown T.shown 0 done.items) }
 {
     let mut ends = ends.into_iter();
     let mut clocks = clocks.into_iter();
@@ -78,9 +83,10 @@ pub fn settle_routes<R: Wait, X: Attachment + Drop>(
         let (Some(end), Some(clock)) = (ends.next(), clocks.next()) else {
             unreachable!();
         };
-        let Ok(account) = routes.seat(r).settle(rt, end.ingress, clock, end.drain) else {
-            return Err(Busy);
-        };
+        viewer.index = r;
+        let account = routes
+            .seat(r)
+            .close_out(rt, end.ingress, clock, end.drain, viewer)?;
         let Ok(()) = accounts.push(account) else {
             unreachable!();
         };

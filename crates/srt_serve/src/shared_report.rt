@@ -4,27 +4,49 @@ ghost use Rattle.std.specs.Prelude.{◌≡◌};
 ghost use Rattle.srt_serve.specs.inside.Reported.{report_in};
 
 use crate::evidence::{
-    COUNTS, CountsRead, CountsWritten, FlagClear, FlagSet, read_counts, read_flag, write_counts,
+    COUNTS, CountsLeft, CountsTaken, CountsWritten, FlagClear, FlagSet, clear_after, raise_after,
+    read_counts, read_flag, write_counts,
 };
+use crate::watching::Known;
 use srt_supervision::Report;
-use std::sync::atomic::{AtomicBool, AtomicU64, Ordering};
+use std::sync::atomic::{AtomicBool, AtomicU64};
 
 /// What became of a report that was to be left.
 #[derive(Drop)]
 pub enum ReportLeft {
-    /// Its counts were written.
-    Written(CountsWritten),
+    /// Its counts were written, and after that none is wanted.
+    Written(CountsLeft),
     /// None was wanted.
     Unwanted(FlagClear),
 }
 
-/// A report as it was read.
-#[derive(Drop)]
+/// A report as it was read, once the next one was wanted. It has no `Drop`: whoever took it has to note it.
 pub struct ReportRead {
+    report: Report,
+    taken: CountsTaken,
+    ghost stated: { report ≡ report_in taken.numbers },
+}
+
+/// A report that was noted.
+#[derive(Drop)]
+pub struct ReportNoted {
     /// The report.
     pub report: Report,
-    read: CountsRead,
-    ghost stated: { report ≡ report_in read.numbers },
+    taken: CountsTaken,
+    ghost stated: { report ≡ report_in taken.numbers },
+}
+
+impl ReportRead {
+    ghost use Rattle.srt_serve.specs.inside.Watched.{known_with_report};
+
+    /// Notes the report as the one that was reported last.
+    pub fn note(self, known: &mut Known) -> ReportNoted
+        ensures { known.new ≡ known_with_report result.report known.old }
+    {
+        let ReportRead { report, taken } = self;
+        *known = known.with_report(report);
+        ReportNoted { report, taken }
+    }
 }
 
 /// A report that one thread leaves and another one takes. The one writes the counts only while they are wanted, and the
@@ -101,11 +123,7 @@ impl SharedReport {
         ensures { IsLeft report.now result }
     {
         match read_flag(&self.is_wanted) {
-            Ok(_) => {
-                let written = self.store(report);
-                self.is_wanted.store(false, Ordering::SeqCst);
-                ReportLeft::Written(written)
-            }
+            Ok(_) => { ReportLeft::Written(clear_after(&self.is_wanted, self.store(report))) }
             Err(clear) => ReportLeft::Unwanted(clear),
         }
     }
@@ -124,18 +142,12 @@ impl SharedReport {
         match read_flag(&self.is_wanted) {
             Ok(wanted) => Err(wanted),
             Err(_) => {
-                let report = self.load();
-                self.is_wanted.store(true, Ordering::SeqCst);
-                Ok(report)
+                let taken = raise_after(&self.is_wanted, read_counts(&self.counts));
+                Ok(ReportRead {
+                    report: report_of(&taken.numbers),
+                    taken,
+                })
             }
-        }
-    }
-
-    fn load(&self) -> ReportRead {
-        let read = read_counts(&self.counts);
-        ReportRead {
-            report: report_of(&read.numbers),
-            read,
         }
     }
 }

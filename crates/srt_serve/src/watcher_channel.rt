@@ -12,10 +12,9 @@ ghost use Rattle.srt_supervision.specs.Answers.{IsOrdered};
 use crate::answers::{ClosesAll, EndsRun};
 use crate::counters::{Count, Counted, Counter, MissedRefusals, SocketFaults};
 use crate::evidence::{
-    NoPlace, OrderRead, WasPut, WordWritten, look_for_place, put, read_order, write_word,
+    NoPlace, OrderRead, RefusalQueue, WasPut, WordWritten, read_order, write_word,
 };
 use crate::shared_report::{ReportLeft, SharedReport};
-use crossbeam_queue::ArrayQueue;
 use srt_supervision::{Answers, Order, Refusal, Report};
 use std::alloc::{AllocError, Global};
 use std::sync::Wait;
@@ -106,7 +105,8 @@ pub struct WatcherChannel<A: Answers> {
     ends: AtomicIn<EndsRun<A>>,
     // the number of socket faults
     faults: Counter<SocketFaults>,
-    refusals: ArrayQueue<Refusal>,
+    /// The refusals that wait for the watcher.
+    pub refusals: RefusalQueue,
     // the number of refusals for which there was no place, of all codes together
     missed: Counter<MissedRefusals>,
     /// The counts of the poller.
@@ -123,7 +123,7 @@ impl<A: Answers> WatcherChannel<A> {
             closes: AtomicIn::new(0),
             ends: AtomicIn::new(0),
             faults: Counter::new(),
-            refusals: ArrayQueue::new(alloc, REFUSAL_PLACES)?,
+            refusals: RefusalQueue::open(alloc, REFUSAL_PLACES)?,
             missed: Counter::new(),
             report: SharedReport::new(),
         })
@@ -158,11 +158,6 @@ impl<A: Answers> WatcherChannel<A> {
             counted: self.missed.add(),
         }
     }
-
-    /// The refusal that has waited longest.
-    pub fn take<R: Wait>(&self, rt: &R) -> Option<Refusal> {
-        self.refusals.pop(rt)
-    }
 }
 
 impl<A: Answers> Answers for WatcherChannel<A> {
@@ -189,14 +184,14 @@ impl<A: Answers> PollerChannel for WatcherChannel<A> {
     }
 
     fn misses(&self) -> Option<Missed> {
-        match look_for_place(&self.refusals) {
+        match self.refusals.look_for_place() {
             Ok(()) => None,
             Err(none) => Some(self.miss(none)),
         }
     }
 
     fn leave<R: Wait>(&self, rt: &R, refusal: Refusal) -> Left {
-        match put(&self.refusals, rt, refusal) {
+        match self.refusals.put(rt, refusal) {
             Ok(put) => Left::Waits(put),
             Err(none) => Left::Missed(self.miss(none)),
         }

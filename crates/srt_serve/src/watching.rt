@@ -1,22 +1,28 @@
 //! The watching thread of a run: it shows the routes to a watcher, reports refusals to it, passes its orders to the poller,
 //! and makes its changes of the routes.
 
-ghost use Rattle.std.specs.Prelude.{◌≡◌, ◌≢◌, ◌⊎◌, ◌≤◌, ◌+◌, ◌-◌, true, false, IfOk, IfErr, length, map, min, take};
+ghost use Rattle.std.specs.Prelude.{◌≡◌, ◌≢◌, ◌⊎◌, ◌≤◌, ◌+◌, ◌-◌, true, false, Some, IfOk, IfErr, IfNone, IsOk, IsErr, length, map, slice_get};
 ghost use Rattle.srt_types.specs.Terms.{terms_of};
 ghost use Rattle.srt_serve.specs.Opened.{terms_in};
 ghost use Rattle.srt_mailbox.specs.Identities.{identity_in};
-ghost use Rattle.srt_serve.specs.inside.Changing.{IsChangeFault, IsClosedAt};
+ghost use Rattle.srt_serve.specs.inside.Changing.{IsChangeFault, IsClosedAt, HasIndexAt, IsHostedAt, IsOpenedAt};
+ghost use Rattle.srt_serve.specs.inside.Looking.{IsShown, IsShownAt, IsQuiet, IsQuietAt, IsBusy, IsOneBusy, IsCheckOf, AreReported};
 ghost use Rattle.srt_serve.specs.inside.Orders.{IsSet};
 ghost use Rattle.srt_serve.specs.inside.Quiet.{HasNoSession, HasSession, is_check_quiet};
 ghost use Rattle.srt_serve.specs.inside.UpTo.{UpTo};
-ghost use Rattle.srt_serve.specs.inside.Watched.{known_first, known_with, known_checked, status_of};
+ghost use Rattle.srt_serve.specs.inside.Watched.{known_first, known_with, known_with_report, known_checked, status_of};
+ghost use Rattle.srt_serve.specs.inside.Taken.{taken_in};
 ghost use Rattle.srt_supervision.specs.Answers.{Answer, AreClosings, AreOpenings};
+ghost use Rattle.srt_supervision.specs.declared.order.Order.TheVariants.{GoOn};
 
 use crate::answers::Beginning;
-use crate::arrivals::{ChangeNotices, NameAttachment, RouteHost, RouteNotices, seat_route};
+use crate::arrivals::{ChangeNotices, NameAttachment, RouteNotices, seat_route};
 use crate::counters::{Count, MissedRefusals, SocketFaults};
-use crate::evidence::{FlagSet, RunOver, run_over};
-use crate::shared_report::ReportRead;
+use crate::evidence::{
+    FlagSet, NothingWaits, OutboxHasHint, OutboxesRest, RouteHost, RunOver, look_at_outboxes,
+    run_over,
+};
+use crate::shared_report::ReportNoted;
 use crate::watcher_channel::{OrderSet, WatcherChannel};
 use srt_mailbox::{Observer, Seat, Serve};
 use srt_route::Route;
@@ -27,6 +33,7 @@ use srt_types::Entry;
 use srt_types::product_limits::MAX_SESSIONS;
 use srt_wakeups::Wakeups;
 use std::alloc::Global;
+use std::marker::PhantomData;
 use std::sync::Wait;
 use std::thread;
 
@@ -39,24 +46,37 @@ const QUIET_CHECKS: u32 = 2;
 
 /// Makes the changes that a watcher requests.
 #[derive(Drop)]
-pub struct Changer<'a, C, A: Answers + Beginning> {
+pub struct Changer<'a, C, N, A> {
     /// Allocates the memory of the routes that open.
     pub alloc: Global,
     /// The places of all routes, the taken ones first.
     pub places: &'a [C],
     /// Notifies the polling thread.
-    pub notices: &'a RouteNotices<A>,
+    pub notices: &'a N,
     /// The number of places that are taken.
     pub routes: usize,
+    /// The watcher's answers.
+    pub of: PhantomData<A>,
 }
 
-impl<A: Answers + Beginning, C: RouteHost<Seat = Seat<NameAttachment<A>>>> Changer<'_, C, A> {
+// Puts a route into the place with this index.
+fn host_at<C: RouteHost>(places: &[C], index: usize, seat: C::Seat)
+    ensures { (place : C) → slice_get places.now index ≡ Some place → C.has_route place ⊎ C.hosts place seat }
+{
+    let Some(place) = places.get(index) else {
+        return;
+    };
+    let _ = place.host(seat);
+}
+
+impl<A: Answers + Beginning, C: RouteHost<Seat = Seat<NameAttachment<A>>>, N> Changer<'_, C, N, A> {
     // Opens all routes of a change, without a place.
     fn open_all(&self, entries: &[Entry]) -> Result<Vec<Seat<NameAttachment<A>>>, ChangeFault>
         requires { AreOpenings A.answered (map terms_of entries.now) }
         ensures terms { IfOk result (λ seats. terms_in (map (λ s. identity_in s.cell) seats.items) ≡ map terms_of entries.now) }
         ensures many { IfOk result (λ seats. length seats.items ≡ length entries.now) }
         ensures room { IfOk result (λ seats. length seats.items ≤ length self.now.places.now - self.now.routes) }
+        ensures indexes { IfOk result (λ seats. UpTo (HasIndexAt (λ s. (identity_in s.cell).index) self.now.routes seats.items) (length seats.items)) }
         ensures fault { IfErr result (λ fault. IsChangeFault (length self.now.places.now - self.now.routes) (length entries.now) fault) }
     {
         let left = self.places.len().saturating_sub(self.routes);
@@ -66,7 +86,7 @@ impl<A: Answers + Beginning, C: RouteHost<Seat = Seat<NameAttachment<A>>>> Chang
         let mut seats = Vec::new(self.alloc);
         for entry in entries {
             let at = seats.len();
-            let index = self.routes.wrapping_add(at);
+            let index = self.routes + at;
             let Ok(seat) = seat_route(self.alloc, entry, index) else {
                 return Err(ChangeFault::OutOfMemory(at));
             };
@@ -81,22 +101,23 @@ impl<A: Answers + Beginning, C: RouteHost<Seat = Seat<NameAttachment<A>>>> Chang
     fn host_all(&mut self, seats: Vec<Seat<NameAttachment<A>>>)
         requires { length seats.items ≤ length self.old.places.now - self.old.routes }
         ensures routes { self.new.routes ≡ self.old.routes + length seats.items }
+        ensures hosted { UpTo (IsHostedAt C.hosts C.has_route self.old.places.now self.old.routes seats.items) (length seats.items) }
         ensures others { (self.new.places ≡ self.old.places) × (self.new.notices ≡ self.old.notices) }
     {
         let count = seats.len();
-        let mut at = self.routes;
-        for seat in seats {
-            if let Some(place) = self.places.get(at) {
-                place.host(seat);
-            }
-            at = at.wrapping_add(1);
+        let mut seats = seats.into_iter();
+        for offset in 0..count {
+            let Some(seat) = seats.next() else {
+                unreachable!();
+            };
+            host_at(self.places, self.routes + offset, seat);
         }
         self.routes = self.routes.wrapping_add(count);
     }
 
     // The places that are taken.
     fn taken(&self) -> &[C]
-        ensures { result.now ≡ take (min self.now.routes (length self.now.places.now)) self.now.places.now }
+        ensures { result.now ≡ taken_in self.now }
     {
         let taken = self.routes.min(self.places.len());
         &self.places[..taken]
@@ -111,25 +132,29 @@ fn leave_notices<N: ChangeNotices>(notices: &N, closes: &[usize], first: usize)
 {
     for route in closes {
         if *route < first {
-            notices.close(*route);
+            let _ = notices.close(*route);
         }
     }
-    notices.notify();
+    let _ = notices.notify();
 }
 
-impl<A: Answers + Beginning, C: RouteHost<Seat = Seat<NameAttachment<A>>>> ChangeRoutes
-    for Changer<'_, C, A> {
-    ghost use Rattle.srt_serve.specs.inside.Notices.{was_requested};
-
-    ghost requires_of = { λ a. A.answered a };
+impl<
+    A: Answers + Beginning,
+    C: RouteHost<Seat = Seat<NameAttachment<A>>>,
+    N: ChangeNotices,
+> ChangeRoutes for Changer<'_, C, N, A> {
+    ghost requires_of = { λ a. A.answered a × N.answered a };
 
     // Allocates all memory first, then puts the routes into their places, and then notifies the polling thread.
     fn change(&mut self, changes: RouteChanges) -> Result<usize, ChangeFault>
-        requires closings { AreClosings A.answered changes.closes.items }
-        requires openings { AreOpenings A.answered (map terms_of changes.opens.items) }
+        requires closings { AreClosings (λ a. A.answered a × N.answered a) changes.closes.items }
+        requires openings { AreOpenings (λ a. A.answered a × N.answered a) (map terms_of changes.opens.items) }
         ensures first { IfOk result (λ first. (first ≡ self.old.routes) × (self.new.routes ≡ first + length changes.opens.items)) }
+        ensures opened { IfOk result (λ first. UpTo (IsOpenedAt C.hosts C.has_route (λ s. (identity_in s.cell).index) (λ s. (identity_in s.cell).terms)
+            self.old.places.now first (map terms_of changes.opens.items)) (length changes.opens.items)) }
         ensures closed { IfOk result (λ first.
-            UpTo (IsClosedAt (was_requested self.old.notices.now) first changes.closes.items) (length changes.closes.items)) }
+            UpTo (IsClosedAt (N.requested self.old.notices.now) first changes.closes.items) (length changes.closes.items)) }
+        ensures notified { IfOk result (λ _. N.notified self.old.notices.now) }
         ensures fault { IfErr result (λ fault. IsChangeFault (length self.old.places.now - self.old.routes) (length changes.opens.items) fault) }
         ensures same { IfErr result (λ _. self.new ≡ self.old) }
     {
@@ -177,65 +202,140 @@ fn is_check_quiet(order: Order, all_quiet: bool, is_outbox_ready: bool) -> bool
     }
 }
 
-// Shows one route to the watcher, if it wants routes, and records whether the route is quiet.
+/// Shows routes to a watcher, if it wants them, and records of the last one whether it is quiet.
 #[derive(Drop)]
-struct Viewer<'a, T> {
+pub struct Viewer<'a, T> {
     watch: &'a mut T,
-    index: usize,
+    // whether it wants routes
     looks: bool,
+    /// The index of the next route.
+    pub index: usize,
     is_quiet: bool,
 }
 
-impl<T: Watch> Observer for Viewer<'_, T> {
-    ghost use Rattle.std.specs.Prelude.{None};
-
-    ghost looked = { λ _. None };
-
-    fn look(&mut self, route: &Route, waiting: usize)
-        ensures quiet { self.new.is_quiet ≡ true → (waiting ≡ 0) × HasNoSession route.now }
-        ensures busy { self.new.is_quiet ≡ false → (waiting ≢ 0) ⊎ HasSession route.now }
+impl<'a, T: Watch> Viewer<'a, T> {
+    /// Shows routes to this watcher, if `looks`, from the first one on.
+    pub fn new(watch: &'a mut T, looks: bool) -> Viewer<'a, T>
+        ensures { result.looks ≡ looks }
     {
-        self.is_quiet = is_route_quiet(route, waiting);
-        if self.looks {
-            self.watch.show_route(self.index, route);
+        Viewer {
+            watch,
+            looks,
+            index: 0,
+            is_quiet: false,
         }
     }
 }
 
-// Claims each route, and shows it to the watcher if it wants routes. Whether all were quiet; one that another thread has
-// claimed isn't.
-fn show_all<R: Wait, C: Serve, T: Watch>(rt: &R, cells: &[C], watch: &mut T, looks: bool) -> bool {
+impl<T: Watch> Observer for Viewer<'_, T> {
+    ghost noted = { λ old new route waiting. (new.index ≡ old.index) × (new.looks ≡ old.looks) × (old.looks ≡ true → T.shown old.index route)
+        × (new.is_quiet ≡ true → (waiting ≡ 0) × HasNoSession route) × (new.is_quiet ≡ false → (waiting ≢ 0) ⊎ HasSession route) };
+
+    fn look(&mut self, route: &Route, waiting: usize) {
+        self.is_quiet = is_route_quiet(route, waiting);
+        if !self.looks {
+            return;
+        }
+        self.watch.show_route(self.index, route);
+    }
+}
+
+// Claims a route, and shows it to the watcher if it wants routes. Whether it was quiet; one that another thread has claimed
+// isn't.
+fn show_one<R: Wait, C: Serve, T: Watch>(rt: &R, cell: &C, viewer: &mut Viewer<'_, T>) -> bool
+    ensures same { (viewer.new.index ≡ viewer.old.index) × (viewer.new.looks ≡ viewer.old.looks) }
+    ensures shown { IsShown C.holds C.shows_none T.shown viewer.old.looks viewer.old.index cell.now }
+    ensures quiet { result ≡ true → IsQuiet C.holds cell.now }
+    ensures busy { result ≡ false → IsBusy C.holds C.shows_none cell.now }
+{
+    match cell.show(rt, viewer) {
+        Ok(()) => viewer.is_quiet,
+        Err(_) => false,
+    }
+}
+
+// Claims each route, and shows it to the watcher, under its index, if it wants routes. Whether all were quiet.
+fn show_all<R: Wait, C: Serve, T: Watch>(rt: &R, cells: &[C], viewer: &mut Viewer<'_, T>) -> bool
+    ensures shown { UpTo (IsShownAt C.holds C.shows_none T.shown viewer.old.looks cells.now) (length cells.now) }
+    ensures quiet { result ≡ true → UpTo (IsQuietAt C.holds cells.now) (length cells.now) }
+    ensures busy { result ≡ false → IsOneBusy C.holds C.shows_none cells.now }
+{
     let mut all_quiet = true;
-    for (index, cell) in cells.iter().enumerate() {
-        let mut viewer = Viewer {
-            watch: &mut *watch,
-            index,
-            looks,
-            is_quiet: false,
-        };
-        let _ = cell.show(rt, &mut viewer);
-        all_quiet &= viewer.is_quiet;
+    let mut index = 0;
+    for cell in cells {
+        viewer.index = index;
+        all_quiet &= show_one(rt, cell, viewer);
+        index += 1;
     }
     all_quiet
 }
 
-// Reports the refusals that wait to the watcher.
-fn report_refusals<R: Wait, A: Answers, T: Watch>(
-    rt: &R,
-    channel: &WatcherChannel<A>,
-    watch: &mut T,
-) {
-    for _ in 0..REFUSALS_PER_REST {
-        let Some(refusal) = channel.take(rt) else {
-            return;
-        };
-        watch.refused(&refusal);
+// Whether an outbox had the hint of a reply.
+fn has_hint(outboxes: &Result<OutboxesRest, OutboxHasHint>) -> bool
+    ensures none { result ≡ false → IsOk outboxes.now }
+    ensures some { result ≡ true → IsErr outboxes.now }
+{
+    match outboxes {
+        Ok(_) => false,
+        Err(_) => true,
     }
 }
 
-// What is known between two rests of the watcher.
+// What a check of the routes found.
+#[derive(Drop)]
+struct Check {
+    // it counts as one that found all quiet
+    is_quiet: bool,
+    // what was found of the outboxes after the look at the routes
+    outboxes: Result<OutboxesRest, OutboxHasHint>,
+}
+
+// Shows the routes to the watcher, if it wants them, and checks whether all are quiet, if the order is to close all or to end.
+fn check_routes<R: Wait, C: Serve, T: Watch>(
+    rt: &R,
+    cells: &[C],
+    wakeups: &Wakeups,
+    order: Order,
+    watch: &mut T,
+    looks: bool,
+) -> Check
+    ensures shown { looks ≡ true → UpTo (IsShownAt C.holds C.shows_none T.shown true cells.now) (length cells.now) }
+    ensures check { IsCheckOf C.holds C.shows_none order cells.now result }
+{
+    if !looks && matches!(order, Order::GoOn) {
+        return Check {
+            is_quiet: false,
+            outboxes: look_at_outboxes(wakeups),
+        };
+    }
+    let all_quiet = show_all(rt, cells, &mut Viewer::new(watch, looks));
+    let outboxes = look_at_outboxes(wakeups);
+    Check {
+        is_quiet: is_check_quiet(order, all_quiet, has_hint(&outboxes)),
+        outboxes,
+    }
+}
+
+/// Reports the refusals that wait to the watcher: until there is evidence that none waits, or 1024.
+pub fn report_refusals<R: Wait, A: Answers, T: Watch>(
+    rt: &R,
+    channel: &WatcherChannel<A>,
+    watch: &mut T,
+) -> Option<NothingWaits>
+    ensures { IfNone result (AreReported T.told 1024) }
+{
+    for _ in 0..REFUSALS_PER_REST {
+        match channel.refusals.take(rt) {
+            Ok(taken) => taken.report(watch),
+            Err(none) => return Some(none),
+        }
+    }
+    None
+}
+
+/// What is known between two rests of the watcher.
 #[derive(Clone, Copy)]
-struct Known {
+pub struct Known {
     // the counts that the poller reported last, and how often it reported any
     counts: Report,
     reports: u64,
@@ -244,8 +344,8 @@ struct Known {
 }
 
 impl Known {
-    // Nothing was reported, and nothing checked.
-    const fn new() -> Known
+    /// Nothing was reported, and nothing checked.
+    pub const fn new() -> Known
         ensures { result ≡ known_first }
     {
         Known {
@@ -255,17 +355,14 @@ impl Known {
         }
     }
 
-    // The same with the counts that were left since, if there are any.
-    fn with_counts(self, left: &Result<ReportRead, FlagSet>) -> Known
-        ensures { result ≡ known_with left.now self }
+    /// The same with one report more.
+    pub fn with_report(self, report: Report) -> Known
+        ensures { result ≡ known_with_report report self }
     {
-        match left {
-            Ok(read) => Known {
-                counts: read.report,
-                reports: self.reports.saturating_add(1),
-                quiet: self.quiet,
-            },
-            Err(_) => self,
+        Known {
+            counts: report,
+            reports: self.reports.saturating_add(1),
+            quiet: self.quiet,
         }
     }
 
@@ -286,8 +383,8 @@ impl Known {
     }
 
     // Returns what the watcher gets before its next rest.
-    fn status(&self, faults: Count<SocketFaults>, missed: Count<MissedRefusals>) -> RunStatus
-        ensures { result ≡ status_of self.now faults.number missed.number }
+    fn status(&self, faults: &Count<SocketFaults>, missed: &Count<MissedRefusals>) -> RunStatus
+        ensures { result ≡ status_of self.now faults.now.number missed.now.number }
     {
         RunStatus {
             is_quiet: self.quiet >= QUIET_CHECKS,
@@ -299,15 +396,31 @@ impl Known {
     }
 }
 
-// The order that a watcher gave after a rest.
+// A rest of the watcher.
 #[derive(Drop)]
 struct Rested<A: Answers> {
-    order: Order,
-    // evidence that it was set
-    set: OrderSet<A>,
     // the counts that were left before, or evidence that none were
-    left: Result<ReportRead, FlagSet>,
+    left: Result<ReportNoted, FlagSet>,
+    faults: Count<SocketFaults>,
+    missed: Count<MissedRefusals>,
+    // the order that it gave then
+    order: Order,
+    // evidence that the order was set
+    set: OrderSet<A>,
     ghost is_set: { ∥ IsSet order set ∥₁ },
+}
+
+// Takes the report that was left since the last one was taken, and notes it. The error is evidence that none was left.
+fn note_report<A: Answers>(
+    channel: &WatcherChannel<A>,
+    known: &mut Known,
+) -> Result<ReportNoted, FlagSet>
+    ensures { known.new ≡ known_with result known.old }
+{
+    match channel.report.take() {
+        Ok(read) => Ok(read.note(known)),
+        Err(wanted) => Err(wanted),
+    }
 }
 
 // Lets the watcher rest once, and sets its order.
@@ -317,42 +430,83 @@ fn rest<A: Answers, T: Watch>(
     known: &mut Known,
 ) -> Rested<A>
     requires { (a : Answer) → T.answered a → A.answered a }
-    ensures { known.new ≡ known_with result.left known.old }
+    ensures known { known.new ≡ known_with result.left known.old }
+    ensures rested { T.rested (status_of known.new result.faults.number result.missed.number) result.order }
 {
-    let left = channel.report.take();
-    *known = known.with_counts(&left);
-    let order = watch.next(known.status(channel.faults(), channel.missed()));
+    let left = note_report(channel, known);
+    let faults = channel.faults();
+    let missed = channel.missed();
+    let order = watch.next(known.status(&faults, &missed));
     Rested {
+        left,
+        faults,
+        missed,
         order,
         set: channel.set_order(order),
-        left,
     }
+}
+
+// Lets the watcher change the routes, unless its order is to close all or to end.
+fn change_routes<A: Answers + Beginning, C, T: Watch>(
+    changer: &mut Changer<'_, C, RouteNotices<A>, A>,
+    watch: &mut T,
+    order: Order,
+)
+where
+    C: RouteHost<Seat = Seat<NameAttachment<A>>>,
+    requires { (a : Answer) → T.answered a → A.answered a }
+    ensures { order ≡ GoOn → T.changed }
+{
+    if !matches!(order, Order::GoOn) {
+        return;
+    }
+    watch.change_routes(changer);
+}
+
+// A turn of the watching thread.
+#[derive(Drop)]
+struct WatchTurn<A: Answers> {
+    rested: Rested<A>,
+    // evidence that no refusal waited any more; none if many did
+    reported: Option<NothingWaits>,
+    // the watcher wanted the routes
+    looks: bool,
+    check: Check,
 }
 
 // Lets the watcher rest once, and then executes its order and its changes.
 fn watch_once<R: Wait, A: Answers + Beginning, C, T: Watch>(
     rt: &R,
-    changer: &mut Changer<'_, C, A>,
+    changer: &mut Changer<'_, C, RouteNotices<A>, A>,
     wakeups: &Wakeups,
     channel: &WatcherChannel<A>,
     watch: &mut T,
     known: &mut Known,
-)
+) -> WatchTurn<A>
 where
     C: Serve + RouteHost<Seat = Seat<NameAttachment<A>>>,
     requires { (a : Answer) → T.answered a → A.answered a }
+    ensures rested { T.rested (status_of (known_with result.rested.left known.old) result.rested.faults.number result.rested.missed.number)
+        result.rested.order }
+    ensures reported { IfNone result.reported (AreReported T.told 1024) }
+    ensures wanted { T.wanted result.looks }
+    ensures changed { result.rested.order ≡ GoOn → T.changed }
+    ensures shown { result.looks ≡ true → UpTo (IsShownAt C.holds C.shows_none T.shown true (taken_in changer.new)) (length (taken_in changer.new)) }
+    ensures check { IsCheckOf C.holds C.shows_none result.rested.order (taken_in changer.new) result.check }
+    ensures known { known.new ≡ known_checked result.check.is_quiet (known_with result.rested.left known.old) }
 {
     let rested = rest(channel, watch, known);
-    let order = rested.order;
-    report_refusals(rt, channel, watch);
+    let reported = report_refusals(rt, channel, watch);
     let looks = watch.wants_routes();
-    let closes = !matches!(order, Order::GoOn);
-    if !closes {
-        watch.change_routes(changer);
+    change_routes(changer, watch, rested.order);
+    let check = check_routes(rt, changer.taken(), wakeups, rested.order, watch, looks);
+    *known = known.checked(check.is_quiet);
+    WatchTurn {
+        rested,
+        reported,
+        looks,
+        check,
     }
-    let all_quiet = (looks || closes) && show_all(rt, changer.taken(), watch, looks);
-    let is_quiet = is_check_quiet(order, all_quiet, wakeups.any_outbox_ready());
-    *known = known.checked(is_quiet);
 }
 
 /// Watches until the run has ended. After each rest of the watcher the poller gets its order, the refusals that wait are
@@ -360,7 +514,7 @@ where
 /// answers is known of those that the polling thread gets.
 pub fn watch_routes<R: Wait, A: Answers + Beginning, C, T: Watch>(
     rt: &R,
-    mut changer: Changer<'_, C, A>,
+    mut changer: Changer<'_, C, RouteNotices<A>, A>,
     wakeups: &Wakeups,
     channel: &WatcherChannel<A>,
     watch: &mut T,
@@ -375,22 +529,8 @@ where
         if let Some(over) = run_over(wakeups) {
             return over;
         }
-        watch_once(rt, &mut changer, wakeups, channel, watch, &mut known);
+        let _ = watch_once(rt, &mut changer, wakeups, channel, watch, &mut known);
         thread::yield_now();
     }
     unreachable!()
-}
-
-/// Shows each route once more, and reports the remaining refusals, if the run was watched. For the time after all threads
-/// have ended.
-pub fn watch_last<R: Wait, C: Serve, A: Answers, T: Watch>(
-    rt: &R,
-    cells: &[C],
-    channel: Option<&WatcherChannel<A>>,
-    watch: &mut T,
-) {
-    if let Some(channel) = channel {
-        let _ = show_all(rt, cells, watch, true);
-        report_refusals(rt, channel, watch);
-    }
 }

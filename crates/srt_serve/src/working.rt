@@ -152,19 +152,21 @@ struct Stay {
 }
 
 // Serves a route that this worker entered, and leaves it.
-fn serve_entered<R: Wait, C: Serve, G: Gate>(
-    rt: &R,
-    cell: &C,
-    entered: Entered<'_>,
-    gate: &mut G,
-) -> Stay
+fn serve_entered<R: Wait, C: Serve, G: Gate>(rt: &R, entered: Entered<'_, C>, gate: &mut G) -> Stay
     ensures most { result.visit.turns ≤ 64 }
     ensures all { result.visit.end ≡ None → result.visit.turns ≡ 64 }
     ensures idle { result.visit.end ≡ Some (TurnedAs Idle) → result.left.is_left ≡ false }
     ensures held { result.visit.end ≡ Some GateRefused → result.left.is_left ≡ false }
     ensures left { result.visit.end ≢ Some (TurnedAs Idle) → result.visit.end ≢ Some GateRefused → result.left.is_left ≡ true }
 {
-    let visit = serve_route(rt, cell, entered.route, gate, entered.wakeups, WORKER_TURNS);
+    let visit = serve_route(
+        rt,
+        entered.cell,
+        entered.route,
+        gate,
+        entered.wakeups,
+        WORKER_TURNS,
+    );
     Stay {
         visit,
         left: entered.leave(is_left(visit)),
@@ -201,10 +203,8 @@ fn serve_round<R: Wait, C: Serve, G: Gate>(
             is_shared = true;
             wakeups.wake_resting();
         }
-        if let Some(cell) = cells.get(route) {
-            if let Some(entered) = enter(wakeups, route) {
-                round = round.with(serve_entered(rt, cell, entered, gate).visit);
-            }
+        if let Some(entered) = enter(wakeups, cells, route) {
+            round = round.with(serve_entered(rt, entered, gate).visit);
         }
         route = route.wrapping_add(1);
     }

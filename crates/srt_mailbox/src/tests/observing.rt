@@ -34,10 +34,6 @@ impl Eye {
 }
 
 impl Observer for Eye {
-    ghost use Rattle.std.specs.Prelude.{None};
-
-    ghost looked = { λ _. None };
-
     fn look(&mut self, route: &Route, waiting: usize) {
         self.looks = self.looks.saturating_add(1);
         self.clock = route.clock();
@@ -59,7 +55,7 @@ fn assert_seen<C: Serve>(
     session: Option<(Peer, bool)>,
 ) {
     let mut eye = Eye::new();
-    assert!(rt; cell.show(rt, &mut eye));
+    assert!(rt; cell.show(rt, &mut eye).is_ok());
     assert!(rt; eye.looks == 1 && eye.clock == clock && eye.waiting == waiting);
     assert!(rt; eye.session == session);
 }
@@ -94,13 +90,9 @@ struct Inside<'a, R> {
 }
 
 impl<R: Wait> Observer for Inside<'_, R> {
-    ghost use Rattle.std.specs.Prelude.{None};
-
-    ghost looked = { λ _. None };
-
     fn look(&mut self, _route: &Route, _waiting: usize) {
         self.served = Some(self.cell.serve(self.rt, &mut Fixed::open()));
-        self.shown = self.cell.show(self.rt, &mut self.eye);
+        self.shown = self.cell.show(self.rt, &mut self.eye).is_ok();
     }
 }
 
@@ -115,7 +107,7 @@ fn a_route_that_is_looked_at_is_busy(rt: HostRuntime) -> Result<(), Fail> {
         shown: true,
         eye: Eye::new(),
     };
-    assert!(rt; cell.show(&rt, &mut inside));
+    assert!(rt; cell.show(&rt, &mut inside).is_ok());
     assert!(rt;
         inside.served == Some(Served::ClaimedElsewhere) && !inside.shown && inside.eye.looks == 0
     );

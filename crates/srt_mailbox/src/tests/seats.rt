@@ -1,7 +1,7 @@
 //! Seats: each end is taken once, each owner's reader reaches the routes in their order, and a route whose ends were
 //! taken from a seat is served and finalised as any other.
 
-ghost use Rattle.std.specs.Prelude.{◌≡◌, ◌≤◌, [], Some, IfOk};
+ghost use Rattle.std.specs.Prelude.{◌≡◌, ◌≤◌, [], Ok, Some, IfOk};
 ghost use Rattle.srt_mailbox.specs.Cells.{AreEndsOf};
 ghost use Rattle.srt_mailbox.specs.Identities.{identity_in};
 ghost use Rattle.srt_mailbox.specs.Places.{arrived, places_of};
@@ -12,8 +12,8 @@ use crate::tests::datagrams::{publisher_answer, publisher_conclusion};
 use crate::tests::observing::Eye;
 use crate::tests::{Fixed, IDLE, assert_drained, assert_visited, entry, offer_times, tick};
 use crate::{
-    Account, Attachment, ClockEnd, ClockHand, Drain, Ingress, Place, PollerEnds, Seat, SeatReader,
-    Serve, Served, open_seat,
+    Account, Attachment, ClockEnd, ClockHand, Drain, Ingress, NoneSeated, Place, PollerEnds, Seat,
+    SeatReader, Serve, Served, Unshown, open_seat,
 };
 use srt_types::OpenFault;
 use std::alloc::Global;
@@ -42,22 +42,22 @@ fn marked(alloc: Global, index: usize, mark: u32) -> Result<Seat<Mark>, Fail>
 }
 
 /// Returns the poller's ends of a seat, or of a reader; an error if there are none.
-fn are_there(ends: Option<PollerEnds<Mark>>) -> Result<PollerEnds<Mark>, Fail>
-    ensures { IfOk result (λ e. ends ≡ Some e) }
+fn are_there(ends: Result<PollerEnds<Mark>, NoneSeated>) -> Result<PollerEnds<Mark>, Fail>
+    ensures { IfOk result (λ e. ends ≡ Ok e) }
 {
     match ends {
-        Some(ends) => Ok(ends),
-        None => Err(Fail::from("the poller's ends are there")),
+        Ok(ends) => Ok(ends),
+        Err(_) => Err(Fail::from("the poller's ends are there")),
     }
 }
 
 /// Returns the clock's end; an error if there is none.
-fn is_there(hand: Option<ClockHand>) -> Result<ClockHand, Fail>
-    ensures { IfOk result (λ h. hand ≡ Some h) }
+fn is_there(hand: Result<ClockHand, NoneSeated>) -> Result<ClockHand, Fail>
+    ensures { IfOk result (λ h. hand ≡ Ok h) }
 {
     match hand {
-        Some(hand) => Ok(hand),
-        None => Err(Fail::from("the clock's end is there")),
+        Ok(hand) => Ok(hand),
+        Err(_) => Err(Fail::from("the clock's end is there")),
     }
 }
 
@@ -141,7 +141,7 @@ fn account_of<R: Wait>(
 ) -> Result<Account, Fail>
     requires { AreEndsOf (identity_in seat.now.cell) ingress clock drain }
 {
-    match seat.settle(rt, ingress, clock, drain) {
+    match seat.close_out(rt, ingress, clock, drain, &mut Eye::new()) {
         Ok(account) => Ok(account),
         Err(_) => Err(Fail::from("nobody has the route")),
     }
@@ -163,7 +163,7 @@ fn a_place_serves_the_route_of_its_seat(rt: HostRuntime) -> Result<(), Fail> {
     let place = Place::new();
     assert_visited(&rt, &place, 64, (0, 0, Some(IDLE)));
     assert_eq!(rt; place.serve(&rt, &mut Fixed::open()), IDLE);
-    assert!(rt; !place.show(&rt, &mut Eye::new()));
+    assert!(rt; matches!(place.show(&rt, &mut Eye::new()), Err(Unshown::Empty(_))));
     let Ok(token) = place.put(marked(rt.alloc(), 0, 7)?) else {
         return Err(Fail::from("the place is empty"));
     };
@@ -175,7 +175,7 @@ fn a_place_serves_the_route_of_its_seat(rt: HostRuntime) -> Result<(), Fail> {
     } = poller_of(seat)?;
     let ClockHand { mut end } = clock_of(seat)?;
     assert_goes_through(&rt, &place, &mut ingress, &mut end, &mut drain)?;
-    assert!(rt; place.show(&rt, &mut Eye::new()));
+    assert!(rt; place.show(&rt, &mut Eye::new()).is_ok());
     assert_eq!(rt; account_of(&rt, seat, ingress, end, drain)?, ONE_ANSWER);
     assert_eq!(rt;
         place.serve(&rt, &mut Fixed::open()),
@@ -226,7 +226,7 @@ fn put_marked(
 fn next_marks(alloc: Global, poller: &mut SeatReader<'_, Mark>) -> Result<Vec<u32>, Fail> {
     let mut marks = Vec::new(alloc);
     for _ in 0..8 {
-        let Some(ends) = poller.next_poller() else {
+        let Ok(ends) = poller.next_poller() else {
             return Ok(marks);
         };
         marks.push(ends.companion.0)?;
@@ -238,7 +238,7 @@ fn next_marks(alloc: Global, poller: &mut SeatReader<'_, Mark>) -> Result<Vec<u3
 fn next_clocks(clock: &mut SeatReader<'_, Mark>) -> usize {
     let mut count = 0usize;
     for _ in 0..8 {
-        if clock.next_clock().is_none() {
+        if clock.next_clock().is_err() {
             return count;
         }
         count = count.saturating_add(1);
@@ -316,7 +316,7 @@ struct ClockSide<'a> {
 /// Reads until this many ends have been taken, for a limited number of attempts.
 fn await_clocks(clock: &mut ClockSide<'_>, routes: usize) {
     for _ in 0..10_000_000 {
-        if let Some(hand) = clock.reader.next_clock() {
+        if let Ok(hand) = clock.reader.next_clock() {
             let _ = clock.hands.push(hand);
         }
         if clock.hands.len() == routes {
@@ -396,7 +396,7 @@ fn assert_served_and_settled(
     let ClockHand { mut end } = clock_of(seat)?;
     assert!(rt; tick(rt, &mut end, 5));
     assert_visited(rt, &place, 64, (1, 0, Some(IDLE)));
-    assert!(rt; place.show(rt, &mut Eye::new()));
+    assert!(rt; place.show(rt, &mut Eye::new()).is_ok());
     assert!(rt; tick(rt, &mut end, 6));
     assert_eq!(rt; account_of(rt, seat, ingress, end, drain)?, ONE_LEFT);
     Ok(())
@@ -445,8 +445,8 @@ fn both_readers_reach_the_last_of_many_routes(rt: HostRuntime) -> Result<(), Fai
     let mut clock = SeatReader::new(rt.alloc(), places.as_slice())?;
     for index in 0..128 {
         put_small(&rt, &places, index)?;
-        assert!(rt; poller.next_poller().is_some());
-        assert!(rt; clock.next_clock().is_some());
+        assert!(rt; poller.next_poller().is_ok());
+        assert!(rt; clock.next_clock().is_ok());
     }
     assert_eq!(rt; poller.routes(), 128);
     assert_eq!(rt; clock.routes(), 128);

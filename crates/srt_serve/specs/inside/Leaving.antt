@@ -7,5 +7,5 @@ use Rattle.srt_serve.specs.inside.Reported.{report_in}
 
 -- its counts were written, or none was wanted
 abbrev pub IsLeft : Report → ReportLeft → Type 0
-IsLeft report (Written counts) = report_in counts.numbers ≡ report
+IsLeft report (Written counts) = report_in counts.written.numbers ≡ report
 IsLeft report (Unwanted clear) = Unit {0}

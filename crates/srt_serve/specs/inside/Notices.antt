@@ -20,18 +20,14 @@ module _ {A : Type 0} where
     pub closings : routes_of notices.closings ≡ routes
     pub words : length notices.words.items ≡ routes
 
-  -- a route among this many that has no word is beyond those that have one
-  abbrev pub HasNoWord : RouteNotices A → (routes : ℕ) → NoneToClose → Type 0
-  HasNoWord notices routes (Unmarked none) = Unit {0}
-  HasNoWord notices routes (Wordless index) = (index < routes) × (length notices.words.items ≤ index)
-  HasNoWord notices routes (Unstated none) = Unit {0}
+  -- at this look none was to close among this many routes; one that has no word is beyond those that have one
+  abbrev pub HasNoneAt : RouteNotices A → (routes look : ℕ) → NoneToClose → Type 0
+  HasNoneAt notices routes look (Unmarked none) = none.look ≡ look
+  HasNoneAt notices routes look (Wordless index) = (index < routes) × (length notices.words.items ≤ index)
+  HasNoneAt notices routes look (Unstated none) = none.look ≡ look
 
   -- what became of a request to close this route: its word states one more than its index, and its mark is set; or that was so before; or it has no word
   abbrev pub IsNoticed : RouteNotices A → (route : ℕ) → CloseNotice A → Type 0
   IsNoticed notices route (Left word marked) = (word.number ≡ (route + 1) % 2 ^ 64) × IsMarked route marked
   IsNoticed notices route (Repeated before) = before.route ≡ route
   IsNoticed notices route NoSuchRoute = length notices.words.items ≤ route
-
-  -- this route was requested to close, by one call or another
-  abbrev pub was_requested : RouteNotices A → (route : ℕ) → Type 0
-  was_requested notices route = (notice : CloseNotice A) × IsNoticed notices route notice

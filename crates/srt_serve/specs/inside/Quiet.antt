@@ -1,5 +1,5 @@
 -- When nothing is left to send.
-use Rattle.std.specs.Prelude.{◌≡◌, ℕ, ◌<◌, List, Option, None, Some, Bool, true, false, not, ◌&&◌}
+use Rattle.std.specs.Prelude.{ℕ, ◌<◌, List, Option, None, Some, Bool, false, not, ◌&&◌}
 use Rattle.srt_types.specs.Items.{Item}
 use Rattle.srt_types.specs.Terms.{Terms}
 use Rattle.srt_route.specs.declared.route.Route.{Route}

@@ -1,7 +1,8 @@
 -- What is known between two rests of a watcher.
 use Rattle.std.specs.Prelude.{Bool, true, false, ℕ, nat_lt, ◌+◌, ◌-◌, ◌^◌, min, Result, Ok, Err}
 use Rattle.srt_serve.specs.declared.evidence.FlagSet.{FlagSet}
-use Rattle.srt_serve.specs.declared.shared_report.ReportRead.{ReportRead}
+use Rattle.srt_supervision.specs.declared.report.Report.{Report}
+use Rattle.srt_serve.specs.declared.shared_report.ReportNoted.{ReportNoted}
 use Rattle.srt_supervision.specs.declared.watch.RunStatus.{RunStatus}
 use Rattle.srt_serve.specs.declared.watching.Known.{Known}
 
@@ -26,10 +27,14 @@ known_first =
       quiet = 0;
     }
 
--- with the counts that were left since, if there are any: one report more
-abbrev pub known_with : Result ReportRead FlagSet → Known → Known
+-- with one report more, which has these counts
+abbrev pub known_with_report : Report → Known → Known
+known_with_report report known = record { counts = report; reports = min (known.reports + 1) (2 ^ 64 - 1); quiet = known.quiet }
+
+-- with the counts that were left since, if there are any
+abbrev pub known_with : Result ReportNoted FlagSet → Known → Known
 known_with (Err wanted) known = known
-known_with (Ok read) known = record { counts = read.report; reports = min (known.reports + 1) (2 ^ 64 - 1); quiet = known.quiet }
+known_with (Ok noted) known = known_with_report noted.report known
 
 -- after a check that found all quiet, or not
 abbrev pub known_checked : (is_quiet : Bool) → Known → Known

@@ -1,6 +1,5 @@
 //! What the polling thread tells a watcher, and what it is asked, without threads.
 
-use crate::Answers;
 use crate::inline_serving::InlineServer;
 use crate::tests::datagrams::{
     SECOND, STUDIA, conclusion_answer, conclusion_of, header_alone, induction_answer, refusal,
@@ -8,9 +7,12 @@ use crate::tests::datagrams::{
 use crate::tests::peer;
 use crate::tests::watched::studio;
 use crate::watcher_channel::{PollerChannel, WatcherChannel};
+use crate::watching::Known;
+use crate::{Answers, ChangeRoutes, Refusal, RunStatus, Watch};
 use srt_lobby::Names;
 use srt_mailbox::{RouteCell, Ungated};
 use srt_poller::{Order, PollerObserver, Report};
+use srt_route::Route;
 use srt_types::NotAdmitted;
 use srt_wakeups::Wakeups;
 use std::alloc::Global;
@@ -33,6 +35,69 @@ fn names_of_studio(alloc: Global) -> Result<Names, Fail> {
     }
 }
 
+/// A watcher that says whether the last refusal that it was told was this one: its route, code, name and cause.
+#[derive(Drop)]
+struct Expecting<'a> {
+    route: Option<usize>,
+    code: u32,
+    name: &'a [u8],
+    cause: Option<NotAdmitted>,
+    was_told: bool,
+}
+
+impl Answers for Expecting<'_> {
+    ghost answered = { λ a. Unit {0} };
+}
+
+impl Watch for Expecting<'_> {
+    fn next(&mut self, _status: RunStatus) -> Order {
+        Order::GoOn
+    }
+
+    fn wants_routes(&mut self) -> bool {
+        false
+    }
+
+    fn show_route(&mut self, _index: usize, _route: &Route) {}
+
+    fn refused(&mut self, refusal: &Refusal) {
+        self.was_told = refusal.peer == peer()
+            && refusal.route == self.route
+            && refusal.code == self.code
+            && refusal.name.as_slice() == self.name
+            && refusal.cause == self.cause;
+    }
+
+    fn change_routes<C: ChangeRoutes>(&mut self, _run: &mut C) {}
+}
+
+/// Takes the first refusal that waits, if one does, and tells it to this watcher. False if none waits.
+fn report_one<R: Wait>(
+    rt: &R,
+    channel: &WatcherChannel<Anything>,
+    watch: &mut Expecting<'_>,
+) -> bool {
+    match channel.refusals.take(rt) {
+        Ok(taken) => {
+            taken.report(watch);
+            true
+        }
+        Err(_) => false,
+    }
+}
+
+/// Whether no refusal waits.
+fn none_waits<R: Wait>(rt: &R, channel: &WatcherChannel<Anything>) -> bool {
+    let mut watch = Expecting {
+        route: None,
+        code: 0,
+        name: b"",
+        cause: None,
+        was_told: false,
+    };
+    !report_one(rt, channel, &mut watch)
+}
+
 /// The first refusal that waits: its route, code, name and cause.
 fn assert_reported(
     rt: &(impl Wait + Abort),
@@ -42,12 +107,15 @@ fn assert_reported(
     name: &[u8],
     cause: Option<NotAdmitted>,
 ) {
-    let Some(refusal) = channel.take(rt) else {
-        assert!(rt; false);
-        return;
+    let mut watch = Expecting {
+        route,
+        code,
+        name,
+        cause,
+        was_told: false,
     };
-    assert!(rt; refusal.route == route && refusal.code == code && refusal.peer == peer());
-    assert!(rt; refusal.name.as_slice() == name && refusal.cause == cause);
+    assert!(rt; report_one(rt, channel, &mut watch));
+    assert!(rt; watch.was_told);
 }
 
 /// A polling thread's part in a watched run without routes, which serves none.
@@ -79,7 +147,7 @@ fn refusals_that_find_no_place_are_counted(rt: HostRuntime) -> Result<(), Fail> 
     );
     inline.replied(7, peer(), &conclusion_answer().bytes(alloc)?);
     inline.replied(7, peer(), &header_alone().bytes(alloc)?);
-    assert!(rt; channel.take(&rt).is_none() && channel.missed().number == 0);
+    assert!(rt; none_waits(&rt, &channel) && channel.missed().number == 0);
     inline.replied(7, peer(), &refusal);
     for _ in 0..69u32 {
         inline.answered(&names, peer(), &conclusion, &refusal);
@@ -96,7 +164,7 @@ fn refusals_that_find_no_place_are_counted(rt: HostRuntime) -> Result<(), Fail> 
             Some(NotAdmitted::UnknownName),
         );
     }
-    assert!(rt; channel.take(&rt).is_none());
+    assert!(rt; none_waits(&rt, &channel));
     inline.failed();
     inline.failed();
     assert_eq!(rt; channel.faults().number, 2);
@@ -106,7 +174,7 @@ fn refusals_that_find_no_place_are_counted(rt: HostRuntime) -> Result<(), Fail> 
 /// The report that was left, if one was.
 fn taken(channel: &WatcherChannel<Anything>) -> Option<Report> {
     match channel.report.take() {
-        Ok(read) => Some(read.report),
+        Ok(read) => Some(read.note(&mut Known::new()).report),
         Err(_) => None,
     }
 }

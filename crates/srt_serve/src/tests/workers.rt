@@ -3,7 +3,7 @@
 use crate::inline_serving::InlineServer;
 use crate::watcher_channel::WatcherChannel;
 use crate::working::work;
-use srt_mailbox::{Gate, Observer, Serve, Served, Ungated, Visit};
+use srt_mailbox::{Attachment, Gate, Observer, Place, Serve, Served, Ungated, Unshown, Visit};
 use srt_poller::{Hints, InlineService};
 use srt_supervision::NoWatcher;
 use srt_types::Turned;
@@ -44,7 +44,21 @@ impl Desk {
     }
 }
 
+/// What is attached to a route of a place that stays empty.
+#[derive(Drop)]
+struct Nothing;
+
+impl Attachment for Nothing {
+    ghost belongs = { λ _ _ _. Unit {0} };
+}
+
 impl Serve for Desk {
+    ghost use Rattle.std.specs.Prelude.{ℕ};
+    ghost use Rattle.srt_mailbox.specs.Cells.{CellIdentity};
+    ghost use Rattle.srt_mailbox.specs.Looks.{IsRouteWith};
+
+    ghost holds = { λ desk route waiting. (n : CellIdentity) × IsRouteWith n route waiting };
+
     fn visit<R: Wait, G: Gate>(&self, _rt: &R, _gate: &mut G, most: u32) -> Visit {
         self.visits.fetch_add(1, Ordering::SeqCst);
         match self.load {
@@ -70,8 +84,8 @@ impl Serve for Desk {
         Served::Turned(Turned::Idle)
     }
 
-    fn show<R: Wait, L: Observer>(&self, _rt: &R, _look: &mut L) -> bool {
-        false
+    fn show<R: Wait, L: Observer>(&self, rt: &R, look: &mut L) -> Result<(), Unshown> {
+        Place::<Nothing>::new().show(rt, look)
     }
 }
 

@@ -7,8 +7,8 @@ use Rattle.srt_serve.proofs.opening.take_first.Goals as goal
 
 pub returns-clause-taken : goal.returns-clause-taken
 returns-clause-taken g c =
-    let given = c.in-Some-next_poller.ensures.some in
-    let taken : TheEnds = record { ingress = c.in-Some-next_poller.taken.ingress; drain = c.in-Some-next_poller.taken.drain } in
+    let given = c.in-Ok-next_poller.ensures.some in
+    let taken : TheEnds = record { ingress = c.in-Ok-next_poller.taken.ingress; drain = c.in-Ok-next_poller.taken.drain } in
     let first =
     first_taken (arrived c.args.routes.now) (arrived c.next_poller.new.self) given.0 _ (identity_in c.args.seat.cell) taken c.routes-index.result
     given.1 given.2 given.3.0 given.3.1 c.routes-index.ensures c.reached.ensures (ap (λ s. identity_in s.cell) c.in-Ok.ensures.put.1) in

@@ -47,7 +47,7 @@ returns-clause-fixed g c unknown =
     late (ap g.K.Ticker.gave c.come_to_all.ensures.ticker ∙ c.in-Some.ensures.ticked.1.1)
     (all_ticked _ _ _ _ _ _ _ _ _ c.in-Some.ensures.ticked.1 c.requires.clocks c.in-Ok.ensures.taken.1
     c.in-Ok.ensures.taken.2)
-    c.in-Ok.ensures.all.1 c.in-Ok-settle_routes.ensures
+    c.in-Ok.ensures.all.1 c.in-Ok-settle_routes.ensures.settled
 
 pub returns-clause-changing : goal.returns-clause-changing
 returns-clause-changing g c known =
@@ -59,7 +59,7 @@ returns-clause-changing g c known =
     late (ap g.K.Ticker.gave c.come_to_all.ensures.ticker ∙ c.in-Some.ensures.ticked.1.1)
     (all_ticked _ _ _ _ _ _ _ _ _ c.in-Some.ensures.ticked.1 c.requires.clocks c.in-Ok.ensures.taken.1
     c.in-Ok.ensures.taken.2)
-    c.in-Ok.ensures.all.1 c.in-Ok-settle_routes.ensures g.T.Answers.answered
+    c.in-Ok.ensures.all.1 c.in-Ok-settle_routes.ensures.settled g.T.Answers.answered
     (were_added g.T.Answers.answered g.B.Beginning.first _ _ c.in-Ok.ensures.began.0 c.requires.first
     (grew ∙ ap (λ (ns : List CellIdentity). ns ++ c.in-Ok.ensures.began.0) c.requires.put.1) c.take_late.new.openings.answered)
     (all_answered c.take_late.new.openings.requested.items) (λ known. known)

@@ -8,7 +8,6 @@ use Rattle.srt_mailbox.proofs.cells.RouteCell.show_claimed.Goals as goal
 
 pub returns-clause-shown : goal.returns-clause-shown
 returns-clause-shown g c =
-    let old = g.L.Observer.looked c.args.look.now in
-    let new = g.L.Observer.looked c.show.new.look in
-    subst (λ (r : ClaimedRun). Bears (identity_in c.args.self.now) r.was × WasShown r.was old new) (sym c.give_back-back.ensures)
-    (c.in_ok-claimed.ensures.0, subst (λ (r : Run). WasShown r old new) c.in_ok-claimed.ensures.1 c.show.ensures)
+    let noted = g.L.Observer.noted c.args.look.now c.show.new.look in
+    subst (λ (r : ClaimedRun). Bears (identity_in c.args.self.now) r.was × WasShown r.was noted) (sym c.give_back-back.ensures)
+    (c.in_ok-claimed.ensures.0, subst (λ (r : Run). WasShown r noted) c.in_ok-claimed.ensures.1 c.show.ensures)

@@ -6,5 +6,5 @@ use Rattle.srt_mailbox.proofs.claims.Claimed.show.Goals as goal
 
 pub returns : goal.returns
 returns g c =
-    subst (λ (r : ClaimedRun). WasShown r.now (g.L.Observer.looked c.args.look.now) (g.L.Observer.looked c.show.new.look)) c.self.view_is
-    (subst (λ (r : Run). WasShown r (g.L.Observer.looked c.args.look.now) (g.L.Observer.looked c.show.new.look)) c.deref.ensures c.show.ensures)
+    let noted = g.L.Observer.noted c.args.look.now c.show.new.look in
+    subst (λ (r : ClaimedRun). WasShown r.now noted) c.self.view_is (subst (λ (r : Run). WasShown r noted) c.deref.ensures c.show.ensures)

@@ -1,8 +1,7 @@
-use Rattle.std.proofs.Common.{length}
-use Rattle.srt_mailbox.specs.Looks.{seen}
+use Rattle.srt_mailbox.specs.Identities.{identity_in}
+use Rattle.srt_mailbox.proofs.Shown.{with_identity}
 use Rattle.srt_mailbox.proofs.places.PlaceServe.show.Goals as goal
 
-pub returns-in-Some-clause-shown : goal.returns-in-Some-clause-shown
-returns-in-Some-clause-shown g c shown =
-    let was = c.show.ensures.shown shown in
-    (seen was.2.0 (length was.0.waiting), was.2.3)
+pub returns-in-Ok-clause-shown : goal.returns-in-Ok-clause-shown
+returns-in-Ok-clause-shown g c =
+    with_identity c.show.result (identity_in c.in-Ok.seat.now.cell) (g.L.Observer.noted c.args.look.now c.show.new.look) c.show.ensures.shown

@@ -2,6 +2,7 @@ use Rattle.std.proofs.Common.{arith, ap, ◌∙◌, [], ◌∷◌, length, map}
 use Rattle.std.proofs.lemmas.List.{map-append, length-append}
 use Rattle.srt_mailbox.specs.Identities.{identity_in}
 use Rattle.srt_serve.proofs.Added.{entry_answered}
+use Rattle.srt_serve.proofs.Looks.{indexes_grow}
 use Rattle.srt_serve.proofs.Openings.{terms_grow}
 use Rattle.srt_serve.proofs.watching.Changer.open_all.Goals as goal
 
@@ -19,4 +20,8 @@ loop-entry-preserved g c = record {
       ∙ map-append (λ s. identity_in s.cell) c.loop-entry.seats.items (c.in-Ok.seat ∷ []))
       c.loop-entry.invariant.terms;
   many = omega (arith, c.loop-entry.invariant.many, ap length c.in-Ok-push.ensures.items, length-append c.loop-entry.seats.items (c.in-Ok.seat ∷ []));
+  indexes =
+      indexes_grow (λ s. (identity_in s.cell).index) c.args.self.now.routes c.loop-entry.entry-index c.loop-entry.seats.items _ c.in-Ok.seat
+      c.in-Ok-push.ensures.items c.loop-entry.invariant.many
+      (omega (arith, c.in-Ok.ensures.1, c.len-at.ensures, c.loop-entry.seats.ok.0, c.loop-entry.invariant.many)) c.loop-entry.invariant.indexes;
 }
