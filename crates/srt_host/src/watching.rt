@@ -11,7 +11,7 @@ use srt_command_line::{Manner, VERSION};
 use srt_config::{BindAddress, Config};
 use srt_explain::Explained;
 use srt_procfs::signals_are_blocked;
-use srt_watch::{LogForm, Start, Watcher};
+use srt_watch::{LogForm, Outlets, Start, Watcher};
 use std::io::ErrorKind;
 use std::net::SocketAddr;
 use std::time::Instant;
@@ -126,9 +126,11 @@ pub fn open_watcher<'a>(
     let Ok(mut watcher) = Watcher::open(
         machine.alloc(),
         Host::new(machine, start, served),
-        page,
-        errors,
-        form_of(manner),
+        Outlets {
+            log: errors,
+            form: form_of(manner),
+            page,
+        },
         config.entries.as_slice(),
         beginning(machine, served, config.workers, manner),
     ) else {

@@ -37,7 +37,8 @@ opened_more : (all : List Terms) (old new : WatchedRoutes) (terms : Terms) → H
 opened_more all old new terms h m = record {
   routes_are = subst (λ l. AreFirst 0 (all ++ terms ∷ []) l) (sym m.routes_are)
       (first_more 0 (length old.shown.items) all old.routes.items terms m.route
-      (let many = as_many all old.shown.items h.shown_are in let at : length old.shown.items ≡ 0 + length all = omega (arith, many) in at) h.routes_are m.route_is);
+      (let many = as_many all old.shown.items h.shown_are in let at : length old.shown.items ≡ 0 + length all = omega (arith, many) in at)
+      h.routes_are m.route_is);
   shown_are = subst (λ l. AreFresh (all ++ terms ∷ []) l) (sym m.shown_are)
       (fresh_more all old.shown.items terms m.status h.shown_are m.status_is);
 }

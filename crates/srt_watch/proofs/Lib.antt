@@ -5,6 +5,7 @@ pub mod ChangedRoutes
 pub mod Floods
 pub mod GrownRoutes
 pub mod HeldChanges
+pub mod Kept
 pub mod Logging
 pub mod LossLines
 pub mod OpenedLines

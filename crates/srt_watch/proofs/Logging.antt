@@ -1,6 +1,7 @@
 -- What a log writes, call by call.
 use Rattle.std.proofs.Common.{◌≡◌, ℕ, ◌+◌, ◌/◌, Bool, true, false, if◌then◌else◌, nat_le, List, [], ◌∷◌, ◌++◌}
-use Rattle.std.proofs.Common.{◌<◌, length, map, take, get_or, Option, refl, sym, ap, ◌∙◌, subst, append_assoc, append-nil, None, Some, Result, Ok, Err, inl, inr}
+use Rattle.std.proofs.Common.{◌<◌, length, map, take, get_or, Option, refl, sym, ap, ◌∙◌, subst, append_assoc, append-nil, None, Some}
+use Rattle.std.proofs.Common.{Result, Ok, Err, inl, inr}
 use Rattle.std.proofs.KnownBytes.{Appends-nil, Appends-trans}
 use Rattle.std.specs.Io.KnownBytes.{Appends, Keeps}
 use Rattle.std.specs.IoError.{error_kind}

@@ -1,11 +1,13 @@
 -- What a server of the status page was given to serve.
 use Rattle.std.specs.Prelude.{◌≡◌, ℕ, List, [], ◌∷◌, ◌++◌, map, length, Option}
+use Rattle.std.specs.List.{AllByRecursion}
 use denote.Ref.{Bor}
 use Rattle.std.specs.Prelude.{option_map}
 use Rattle.srt_status.specs.declared.events.Event.{Event}
 use Rattle.srt_status.specs.declared.gateway.GatewayStatus.{GatewayStatus}
 use Rattle.srt_status.specs.declared.routes.RouteStatus.{RouteStatus}
 use Rattle.srt_status.specs.declared.gateway.ChangeCounts.{ChangeCounts}
+use Rattle.srt_watch.specs.Facts.{MachineFacts}
 use Rattle.srt_watch.specs.Overview.{gateway_of, changes_with}
 use Rattle.srt_watch.specs.declared.overview.Overview.{Overview}
 
@@ -33,21 +35,23 @@ abbrev pub pages_at : Overview → ChangeCounts → (version : Bor (List ℕ)) �
     → List ShownPage
 pages_at overview counts version shown used events moments = map (page_at overview counts version shown used events) moments
 
--- Some pages were shown, each at some time
-pub record ShowedPages (before after : Option (List ShownPage)) (overview : Overview) (counts : ChangeCounts) (version : Bor (List ℕ))
+-- Some pages were shown, each at a time that the machine's clock returned
+pub record ShowedPages (machine : MachineFacts) (before after : Option (List ShownPage)) (overview : Overview) (counts : ChangeCounts) (version : Bor (List ℕ))
     (shown : List RouteStatus) (used : ℕ) (events : List Event) : Type 0 where
   pub moments : List ℕ
+  pub were_moments : AllByRecursion machine.was_moment moments
   pub shown_is : after ≡ with_pages before (pages_at overview counts version shown used events moments)
 
--- A page was shown, at some time
-pub record ShowedPage (before after : Option (List ShownPage)) (overview : Overview) (counts : ChangeCounts) (version : Bor (List ℕ))
+-- A page was shown, at such a time
+pub record ShowedPage (machine : MachineFacts) (before after : Option (List ShownPage)) (overview : Overview) (counts : ChangeCounts) (version : Bor (List ℕ))
     (shown : List RouteStatus) (used : ℕ) (events : List Event) : Type 0 where
   pub moment : ℕ
+  pub was_moment : machine.was_moment moment
   pub shown_is : after ≡ with_pages before (page_at overview counts version shown used events moment ∷ [])
 
 -- Some were shown of what the watcher had, and then one of what it has
-pub record ShowedTwice (before after : Option (List ShownPage)) (old new : Overview) (counts : ChangeCounts) (version : Bor (List ℕ))
+pub record ShowedTwice (machine : MachineFacts) (before after : Option (List ShownPage)) (old new : Overview) (counts : ChangeCounts) (version : Bor (List ℕ))
     (shown : List RouteStatus) (used : ℕ) (old_events new_events : List Event) : Type 0 where
   pub middle : Option (List ShownPage)
-  pub first : ShowedPages before middle old counts version shown used old_events
-  pub last : ShowedPage middle after new counts version shown used new_events
+  pub first : ShowedPages machine before middle old counts version shown used old_events
+  pub last : ShowedPage machine middle after new counts version shown used new_events

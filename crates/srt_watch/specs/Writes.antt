@@ -33,3 +33,9 @@ HasRefused old new count = (new ≡ old) ⊎ (new ≡ most (old + count))
 abbrev pub HasKeptIf : (written : Bool) → (old new : List Event) → (moment : ℕ) → (is_refusal : Bool) → (text : List ℕ) → Type 0
 HasKeptIf true old new moment is_refusal text = HasKept old new moment is_refusal text
 HasKeptIf false old new moment is_refusal text = new ≡ old
+
+-- Lines were kept for the page behind the others, none or some: the others go only where there is no room for them.
+pub data AreKept (old : List Event) : (new : List Event) → Type 0 where
+  KeptNone : (new : List Event) → new ≡ old → AreKept old new
+  KeptMore : (middle new : List Event) (moment : ℕ) (is_refusal : Bool) (text : List ℕ) → AreKept old middle → HasKept middle new moment is_refusal text →
+      AreKept old new

@@ -47,7 +47,7 @@ impl<W: Write + Drop> ChangeLog<W> {
     pub(crate) fn events(&self) -> &EventRing
         ensures { result.now ≡ self.now.log.events }
     {
-        &self.log.events
+        self.log.events()
     }
 
     // Writes a line about the configuration, whether its second has room or not.

@@ -1,6 +1,6 @@
 //! How a watcher follows the configuration's file: the change that a changed file requests, and what becomes of it.
 
-ghost use Rattle.std.specs.Prelude.{◌≡◌, ◌≤◌, ◌+◌, ℕ, true, false, IfOk, IfSome, is_some, option_map, map, length, vec_len, vec_capacity};
+ghost use Rattle.std.specs.Prelude.{◌≡◌, ◌≤◌, ◌+◌, ℕ, true, false, IfOk, IfSome, None, is_some, option_map, map, length, vec_len, vec_capacity};
 ghost use Rattle.srt_types.specs.Terms.{Terms, terms_of};
 ghost use Rattle.srt_supervision.specs.Answers.{Closes, Opens};
 ghost use Rattle.srt_watch.specs.Answers.{WasInForce, WasRead, IsToClose, IsToOpen};
@@ -9,7 +9,7 @@ ghost use Rattle.srt_watch.specs.Holding.{waits_for, waiting, held_calls, IsHeld
 ghost use Rattle.srt_watch.specs.Indexes.{numbers_of};
 ghost use Rattle.srt_watch.specs.Log.{Logged};
 ghost use Rattle.srt_watch.specs.Openings.{AreOpening};
-ghost use Rattle.srt_watch.specs.Polls.{after_look};
+ghost use Rattle.srt_watch.specs.Polls.{first_polling, after_look};
 ghost use Rattle.srt_watch.specs.Requests.{config_of, first_indexes};
 ghost use Rattle.srt_watch.specs.Following.{IsTaken, IsRequested, IsFollowed, closes_of, opens_of};
 ghost use Rattle.srt_watch.specs.Outcomes.{made_calls, IsAnnounced, file_with, HasFound, HasTold};
@@ -62,6 +62,7 @@ impl<'a, F: ConfigFile + Drop> Following<'a, F> {
         requires { F.facts.was_first config.now }
         ensures config { IfOk result (λ f. config_of f.in_force ≡ config.now) }
         ensures indexes { IfOk result (λ f. f.in_force.indexes.items ≡ first_indexes (length config.now.entries.items)) }
+        ensures file { IfOk result (λ f. (f.file.file ≡ file) × (f.file.polling ≡ first_polling) × (f.file.content ≡ None)) }
     {
         Ok(Following {
             alloc,

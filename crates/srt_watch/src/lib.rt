@@ -6,8 +6,8 @@
 //! route does. It opens no file and reads no clock: its `Machine` and its `ConfigFile` do.
 //!
 //! Types: `Watcher` implements `srt_supervision::Watch`. `Machine` and `ConfigFile` are what it needs of the machine and of the
-//! configuration's file, `StatusServer` is where it shows the status, and `NoStatusServer` shows none. `Start` is the content of
-//! its first line, and when the gateway stops by itself.
+//! configuration's file; `Outlets` are where it writes its log and shows the status. `StatusServer` is where it shows the status,
+//! and `NoStatusServer` shows none. `Start` is the content of its first line, and when the gateway stops by itself.
 //!
 //! Files: `watcher.rt` has the calls of `Watch`, and passes each to the part that it is about.
 //! - When: `course.rt` has the times of snapshots, and the stop; `steering.rt` ties the stop to the machine's signal and clock.
@@ -17,8 +17,8 @@
 //!   a route, `census.rt` counts refusals.
 //! - Reload: `following.rt` requests the change of a changed configuration, and puts it in force. `watched_file.rt` has when the
 //!   file is read, and what is new in it. `in_force.rt` has the configuration in force and compares it with the file's.
-//!   `prepared_change.rt` is a change with all memory that it needs, and `indexes.rt` has which routes close and which indexes
-//!   the others get.
+//!   `prepared_change.rt` is a change with all memory that it needs: which routes close and open, and how many; `indexes.rt` has
+//!   which indexes the others get.
 //!
 //! `machine.rt`, `page_interface.rt` and `config_file.rt` have the traits. The words of each line are in `srt_log`, those of the
 //! page in `srt_status`, and the changes of a configuration in `srt_config`. `stopping.rt` has the steps of a stop.
@@ -53,7 +53,7 @@ pub use first_lines::Start;
 pub use log::LogForm;
 pub use machine::Machine;
 pub use page_interface::{NoStatusServer, StatusServer};
-pub use watcher::Watcher;
+pub use watcher::{Outlets, Watcher};
 
 #[cfg(test)]
 mod stopping_tests;

@@ -10,7 +10,7 @@ ghost use Rattle.srt_watch.specs.Log.{IsStamp, IsTimeOf, HasState, Wrote, Logged
 ghost use Rattle.srt_watch.specs.Log.{object_at, line_at, line_if, left_out_text, said};
 ghost use Rattle.srt_watch.specs.Log.{Offered, Always, Polled, Missed, Closed, is_refusal};
 ghost use Rattle.srt_watch.specs.Draining.{IsDrained};
-ghost use Rattle.srt_watch.specs.Writes.{is_passing, pace_after, refused_after, HasRefused, HasKeptIf};
+ghost use Rattle.srt_watch.specs.Writes.{is_passing, pace_after, refused_after, HasRefused, HasKeptIf, AreKept};
 ghost use Rattle.srt_log.specs.declared.events.LogEvent.TheVariants.{Stopped, LeftOut};
 
 use crate::machine::Machine;
@@ -163,7 +163,7 @@ pub(crate) struct LogWriter<W: Drop> {
     // room for the object of a line
     object: Vec<u8>,
     // the last lines, for the page
-    pub(crate) events: EventRing,
+    events: EventRing,
     ghost counted: { pace.is_whole ≡ true → refused ≡ 0 },
 }
 
@@ -184,9 +184,18 @@ impl<W: Write + Drop> LogWriter<W> {
         }
     }
 
+    /// Returns the last lines, for the page.
+    pub(crate) fn events(&self) -> &EventRing
+        ensures { result.now ≡ self.now.events }
+    {
+        &self.events
+    }
+
     /// Counts events that weren't passed to the log as lines that were left out.
     pub fn miss(&mut self, count: u64)
-        ensures { Logged (W.contents self.old.out) (W.contents self.new.out) self.old.pace self.new.pace (Missed count ∷ []) }
+        ensures logged { Logged (W.contents self.old.out) (W.contents self.new.out) self.old.pace self.new.pace (Missed count ∷ []) }
+        ensures events { self.new.events ≡ self.old.events }
+        ensures out { self.new.out ≡ self.old.out }
     {
         self.pace.missed = self.pace.missed.saturating_add(count);
     }
@@ -274,7 +283,8 @@ impl<W: Write + Drop> LogWriter<W> {
 
     /// Writes the line of an event if its second has room for one of its kind, and counts it otherwise.
     pub fn append(&mut self, when: When, kind: LineKind, event: LogEvent<'_>)
-        ensures { Logged (W.contents self.old.out) (W.contents self.new.out) self.old.pace self.new.pace (Offered when kind (said event.entry) ∷ []) }
+        ensures logged { Logged (W.contents self.old.out) (W.contents self.new.out) self.old.pace self.new.pace (Offered when kind (said event.entry) ∷ []) }
+        ensures events { AreKept self.old.events.events.items self.new.events.events.items }
     {
         let allowed = self.pace.shares.line(kind, when.moment);
         self.append_left_out(when, allowed.left_out);
@@ -284,7 +294,8 @@ impl<W: Write + Drop> LogWriter<W> {
     /// Writes the line of an event whether its second has room or not. For events that happen once in a run, or at most
     /// twice a second.
     pub fn append_always(&mut self, when: When, event: LogEvent<'_>)
-        ensures { Logged (W.contents self.old.out) (W.contents self.new.out) self.old.pace self.new.pace (Always when (said event.entry) ∷ []) }
+        ensures logged { Logged (W.contents self.old.out) (W.contents self.new.out) self.old.pace self.new.pace (Always when (said event.entry) ∷ []) }
+        ensures events { AreKept self.old.events.events.items self.new.events.events.items }
     {
         self.end_second(when);
         self.write(when, event, 1);
@@ -292,7 +303,8 @@ impl<W: Write + Drop> LogWriter<W> {
 
     /// Writes how many lines the last second left out, once, after its end.
     pub fn end_second(&mut self, when: When)
-        ensures { Logged (W.contents self.old.out) (W.contents self.new.out) self.old.pace self.new.pace (Polled when ∷ []) }
+        ensures logged { Logged (W.contents self.old.out) (W.contents self.new.out) self.old.pace self.new.pace (Polled when ∷ []) }
+        ensures events { AreKept self.old.events.events.items self.new.events.events.items }
     {
         let count = self.pace.shares.poll(when.moment);
         let missed = self.pace.missed_by(when.moment);
@@ -316,9 +328,10 @@ impl<W: Write + Drop> LogWriter<W> {
     }
 
     /// Rests until all is out, or until the time `ends` of the routes' clock.
-    #[tactic(auto, using(crate::proofs::Logging::logged_nothing, crate::proofs::Logging::logged_no_more))]
+    #[tactic(auto, using(crate::proofs::Logging::logged_nothing, crate::proofs::Logging::logged_no_more, crate::proofs::Kept::same, crate::proofs::Kept::more))]
     pub fn drain<M: Machine>(&mut self, machine: &mut M, when: When, ends: u64) -> Drained
         ensures logged { Logged (W.contents self.old.out) (W.contents self.new.out) self.old.pace self.new.pace [] }
+        ensures events { AreKept self.old.events.events.items self.new.events.events.items }
         ensures machine { M.says machine.new ≡ M.says machine.old }
         ensures drained { IsDrained M.facts ends self.new.refused result }
     {
@@ -339,7 +352,8 @@ impl<W: Write + Drop> LogWriter<W> {
 
     /// Writes how many lines the current second has left out so far, at the end of the log.
     pub fn end(&mut self, when: When)
-        ensures { Logged (W.contents self.old.out) (W.contents self.new.out) self.old.pace self.new.pace (Closed when ∷ []) }
+        ensures logged { Logged (W.contents self.old.out) (W.contents self.new.out) self.old.pace self.new.pace (Closed when ∷ []) }
+        ensures events { AreKept self.old.events.events.items self.new.events.events.items }
     {
         self.end_second(when);
         let missed = mem::replace(&mut self.pace.missed, 0);
@@ -352,6 +366,7 @@ impl<W: Write + Drop> LogWriter<W> {
     pub fn close<M: Machine>(&mut self, machine: &mut M, when: When) -> Drained
         ensures logged { Logged (W.contents self.old.out) (W.contents self.new.out) self.old.pace self.new.pace
             (Closed when ∷ Always when (said Stopped) ∷ []) }
+        ensures events { AreKept self.old.events.events.items self.new.events.events.items }
         ensures machine { M.says machine.new ≡ M.says machine.old }
         ensures drained { IsDrained M.facts (most (when.moment + 1_000_000)) self.new.refused result }
     {

@@ -65,7 +65,7 @@ impl<P: StatusServer + Drop> Page<P> {
     ) -> u64
         ensures version { self.new.version ≡ self.old.version }
         ensures machine { M.says machine.new ≡ M.says machine.old }
-        ensures shown { ShowedPages (P.shown self.old.server) (P.shown self.new.server) overview.now counts self.old.version routes.now.shown.items
+        ensures shown { ShowedPages M.facts (P.shown self.old.server) (P.shown self.new.server) overview.now counts self.old.version routes.now.shown.items
             (used_of routes.now.routes.items) events.now.events.items }
     {
         machine.pause();
@@ -86,7 +86,7 @@ impl<P: StatusServer + Drop> Page<P> {
     )
         ensures version { self.new.version ≡ self.old.version }
         ensures machine { M.says machine.new ≡ M.says machine.old }
-        ensures shown { ShowedPages (P.shown self.old.server) (P.shown self.new.server) overview.now counts self.old.version routes.now.shown.items
+        ensures shown { ShowedPages M.facts (P.shown self.old.server) (P.shown self.new.server) overview.now counts self.old.version routes.now.shown.items
             (used_of routes.now.routes.items) events.now.events.items }
     {
         if !self.server.is_awaited() {

@@ -1,16 +1,17 @@
 //! A watcher: its rests and snapshots, the changes that it requests of the run, and how it stops the gateway.
 
-ghost use Rattle.std.specs.Prelude.{◌≡◌, [], ◌∷◌, true, None, Some, IfOk, OnOk, is_some, length, map, option_map};
+ghost use Rattle.std.specs.Prelude.{◌≡◌, [], ◌∷◌, true, false, None, Some, IfOk, OnOk, is_some, length, map, option_map};
 ghost use Rattle.std.specs.Option.{ForSome};
 ghost use Rattle.srt_watch.specs.Answers.{IsAnswer};
 ghost use Rattle.srt_watch.specs.Course.{first_course, begun, is_due, after_due, is_stopping};
-ghost use Rattle.srt_watch.specs.Log.{Logged, Missed};
+ghost use Rattle.srt_watch.specs.Log.{HasState, Logged, Missed};
 ghost use Rattle.srt_watch.specs.Losses.{no_losses, with_faults, with_missed, more_missed};
 ghost use Rattle.srt_types.specs.Terms.{terms_of};
 ghost use Rattle.srt_watch.specs.FirstRoutes.{HasOpened};
 ghost use Rattle.srt_watch.specs.Outcomes.{file_with, HasPolled};
 ghost use Rattle.srt_watch.specs.Overview.{no_overview, no_changes, with_report, after_refusal};
-ghost use Rattle.srt_watch.specs.Requests.{config_of};
+ghost use Rattle.srt_watch.specs.Polls.{first_polling};
+ghost use Rattle.srt_watch.specs.Requests.{config_of, first_indexes};
 ghost use Rattle.srt_watch.specs.Routes.{name_of, requested_by, used_of};
 ghost use Rattle.srt_watch.specs.FirstLines.{HasWarned};
 ghost use Rattle.srt_watch.specs.Turns.{ShowedAt, HasBegun, HasLost, HasTurned, HasLooked, HasEnded, rounds_unless, pair_calls, HasShown};
@@ -165,6 +166,17 @@ fn show<W: Write + Drop>(
     routes.count_take_overs(index, take_overs(&pair));
 }
 
+/// Where a watcher writes its log, and where it shows the status.
+#[derive(Drop)]
+pub struct Outlets<W: Drop, P: Drop> {
+    /// Where the lines of the log are written.
+    pub log: W,
+    /// The form of these lines.
+    pub form: LogForm,
+    /// Where the status is shown.
+    pub page: P,
+}
+
 /// The watcher of a gateway. It logs sessions, refusals and faults, shows the status page, requests the changes of a changed
 /// configuration, and stops the gateway on a signal or after its time.
 #[derive(Drop)]
@@ -193,31 +205,31 @@ where
     F: ConfigFile + Drop,
 {
     /// Returns a watcher of the routes of these entries, which have the indexes from 0 on in their order. It writes its lines
-    /// to `out` in this form, and shows the status to `page`. Allocates 9 KB for each
-    /// route; the only error is out of memory.
+    /// and shows the status at these outlets. Allocates 9 KB for each route; the only error is out of memory.
     pub fn open(
         alloc: Global,
         machine: M,
-        page: P,
-        out: W,
-        form: LogForm,
+        outlets: Outlets<W, P>,
         entries: &[Entry],
         start: Start,
     ) -> Result<Watcher<'a, M, W, P, F>, AllocError>
         requires { ForSome start.lasts M.facts.was_lasting }
-        ensures parts { IfOk result (λ w. (w.machine ≡ machine) × (w.form ≡ form) × (w.page.server ≡ page) × (w.page.version ≡ start.version)
-            × (w.first_lines.start ≡ Some start) × (w.changes.log.out ≡ out)) }
+        ensures parts { IfOk result (λ w. (w.machine ≡ machine) × (w.form ≡ outlets.form) × (w.page.server ≡ outlets.page)
+            × (w.page.version ≡ start.version) × (w.first_lines.start ≡ Some start) × (w.first_lines.warnings.items ≡ [])
+            × (w.changes.log.out ≡ outlets.log) × (is_some w.following ≡ false)) }
         ensures routes { IfOk result (λ w. HasOpened (map terms_of entries.now) w.routes) }
         ensures begins { IfOk result (λ w. (w.steering.lasts ≡ start.lasts) × (w.steering.course ≡ first_course) × (w.losses ≡ no_losses)
-            × (w.overview ≡ no_overview) × (w.changes.counts ≡ no_changes)) }
+            × (w.overview ≡ no_overview) × (w.changes.counts ≡ no_changes) × (w.changes.log.pace.is_whole ≡ true)
+            × HasState w.changes.log.pace (record { calls = []; missed = 0; second = 0 })) }
     {
         let routes = WatchedRoutes::open(alloc, entries)?;
+        let Outlets { log, form, page } = outlets;
         Ok(Watcher {
             alloc,
             machine,
             steering: Steering::new(start.lasts),
             form,
-            changes: ChangeLog::new(alloc, out),
+            changes: ChangeLog::new(alloc, log),
             first_lines: FirstLines::new(alloc, start),
             losses: Losses::none(),
             page: Page::new(page, start.version),
@@ -231,7 +243,13 @@ where
     /// Allocates 8 bytes for each route; the only error is out of memory.
     pub fn follow(&mut self, config: &'a Config, file: F) -> Result<(), AllocError>
         requires { F.facts.was_first config.now }
-        ensures { OnOk result (ForSome self.new.following (λ f. config_of f.in_force ≡ config.now) × (is_some self.new.following ≡ true)) }
+        ensures follows { OnOk result (ForSome self.new.following (λ f. (config_of f.in_force ≡ config.now)
+            × (f.in_force.indexes.items ≡ first_indexes (length config.now.entries.items)) × (f.file.polling ≡ first_polling) × (f.file.content ≡ None)
+            × (f.file.file ≡ file)) × (is_some self.new.following ≡ true)) }
+        ensures others { (self.new.machine ≡ self.old.machine) × (self.new.steering ≡ self.old.steering) × (self.new.losses ≡ self.old.losses)
+            × (self.new.overview ≡ self.old.overview) × (self.new.first_lines ≡ self.old.first_lines) }
+        ensures kept { (self.new.routes ≡ self.old.routes) × (self.new.form ≡ self.old.form) × (self.new.changes ≡ self.old.changes)
+            × (self.new.page ≡ self.old.page) }
     {
         let following = Following::new(self.alloc, config, file)?;
         mem::drop(self.following.replace(following));
@@ -250,6 +268,10 @@ where
     pub fn warn<D: Display + Drop>(&mut self, warning: D) -> Result<(), AllocError>
         ensures warnings { OnOk result (HasWarned (D.output warning) self.old.first_lines.warnings.items self.new.first_lines.warnings.items) }
         ensures start { self.new.first_lines.start ≡ self.old.first_lines.start }
+        ensures others { (self.new.machine ≡ self.old.machine) × (self.new.steering ≡ self.old.steering) × (self.new.losses ≡ self.old.losses)
+            × (self.new.overview ≡ self.old.overview) }
+        ensures kept { (self.new.routes ≡ self.old.routes) × (self.new.following ≡ self.old.following) × (self.new.form ≡ self.old.form)
+            × (self.new.changes ≡ self.old.changes) × (self.new.page ≡ self.old.page) }
     {
         self.first_lines.warn(warning)
     }
@@ -359,7 +381,7 @@ where
             × (self.new.overview ≡ self.old.overview) × (self.new.losses ≡ self.old.losses) }
         ensures kept { (self.new.routes ≡ self.old.routes) × (self.new.following ≡ self.old.following) × (self.new.form ≡ self.old.form)
             × (self.new.page.version ≡ self.old.page.version) }
-        ensures shown { ShowedPage (P.shown self.old.page.server) (P.shown self.new.page.server) self.old.overview self.old.changes.counts
+        ensures shown { ShowedPage M.facts (P.shown self.old.page.server) (P.shown self.new.page.server) self.old.overview self.old.changes.counts
             self.old.page.version self.old.routes.shown.items (used_of self.old.routes.routes.items) self.old.changes.log.events.events.items }
     {
         let moment = self.machine.moment();
@@ -408,7 +430,7 @@ where
             × HasTurned (M.says self.old.machine) self.old.first_lines self.old.losses self.old.steering.lasts self.old.steering.course
             self.new.steering.course (W.contents self.old.changes.log.out) (W.contents self.new.changes.log.out) self.old.changes.log.pace
             self.new.changes.log.pace when (length self.old.routes.shown.items) status) }
-        ensures pages { ShowedTwice (P.shown self.old.page.server) (P.shown self.new.page.server) self.old.overview self.new.overview
+        ensures pages { ShowedTwice M.facts (P.shown self.old.page.server) (P.shown self.new.page.server) self.old.overview self.new.overview
             self.old.changes.counts self.old.page.version self.old.routes.shown.items (used_of self.old.routes.routes.items)
             self.old.changes.log.events.events.items self.new.changes.log.events.events.items }
         ensures kept { (self.new.routes ≡ self.old.routes) × (self.new.following ≡ self.old.following) × (self.new.form ≡ self.old.form)

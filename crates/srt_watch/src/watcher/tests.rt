@@ -9,7 +9,7 @@ mod changing;
 mod holding;
 mod random_files;
 
-use crate::{LogForm, Machine, Start, StatusServer, Watcher};
+use crate::{LogForm, Machine, Outlets, Start, StatusServer, Watcher};
 use arrayvec::ArrayVec;
 use changing::Written;
 use srt_route::{Reply, Route, SessionView, Totals, Traffic};
@@ -195,11 +195,13 @@ fn watcher<'a>(
     Ok(Watcher::open(
         alloc,
         machine,
-        Shown::nothing(),
-        out,
-        LogForm {
-            is_timed,
-            is_json: false,
+        Outlets {
+            log: out,
+            form: LogForm {
+                is_timed,
+                is_json: false,
+            },
+            page: Shown::nothing(),
         },
         entries,
         start,

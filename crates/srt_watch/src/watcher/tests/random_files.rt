@@ -3,7 +3,7 @@
 
 use super::changing::{HEAD, OTHER_HEAD, missing};
 use super::{NOTHING, Set, Shown, start};
-use crate::{ConfigFile, FileStamp, LogForm, MAX_REASON, Watcher};
+use crate::{ConfigFile, FileStamp, LogForm, MAX_REASON, Outlets, Watcher};
 use arrayvec::ArrayVec;
 use srt_config::{Config, read_config};
 use srt_samples::Dice;
@@ -507,11 +507,13 @@ fn follower<'a>(alloc: Global, config: &'a Config, seed: u64) -> Result<Followin
     let mut watcher = Watcher::open(
         alloc,
         machine,
-        Shown::nothing(),
-        out,
-        LogForm {
-            is_timed: false,
-            is_json: false,
+        Outlets {
+            log: out,
+            form: LogForm {
+                is_timed: false,
+                is_json: false,
+            },
+            page: Shown::nothing(),
         },
         config.entries.as_slice(),
         start(true, None),

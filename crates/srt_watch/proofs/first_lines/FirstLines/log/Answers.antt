@@ -13,5 +13,5 @@ returns-clause-logged g c =
     c.log_warnings.new.log.pace
     (Always c.args.when w ∷ (unblocked_calls c.args.when c.in-Some.start.is_blocked ++ warning_calls c.args.when c.args.self.now.warnings.items)))
     c.started.ensures
-    (logged_both _ _ _ _ _ _ _ _ c.append_always.ensures
+    (logged_both _ _ _ _ _ _ _ _ c.append_always.ensures.logged
     (logged_both _ _ _ _ _ _ _ _ c.log_unblocked.ensures c.log_warnings.ensures.logged)))

@@ -45,8 +45,9 @@ returns-in-Some-Err-clause-told g c =
       says_is = ap g.F.ConfigFile.says c.poll.ensures.file;
       polling_is = polled_so _ c.args.when.moment _ _ _ c.poll.ensures.polling (inl refl);
       kept_is = found.kept_is;
-      told = NotTold c.in-Some-Err.not_taken (subst (IsFound c.args.self.now.in_force found.file) (c.in-Some-Err.is ∙ ap Some c.in-Some-Err.field-0-is) found.is_found) c.poll.ensures.in_force
-          refl refl c.not_taken.ensures.logged c.not_taken.ensures.counts;
+      told = NotTold c.in-Some-Err.not_taken
+          (subst (IsFound c.args.self.now.in_force found.file) (c.in-Some-Err.is ∙ ap Some c.in-Some-Err.field-0-is) found.is_found)
+          c.poll.ensures.in_force refl refl c.not_taken.ensures.logged c.not_taken.ensures.counts;
     }
 
 pub returns-in-None-clause-told : goal.returns-in-None-clause-told
@@ -134,4 +135,5 @@ of-requires g c =
     c.in-Some-Ok.ensures.wanted).is_wanted
 
 pub request-requires-clause-opening : goal.request-requires-clause-opening
-request-requires-clause-opening g c = subst (λ w. AreOpening (opens_of w) c.in-Ok.change.room.opening.items) (sym c.in-Ok.ensures.wanted) c.in-Ok.ensures.opening
+request-requires-clause-opening g c =
+    subst (λ w. AreOpening (opens_of w) c.in-Ok.change.room.opening.items) (sym c.in-Ok.ensures.wanted) c.in-Ok.ensures.opening

@@ -1,8 +1,13 @@
 use Rattle.srt_watch.proofs.Logging.{logged_both}
+use Rattle.srt_watch.proofs.Kept.{kept_both}
 use Rattle.srt_watch.proofs.log.LogWriter.close.Goals as goal
 
 pub returns-clause-logged : goal.returns-clause-logged
 returns-clause-logged g c =
-    logged_both _ _ _ _ _ _ _ _ c.end.ensures
+    logged_both _ _ _ _ _ _ _ _ c.end.ensures.logged
     (logged_both _ _ _ _ _ _ _ _ c.drain.ensures.logged
-    (logged_both _ _ _ _ _ _ _ _ c.append_always.ensures c.drain-2.ensures.logged))
+    (logged_both _ _ _ _ _ _ _ _ c.append_always.ensures.logged c.drain-2.ensures.logged))
+
+pub returns-clause-events : goal.returns-clause-events
+returns-clause-events g c =
+    kept_both _ _ _ c.end.ensures.events (kept_both _ _ _ c.drain.ensures.events (kept_both _ _ _ c.append_always.ensures.events c.drain-2.ensures.events))

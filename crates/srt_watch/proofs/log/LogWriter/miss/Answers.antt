@@ -3,8 +3,8 @@ use Rattle.srt_watch.proofs.Logging.{logged_by, wrote_nothing}
 use Rattle.srt_watch.specs.Log.{most}
 use Rattle.srt_watch.proofs.log.LogWriter.miss.Goals as goal
 
-pub returns : goal.returns
-returns g c =
+pub returns-clause-logged : goal.returns-clause-logged
+returns-clause-logged g c =
     logged_by _ _ _ _ _ _ [] refl
     (λ s h. record {
       shares_stand = h.shares_stand;

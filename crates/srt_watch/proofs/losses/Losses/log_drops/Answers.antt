@@ -8,4 +8,4 @@ returns-else-count-gt0-clause-logged g c = logged_none _ _ _ (no_drop_line _ _ (
 
 pub returns-then-count-gt0-clause-logged : goal.returns-then-count-gt0-clause-logged
 returns-then-count-gt0-clause-logged g c =
-    logged_as _ _ _ _ _ _ (drop_line c.args.when _ _ (omega arith) (omega (arith, c.unwrap_or-drops.ensures))) c.append_always.ensures
+    logged_as _ _ _ _ _ _ (drop_line c.args.when _ _ (omega arith) (omega (arith, c.unwrap_or-drops.ensures))) c.append_always.ensures.logged

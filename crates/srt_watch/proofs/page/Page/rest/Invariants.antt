@@ -9,8 +9,8 @@ invariant-loop-pauses g l = record {
   version : l.self.version ≡ l.fn.self.version;
   machine : g.M.Machine.says l.machine ≡ g.M.Machine.says l.fn.machine;
   shown :
-      ShowedPages (g.P.StatusServer.shown l.fn.self.server) (g.P.StatusServer.shown l.self.server) l.overview l.counts l.fn.self.version l.routes.shown.items
-      (used_of l.routes.routes.items) l.events.events.items;
+      ShowedPages g.M.Machine.facts (g.P.StatusServer.shown l.fn.self.server) (g.P.StatusServer.shown l.self.server) l.overview l.counts l.fn.self.version
+      l.routes.shown.items (used_of l.routes.routes.items) l.events.events.items;
 }
 
 abbrev pub decreases-loop-pauses : goal.decreases-loop-pauses

@@ -21,7 +21,7 @@ returns-clause-turned g c =
           logged_both _ _ _ _ _ _ _ _ c.begin.ensures.logged.logged
           (logged_both _ _ _ _ _ _ _ _
           (logged_as _ _ _ _ _ _ (ap (λ l. Missed (more_missed l c.args.status.missed) ∷ []) c.begin.ensures.others.1) c.note_status.ensures.logged)
-          (logged_both _ _ _ _ _ _ _ _ c.end_second.ensures
+          (logged_both _ _ _ _ _ _ _ _ c.end_second.ensures.logged
           (logged_both _ _ _ _ _ _ _ _ c.catch_up.ensures.logged
           (logged_as _ _ _ _ _ _
           (ap (λ k. stop_calls c.args.when (stop_of k c.check_stop.ensures.requested c.args.when.moment)) course) c.check_stop.ensures.logged))));

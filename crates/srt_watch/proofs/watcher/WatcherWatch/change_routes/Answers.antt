@@ -1,6 +1,6 @@
-use Rattle.std.proofs.Common.{Some, option_map, refl, sym, ap, rules}
+use Rattle.std.proofs.Common.{refl, rules}
 use Rattle.srt_supervision.specs.Answers.{Closes, Opens}
-use Rattle.srt_watch.specs.Outcomes.{file_with, Polled}
+use Rattle.srt_watch.specs.Outcomes.{Polled}
 use Rattle.srt_watch.proofs.watcher.WatcherWatch.change_routes.Goals as goal
 
 pub follow-requires-clause-closings : goal.follow-requires-clause-closings
