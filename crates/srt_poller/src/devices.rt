@@ -3,6 +3,7 @@
 ghost use Rattle.std.specs.Prelude.{◌≡◌, ◌<◌, ◌≤◌, ◌^◌, take};
 
 use srt_types::Peer;
+use srt_types::protocol_limits::READ_ROOM;
 
 /// The outcome of a wait for datagrams.
 #[derive(Clone, Copy, Debug, PartialEq, Eq)]
@@ -62,7 +63,7 @@ pub trait Source {
 
     /// Reads the next datagram to the front of the buffer, and doesn't wait for one. A datagram of more than 2048 bytes
     /// may be cut to its first 2048.
-    fn next(&mut self, buffer: &mut [u8; 2048]) -> Read
+    fn next(&mut self, buffer: &mut [u8; READ_ROOM]) -> Read
         ensures well { ReadsWell result (failures self.old) (failures self.new) }
         ensures records { gave self.new ≡ joined (gave self.old) (given_by_read result buffer.new) }
         ensures called { calls self.new ≡ joined (calls self.old) (call_of_read result buffer.new ∷ []) };

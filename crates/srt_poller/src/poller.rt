@@ -23,6 +23,7 @@ use srt_lobby::{Class, classify};
 use srt_mailbox::OutboxEmpty;
 use srt_supervision::Report;
 use srt_types::Peer;
+use srt_types::protocol_limits::{MAX_DATAGRAM, READ_ROOM};
 use std::alloc::Global;
 use std::sync::Wait;
 
@@ -104,9 +105,9 @@ impl Left {
 #[derive(Drop)]
 pub(crate) struct Poller {
     // the last datagram that was read
-    datagram: [u8; 2048],
+    datagram: [u8; READ_ROOM],
     // a copy of the kept reply's bytes, if there is one, so that its box can be returned; no other reply is copied
-    reply_bytes: [u8; 1472],
+    reply_bytes: [u8; MAX_DATAGRAM],
     kept: Option<KeptReply>,
     // for copies of datagrams
     buffers: Buffers,
@@ -162,8 +163,8 @@ impl Poller {
         ensures left { result.left ≡ false }
     {
         Poller {
-            datagram: [0; 2048],
-            reply_bytes: [0; 1472],
+            datagram: [0; READ_ROOM],
+            reply_bytes: [0; MAX_DATAGRAM],
             kept: None,
             buffers: Buffers::new(alloc),
             report: Report::NOTHING,

@@ -8,6 +8,7 @@ use crate::devices::{Clock, Polled, Read, Sent, Source, Wire};
 use crate::journal::Journal;
 use crate::memory::{MemoryRefused, Refusals, copied, push};
 use srt_types::Peer;
+use srt_types::protocol_limits::READ_ROOM;
 use std::alloc::Global;
 
 /// A datagram of a source in memory.
@@ -23,12 +24,12 @@ pub struct ScriptDatagram {
 
 impl ScriptDatagram {
     /// Copies at most 2048 bytes, the first, to the front of the buffer, and returns their number.
-    fn copy_to(&self, buffer: &mut [u8; 2048]) -> usize
+    fn copy_to(&self, buffer: &mut [u8; READ_ROOM]) -> usize
         ensures len { result ≡ min (length self.now.bytes.items) 2048 }
         ensures bytes { take result buffer.new ≡ take 2048 self.now.bytes.items }
     {
         let bytes = self.bytes.as_slice();
-        let len = bytes.len().min(2048);
+        let len = bytes.len().min(READ_ROOM);
         buffer[..len].copy_from_slice(&bytes[..len]);
         len
     }
@@ -142,7 +143,7 @@ impl Source for SourceScript {
         }
     }
 
-    fn next(&mut self, buffer: &mut [u8; 2048]) -> Read
+    fn next(&mut self, buffer: &mut [u8; READ_ROOM]) -> Read
         ensures well { ReadsWell result self.old.failures self.new.failures }
         ensures records { ⟦<SourceScript as Source>⟧.gave self.new ≡
             joined (⟦<SourceScript as Source>⟧.gave self.old) (given_by_read result buffer.new) }

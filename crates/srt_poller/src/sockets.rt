@@ -17,6 +17,7 @@ use crate::tuning::RECEIVE_BUFFER;
 use called::{Marks, Socket, SocketPoll};
 use mio::Events;
 use srt_types::Peer;
+use srt_types::protocol_limits::READ_ROOM;
 use std::alloc::{AllocError, Global};
 use std::net::{IpAddr, Ipv4Addr, Ipv6Addr, Net, SocketAddr, SocketAddrV4, SocketAddrV6};
 use std::sync::Arc;
@@ -324,7 +325,7 @@ impl<C: Clock> Source for MioSource<C> {
         polled
     }
 
-    fn next(&mut self, buffer: &mut [u8; 2048]) -> Read
+    fn next(&mut self, buffer: &mut [u8; READ_ROOM]) -> Read
         ensures well { ReadsWell result (⟦<MioSource<C> as Source>⟧.failures self.old) (⟦<MioSource<C> as Source>⟧.failures self.new) }
         ensures records { ⟦<MioSource<C> as Source>⟧.gave self.new ≡
             joined (⟦<MioSource<C> as Source>⟧.gave self.old) (given_by_read result buffer.new) }

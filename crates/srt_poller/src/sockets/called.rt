@@ -12,6 +12,7 @@ use libc::types::timespec;
 use mio::net::UdpSocket;
 use mio::{Events, Interest, Poll, Token};
 use os::{FromRawFd, errno};
+use srt_types::protocol_limits::READ_ROOM;
 use std::alloc::Global;
 use std::io;
 use std::net::{Net, SocketAddr};
@@ -195,7 +196,7 @@ impl Socket {
     #[inline(always)]
     pub(super) fn recv_from(
         &self,
-        buffer: &mut [u8; 2048],
+        buffer: &mut [u8; READ_ROOM],
     ) -> (io::Result<(usize, SocketAddr)>, Called)
         ensures call { result.1.call ≡ calls.Read }
         ensures within { IfOk result.0 (λ r. r.0 ≤ 2048) }

@@ -4,6 +4,7 @@ use super::{MioSource, peer_at};
 use crate::devices::{Read, Sent, Source, Wire};
 use crate::scripts::ClockScript;
 use mio::net::UdpSocket;
+use srt_types::protocol_limits::READ_ROOM;
 use std::net::{Ipv4Addr, Net, SocketAddr, SocketAddrV4};
 use std::process::Abort;
 use std::test::Fail;
@@ -31,7 +32,7 @@ fn a_read_that_the_system_fails_is_not_an_empty_one(rt: HostRuntime) -> Result<(
         .shared
         .socket
         .connect(SocketAddr::V4(SocketAddrV4::new(loopback(), port)))?;
-    let mut buffer = [0u8; 2048];
+    let mut buffer = [0u8; READ_ROOM];
     assert_eq!(&rt; source.next(&mut buffer), Read::Empty);
     assert_eq!(&rt; source.failures(), 0);
     assert_eq!(&rt; wire.send(peer_at(loopback(), port), &[7]), Sent::Taken);

@@ -16,6 +16,7 @@ use crate::tuning::NAP_NS;
 use libc::types::timespec;
 use mio::Events;
 use os::errno;
+use srt_types::protocol_limits::READ_ROOM;
 use std::alloc::Global;
 use std::io::{self, ErrorKind};
 use std::net::{Net, SocketAddr};
@@ -199,7 +200,7 @@ impl SystemCalls {
     }
 
     /// Reads a datagram to the front of the buffer.
-    pub(super) fn receive(&mut self, socket: &Socket, buffer: &mut [u8; 2048]) -> Received
+    pub(super) fn receive(&mut self, socket: &Socket, buffer: &mut [u8; READ_ROOM]) -> Received
         ensures noted { notes_of self.new ≡ notes_of self.old ++ receive_note buffer.new result ∷ [] }
         ensures within { (n : ℕ) (from : TheAddress) → result ≡ TheReceived.Datagram n from → n ≤ 2048 }
     {
