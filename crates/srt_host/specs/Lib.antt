@@ -1,4 +1,7 @@
 pub mod Addresses
 pub mod Clock
+pub mod Held
 pub mod Hints
-pub mod inside
+pub mod Hosts
+pub mod Pages
+pub mod Times

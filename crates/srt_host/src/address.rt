@@ -1,8 +1,7 @@
 //! Socket addresses of the configuration.
 
 ghost use Rattle.std.specs.Prelude.{◌≡◌};
-ghost use Rattle.std.specs.Net.Socket.{socket_ip, socket_port, socket_flowinfo, socket_scope_id};
-ghost use Rattle.srt_host.specs.Addresses.{IsSocketIp, served_port};
+ghost use Rattle.srt_host.specs.Addresses.{IsAddressOf, served_port};
 
 use srt_config::BindAddress;
 use srt_types::is_mapped;
@@ -11,10 +10,7 @@ use std::net::{Ipv4Addr, Ipv6Addr, SocketAddr, SocketAddrV4, SocketAddrV6};
 /// Returns the socket address that a configuration names: of IPv4 if its 16 bytes are `::ffff:a.b.c.d`, else of IPv6,
 /// without a flow label or a zone. Every socket that the program binds has one of these.
 pub fn socket_address(address: BindAddress) -> SocketAddr
-    ensures ip { IsSocketIp address.ip (socket_ip result) }
-    ensures port { socket_port result ≡ address.port }
-    ensures label { socket_flowinfo result ≡ 0 }
-    ensures zone { socket_scope_id result ≡ 0 }
+    ensures { IsAddressOf address result }
 {
     let ip = address.ip;
     if is_mapped(&ip) {

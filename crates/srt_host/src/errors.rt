@@ -36,8 +36,13 @@ fn is_ready() -> bool {
 }
 
 impl<'a, R: Eprint> Errors<'a, R> {
+    ghost use Rattle.std.specs.Prelude.{◌≡◌, [], IfOk};
+    ghost use Rattle.srt_host.specs.Held.{waiting_in};
+
     /// Returns standard error of this host. Allocates room for text that waits; the only error is out of memory.
-    pub fn open(rt: &'a R, alloc: Global) -> Result<Errors<'a, R>, AllocError> {
+    pub fn open(rt: &'a R, alloc: Global) -> Result<Errors<'a, R>, AllocError>
+        ensures { IfOk result (λ errors. waiting_in errors ≡ []) }
+    {
         let held = HeldText::open(alloc)?;
         Ok(Errors { rt, held })
     }

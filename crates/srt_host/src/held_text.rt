@@ -23,7 +23,7 @@ pub(crate) struct HeldText {
 }
 
 impl HeldText {
-    ghost use Rattle.srt_host.specs.inside.Held.{held_in, kept_in};
+    ghost use Rattle.srt_host.specs.Held.{held_in, kept_in};
 
     /// Returns one in which nothing waits. Allocates its room; the only error is out of memory.
     pub fn open(alloc: Global) -> Result<HeldText, AllocError>

@@ -1,10 +1,13 @@
 //! The machine and the configuration's file, as a watcher uses them.
 
+ghost use Rattle.std.specs.Prelude.{◌≡◌, IfSome};
+ghost use Rattle.srt_procfs.specs.Drops.{AreDrops};
+
 use crate::clock::Since;
 use crate::times::time_now;
 use srt_config::BindAddress;
 use srt_offline::read_configuration;
-use srt_procfs::{kernel_drops, resident_memory, stop_requested};
+use srt_procfs::{KernelFiles, kernel_drops, resident_memory, stop_requested};
 use srt_watch::{ConfigFile, FileStamp, MAX_REASON, Machine};
 use std::fmt::InlineText;
 use std::fs::{Metadata, metadata};
@@ -28,14 +31,27 @@ pub struct Host<'a, R> {
 }
 
 impl<'a, R: Clock> Host<'a, R> {
+    ghost use Rattle.srt_host.specs.Clock.{start_of, last_of};
+    ghost use Rattle.srt_host.specs.Hosts.{bind_of, since_of};
+
     /// Returns the machine of a gateway that started at `start`, with its socket at this address.
-    pub fn new(rt: &'a R, start: Option<Instant>, bind: BindAddress) -> Host<'a, R> {
+    pub fn new(rt: &'a R, start: Option<Instant>, bind: BindAddress) -> Host<'a, R>
+        ensures start { (start_of (since_of result) ≡ start) × (last_of (since_of result) ≡ 0) }
+        ensures bind { bind_of result ≡ bind }
+    {
         Host {
             rt,
             since: Since::new(rt, start),
             bind,
         }
     }
+}
+
+/// How many datagrams the kernel dropped at the socket that is bound at this address.
+fn drops_at<F: KernelFiles + AllocGlobal>(files: &F, bind: BindAddress) -> Option<u64>
+    ensures { AreDrops F.reading F.was_refused F.was_full bind.ip bind.port result }
+{
+    kernel_drops(files, bind.ip, bind.port)
 }
 
 impl Machine for Host<'_, HostRuntime> {
@@ -64,7 +80,7 @@ impl Machine for Host<'_, HostRuntime> {
     }
 
     fn drops(&self) -> Option<u64> {
-        kernel_drops(self.rt, self.bind.ip, self.bind.port)
+        drops_at(self.rt, self.bind)
     }
 }
 
@@ -84,8 +100,12 @@ fn is_pipe_at(rt: &impl Files, path: &str) -> bool {
 }
 
 impl<'a, R: Files> HostFile<'a, R> {
+    ghost use Rattle.srt_host.specs.Hosts.{path_of};
+
     /// Returns the file at this path; `None` if it is a pipe or a device, which can't be followed.
-    pub fn at(rt: &'a R, path: &'a str) -> Option<HostFile<'a, R>> {
+    pub fn at(rt: &'a R, path: &'a str) -> Option<HostFile<'a, R>>
+        ensures { IfSome result (λ file. path_of file ≡ path.now) }
+    {
         if is_pipe_at(rt, path) {
             return None;
         }

@@ -8,7 +8,7 @@
 //! error, which waits for nobody; `StatusPage`, the page's sockets; `HostWatcher`, a watcher over all of these, and `WatcherFault`, why there is
 //! none.
 //!
-//! Calls: `open_watcher` for a run of a gateway; `try_page` binds the page's address once, and `bind_hint` says what may help if an
+//! Calls: `open_watcher` for a run of a gateway; `open_page` binds the page's address, and `bind_hint` says what may help if an
 //! address can't be bound; `time_now` returns the system's time, `socket_address` the socket address that a configuration names, and
 //! `served_at` the one that a socket got.
 //!
@@ -32,5 +32,5 @@ pub use errors::Errors;
 pub use hints::bind_hint;
 pub use host::{Host, HostFile};
 pub use status_page::StatusPage;
-pub use times::time_now;
-pub use watching::{HostWatcher, WatcherFault, open_watcher, try_page};
+pub use times::{HostClocks, time_now};
+pub use watching::{HostWatcher, WatcherFault, open_page, open_watcher};

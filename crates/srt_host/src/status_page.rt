@@ -1,7 +1,13 @@
 //! The sockets of the status page. Requests are parsed, and responses made, by `srt_status`.
 
+ghost use Rattle.std.specs.Prelude.{◌≡◌, ◌∷◌, IfOk, OnOk};
+ghost use Rattle.std.specs.declared.net.socket_addr.SocketAddr.{SocketAddr as TheAddress};
+ghost use Rattle.srt_host.specs.Addresses.{IsAddressOf};
+ghost use Rattle.srt_host.specs.Pages.{listen_note};
+
 use crate::address::socket_address;
 use srt_config::BindAddress;
+use srt_procfs::Journal;
 use srt_status::{
     Connection, EventRing, GatewayStatus, OVERVIEW, RouteStatus, request_in, respond,
 };
@@ -9,7 +15,7 @@ use srt_types::product_limits::MAX_CONNECTIONS;
 use srt_watch::StatusServer;
 use std::alloc::{AllocError, Global};
 use std::io::{self, ErrorKind, Read, Write};
-use std::net::{TcpListener, TcpStream};
+use std::net::{SocketAddr, TcpListener, TcpStream};
 
 /// The most connections that are accepted in one call.
 const MAX_ACCEPTS: u32 = 64;
@@ -98,32 +104,69 @@ pub struct StatusPage {
     alloc: Global,
     listener: Option<TcpListener>,
     clients: Vec<Client>,
+    // for contracts alone
+    journal: Journal,
 }
 
-/// Returns a non-blocking listener at an address.
-fn listen(machine: &HostRuntime, address: BindAddress) -> io::Result<TcpListener> {
-    let listener = TcpListener::bind(machine, socket_address(address))?;
+/// Notes that a socket was bound at this address.
+fn note_bound(journal: &mut Journal, address: SocketAddr)
+    ensures { journal.new.notes ≡ listen_note address ∷ journal.old.notes }
+{
+    match address {
+        SocketAddr::V4(it) => journal.note(&[u64::from(it.port())], &it.ip().octets(), &[]),
+        SocketAddr::V6(it) => journal.note(&[u64::from(it.port())], &it.ip().octets(), &[]),
+    }
+}
+
+/// Binds a listener at an address. Nothing else binds one.
+fn bind_listener(
+    journal: &mut Journal,
+    machine: &HostRuntime,
+    address: SocketAddr,
+) -> io::Result<TcpListener>
+    ensures { OnOk result (journal.new.notes ≡ listen_note address ∷ journal.old.notes) }
+{
+    let listener = TcpListener::bind(machine, address)?;
+    note_bound(journal, address);
+    Ok(listener)
+}
+
+/// Returns a non-blocking listener at an address of the configuration.
+fn listen(
+    journal: &mut Journal,
+    machine: &HostRuntime,
+    address: BindAddress,
+) -> io::Result<TcpListener>
+    ensures { OnOk result ((a : TheAddress) × IsAddressOf address a × (journal.new.notes ≡ listen_note a ∷ journal.old.notes)) }
+{
+    let listener = bind_listener(journal, machine, socket_address(address))?;
     listener.set_nonblocking(true)?;
     Ok(listener)
 }
 
 impl StatusPage {
+    ghost use Rattle.srt_host.specs.Pages.{IsPageAt};
+
     /// Binds the page's address, if there is one. Allocates room for 16 connections; a response is allocated when it is
     /// made, and freed once it was sent. An error is that of the socket; refused memory is one of kind `OutOfMemory`.
     pub fn bind(
         machine: &HostRuntime,
         alloc: Global,
         address: Option<BindAddress>,
-    ) -> io::Result<StatusPage> {
+    ) -> io::Result<StatusPage>
+        ensures { IfOk result (λ page. IsPageAt address page) }
+    {
         let clients = Vec::with_capacity(alloc, MAX_CONNECTIONS)?;
+        let mut journal = Journal::new();
         let listener = match address {
-            Some(address) => Some(listen(machine, address)?),
+            Some(address) => Some(listen(&mut journal, machine, address)?),
             None => None,
         };
         Ok(StatusPage {
             alloc,
             listener,
             clients,
+            journal,
         })
     }
 

@@ -1,6 +1,9 @@
 //! The watcher of a gateway that runs on this machine.
 
-ghost use Rattle.std.specs.Prelude.{◌≡◌};
+ghost use Rattle.std.specs.Prelude.{◌≡◌, false, codes, IfOk};
+ghost use Rattle.srt_procfs.specs.Readings.{IsTold};
+ghost use Rattle.srt_procfs.specs.Signals.{blocks_signals};
+ghost use Rattle.srt_host.specs.Pages.{IsPageAt};
 
 use crate::address::{served_at, socket_address};
 use crate::errors::Errors;
@@ -10,7 +13,7 @@ use crate::status_page::StatusPage;
 use srt_command_line::{Manner, VERSION};
 use srt_config::{BindAddress, Config};
 use srt_explain::Explained;
-use srt_procfs::signals_are_blocked;
+use srt_procfs::{KernelFiles, signals_are_blocked};
 use srt_watch::{LogForm, Outlets, Start, Watcher};
 use std::io::ErrorKind;
 use std::net::SocketAddr;
@@ -36,7 +39,9 @@ pub enum WatcherFault {
 }
 
 /// Binds the address of the status page, if the configuration has one. Prints on standard error why it can't be bound.
-fn open_page(machine: &HostRuntime, config: &Config) -> Result<StatusPage, WatcherFault> {
+pub fn open_page(machine: &HostRuntime, config: &Config) -> Result<StatusPage, WatcherFault>
+    ensures { IfOk result (λ page. IsPageAt config.now.status page) }
+{
     match StatusPage::bind(machine, machine.alloc(), config.status) {
         Ok(page) => Ok(page),
         Err(error) if error.kind() == ErrorKind::OutOfMemory => Err(WatcherFault::OutOfMemory),
@@ -51,14 +56,6 @@ fn open_page(machine: &HostRuntime, config: &Config) -> Result<StatusPage, Watch
     }
 }
 
-/// Binds the address of the status page once, if the configuration has one. Prints on standard error why it can't be bound.
-pub fn try_page(machine: &HostRuntime, config: &Config) -> Result<(), WatcherFault> {
-    match open_page(machine, config) {
-        Ok(_) => Ok(()),
-        Err(fault) => Err(fault),
-    }
-}
-
 /// Returns the form of the log.
 fn form_of(manner: Manner) -> LogForm
     ensures { (result.is_timed ≡ manner.is_timed) × (result.is_json ≡ manner.is_json) }
@@ -70,7 +67,17 @@ fn form_of(manner: Manner) -> LogForm
 }
 
 /// Returns the facts that the log and the page show of a run's beginning.
-fn beginning(machine: &HostRuntime, served: BindAddress, workers: u32, manner: Manner) -> Start {
+fn beginning<F: KernelFiles>(
+    machine: &F,
+    served: BindAddress,
+    workers: u32,
+    manner: Manner,
+) -> Start
+    ensures address { (result.ip ≡ served.ip) × (result.port ≡ served.port) }
+    ensures manner { (result.workers ≡ workers) × (result.lasts ≡ manner.lasts) }
+    ensures signals { IsTold F.reading F.was_refused (codes "/proc/self/status") 16_384
+        (result.is_blocked ≡ false) (λ text. result.is_blocked ≡ blocks_signals text) }
+{
     let ip = served.ip;
     Start {
         ip,

@@ -1,7 +1,8 @@
 //! Datagrams that the kernel dropped because a socket's buffer was full.
 
 ghost use Rattle.std.specs.Prelude.{◌≡◌, ◌%◌, ◌++◌};
-ghost use Rattle.srt_procfs.specs.Drops.{hex_digit, word_text, word_from, port_text, ipv4_local, ipv6_local, is_at, drops_of, first_drops, drops_in, table_of, AreDrops};
+ghost use Rattle.srt_procfs.specs.Drops.{hex_digit, word_text, word_from, port_text, ipv4_local, ipv6_local};
+ghost use Rattle.srt_procfs.specs.Drops.{is_at, drops_of, first_drops, drops_in, table_of, AreDrops};
 ghost use Rattle.srt_procfs.specs.Parts.{parts_of};
 
 use crate::files::KernelFiles;

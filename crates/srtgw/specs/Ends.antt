@@ -1,5 +1,5 @@
 -- How a run ends.
-use Rattle.std.specs.Prelude.{Bool, true, Result, Ok, Err}
+use Rattle.std.specs.Prelude.{◌≡◌, Bool, true, Result, Ok, Err}
 use Rattle.srt_offline.specs.declared.faults.OfflineFault.{OfflineFault}
 use Rattle.srt_offline.specs.declared.faults.OfflineFault.TheVariants.{Memory}
 use Rattle.srt_offline.specs.Ends.{is_printed as is_offline_printed}
@@ -29,3 +29,15 @@ offline_end (Err fault) = Err (Offline fault)
 abbrev pub first_end : Result (Unit {0}) Fault → Result (Unit {0}) Fault → Result (Unit {0}) Fault
 first_end (Ok done) second = second
 first_end (Err fault) second = Err fault
+
+-- a fault of the routes' threads or their memory, and no other
+abbrev pub IsOfRouting : Fault → Type 0
+IsOfRouting (Offline fault) = ⊥
+IsOfRouting (Bind fault) = ⊥
+IsOfRouting (Run fault) = Unit {0}
+
+-- a fault of the socket, of memory or of the routes: none of a file, and none of the output
+abbrev pub IsOfServing : Fault → Type 0
+IsOfServing (Offline fault) = fault ≡ Memory
+IsOfServing (Bind fault) = Unit {0}
+IsOfServing (Run fault) = Unit {0}

@@ -1,1 +1,3 @@
+pub mod Bindings
+pub mod Clocks
 pub mod Ends

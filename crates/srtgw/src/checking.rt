@@ -3,10 +3,10 @@
 ghost use Rattle.std.specs.Prelude.{◌≡◌};
 ghost use Rattle.srtgw.specs.Ends.{first_end, offline_end};
 
+use crate::binding::bind_explained;
 use crate::faults::Fault;
-use crate::running::bind_explained;
 use srt_config::Config;
-use srt_host::try_page;
+use srt_host::{HostClocks, open_page};
 use srt_offline::{OfflineFault, checked_at, print_routes};
 use std::net::Net;
 use std::rt::{Clock, Files};
@@ -24,7 +24,7 @@ fn first_end(first: Result<(), Fault>, second: Result<(), Fault>) -> Result<(), 
 /// Binds the UDP socket of a configuration once, as `run` does. Standard error gets why it can't be bound.
 fn try_socket<R>(rt: &R, config: &Config) -> Result<(), Fault>
 where
-    R: Eprint + AllocGlobal + Net + Clock,
+    R: Eprint + AllocGlobal + Net + Clock + HostClocks,
 {
     match bind_explained(rt, config) {
         Ok(_) => Ok(()),
@@ -35,11 +35,11 @@ where
 /// Binds both addresses of a configuration, one after the other. Standard error gets why one can't be bound, also if none can.
 fn try_addresses<R>(rt: &R, machine: &HostRuntime, config: &Config) -> Result<(), Fault>
 where
-    R: Eprint + AllocGlobal + Net + Clock,
+    R: Eprint + AllocGlobal + Net + Clock + HostClocks,
 {
     let socket = try_socket(rt, config);
-    let page = match try_page(machine, config) {
-        Ok(()) => Ok(()),
+    let page = match open_page(machine, config) {
+        Ok(_) => Ok(()),
         Err(fault) => Err(Fault::of_watcher(fault)),
     };
     first_end(socket, page)
@@ -64,7 +64,7 @@ pub fn check_addresses<R>(
     explains: bool,
 ) -> Result<(), Fault>
 where
-    R: Print + Eprint + Files + AllocGlobal + Net + Clock,
+    R: Print + Eprint + Files + AllocGlobal + Net + Clock + HostClocks,
 {
     let config = match checked_at(rt, path, explains) {
         Ok(config) => config,

@@ -1,5 +1,9 @@
 //! The clock of the routes, as the poller and the ticking thread ask it.
 
+ghost use Rattle.std.specs.Prelude.{◌≡◌, ◌<◌, ◌^◌};
+ghost use Rattle.srt_host.specs.Clock.{start_of, last_of, IsRead};
+ghost use Rattle.srtgw.specs.Clocks.{polled_by, ticked_by};
+
 use srt_host::Since;
 use srt_serve::Ticker;
 use srt_wakeups::pacing::TICK_MS;
@@ -14,7 +18,9 @@ pub struct ClockPoller<'a, R> {
 
 impl<'a, R: Clock> ClockPoller<'a, R> {
     /// A clock whose moment 0 was this one.
-    pub fn new(rt: &'a R, start: Option<Instant>) -> ClockPoller<'a, R> {
+    pub fn new(rt: &'a R, start: Option<Instant>) -> ClockPoller<'a, R>
+        ensures { (start_of (polled_by result) ≡ start) × (last_of (polled_by result) ≡ 0) }
+    {
         ClockPoller {
             since: Since::new(rt, start),
         }
@@ -22,12 +28,14 @@ impl<'a, R: Clock> ClockPoller<'a, R> {
 }
 
 impl<R: Clock> srt_poller::Clock for ClockPoller<'_, R> {
+    ghost returned = { λ old new moment. IsRead old.since new.since moment };
+
     fn next(&mut self) -> u64 {
         self.since.moment()
     }
 }
 
-/// The same clock, but each call sleeps 10 ms first. The contracts don't state which moments it gives.
+/// The same clock, but each call sleeps 10 ms first.
 #[derive(Drop)]
 pub struct ClockTicker<'a, R> {
     rt: &'a R,
@@ -36,11 +44,22 @@ pub struct ClockTicker<'a, R> {
 
 impl<'a, R: Clock> ClockTicker<'a, R> {
     /// A clock whose moment 0 was this one.
-    pub fn new(rt: &'a R, start: Option<Instant>) -> ClockTicker<'a, R> {
+    pub fn new(rt: &'a R, start: Option<Instant>) -> ClockTicker<'a, R>
+        ensures { (start_of (ticked_by result) ≡ start) × (last_of (ticked_by result) ≡ 0) }
+    {
         ClockTicker {
             rt,
             since: Since::new(rt, start),
         }
+    }
+
+    // The time after 10 ms.
+    fn next_tick(&mut self) -> u64
+        ensures bound { result < 2 ^ 62 }
+        ensures read { IsRead (ticked_by self.old) (ticked_by self.new) result }
+    {
+        thread::sleep(self.rt, Duration::from_millis(TICK_MS));
+        self.since.moment()
     }
 }
 
@@ -50,7 +69,6 @@ impl<R: Clock> Ticker for ClockTicker<'_, R> {
     ghost gave = { λ s. None };
 
     fn next(&mut self) -> u64 {
-        thread::sleep(self.rt, Duration::from_millis(TICK_MS));
-        self.since.moment()
+        self.next_tick()
     }
 }

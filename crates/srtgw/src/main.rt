@@ -7,7 +7,7 @@
 //! Types: `Fault` (`faults.rt`), why a run ended early. What the command line asks for is `srt_command_line`'s `Task`.
 //!
 //! Calls: `main` takes the words, and `run` does their task: `check`, `replay` and `explain` are `srt_offline`'s,
-//! but `check --addresses` (`checking.rt`), which binds sockets; `serve` (`serving.rt`) binds the UDP socket and runs threads
+//! but `check --addresses` (`checking.rt`), which binds sockets; `serve` (`serving.rt`) runs threads at the UDP socket (`binding.rt`)
 //! until the rounds are over, `run` (`running.rt`) until it is told to stop, with a watcher over `srt_host`. `clocks.rt` has the
 //! routes' clock. `srtgw_offline` is the same program without sockets. docs/OPERATING.md has the commands, docs/PROTOCOL.md each
 //! line of output and each status.
@@ -17,6 +17,7 @@ ghost use Rattle.std.specs.Prelude.{◌≡◌};
 ghost use Rattle.std.specs.Process.{exit_status};
 ghost use Rattle.srt_offline.specs.Ends.{status_after};
 
+mod binding;
 mod checking;
 mod clocks;
 mod faults;
@@ -31,6 +32,7 @@ use running::run_gateway;
 use serving::{print_report, serve};
 use srt_command_line::{CommandLine, Manner, Task, WordsFault, read_words, words_given};
 use srt_config::Config;
+use srt_host::HostClocks;
 use srt_offline::{OfflineFault, check_file, config_at, explain_file, explained_at, replay_file};
 use std::net::Net;
 use std::process::ExitCode;
@@ -41,7 +43,7 @@ use std::thread::Threads;
 /// `srtgw run CONFIG`: serves callers until the gateway is told to stop, with a log on standard error.
 fn run_file<R>(rt: &R, machine: &HostRuntime, path: &str, manner: Manner) -> Result<(), Fault>
 where
-    R: Print + Eprint + Files + AllocGlobal + Net + Clock + Threads + Wait + Sync,
+    R: Print + Eprint + Files + AllocGlobal + Net + Clock + HostClocks + Threads + Wait + Sync,
 {
     match explained_at(rt, path) {
         Ok(explained) => run_gateway(rt, machine, path, &explained, manner),
@@ -52,7 +54,7 @@ where
 /// Serves the routes of a configuration for this number of rounds, and prints the report.
 fn serve_config<R>(rt: &R, config: &Config, rounds: u32) -> Result<(), Fault>
 where
-    R: Print + AllocGlobal + Net + Clock + Threads + Wait + Sync,
+    R: Print + AllocGlobal + Net + Clock + HostClocks + Threads + Wait + Sync,
 {
     let report = serve(rt, config, rounds)?;
     match print_report(rt, &report) {
@@ -64,7 +66,7 @@ where
 /// `srtgw serve CONFIG --rounds N`: serves callers for N rounds, and then prints the report.
 fn serve_file<R>(rt: &R, config: &str, rounds: u32) -> Result<(), Fault>
 where
-    R: Print + Files + AllocGlobal + Net + Clock + Threads + Wait + Sync,
+    R: Print + Files + AllocGlobal + Net + Clock + HostClocks + Threads + Wait + Sync,
 {
     match config_at(rt, config) {
         Ok(config) => serve_config(rt, &config, rounds),
@@ -81,7 +83,7 @@ fn check<R>(
     tries_addresses: bool,
 ) -> Result<(), Fault>
 where
-    R: Print + Eprint + Files + AllocGlobal + Net + Clock,
+    R: Print + Eprint + Files + AllocGlobal + Net + Clock + HostClocks,
 {
     if tries_addresses {
         return check_addresses(rt, machine, path, explains);
@@ -92,7 +94,7 @@ where
 /// Does a task.
 fn run<R>(rt: &R, machine: &HostRuntime, task: Task<'_>) -> Result<(), Fault>
 where
-    R: Print + Eprint + Files + AllocGlobal + Net + Clock + Threads + Wait + Sync,
+    R: Print + Eprint + Files + AllocGlobal + Net + Clock + HostClocks + Threads + Wait + Sync,
 {
     match task {
         Task::Check {
@@ -125,7 +127,7 @@ fn status_of(rt: &impl Print, ended: Result<(), Fault>) -> ExitCode
 /// Does the task of these words. A text for whoever called is printed, and its status returned.
 fn obey<R>(rt: &R, machine: &HostRuntime, words: &[String]) -> Result<ExitCode, WordsFault>
 where
-    R: Print + Eprint + Files + AllocGlobal + Net + Clock + Threads + Wait + Sync,
+    R: Print + Eprint + Files + AllocGlobal + Net + Clock + HostClocks + Threads + Wait + Sync,
 {
     match read_words(rt, words)? {
         CommandLine::Task(task) => Ok(status_of(rt, run(rt, machine, task))),
@@ -136,7 +138,17 @@ where
 /// Does the task of the command line. Words that aren't UTF-8 give status 2, as a wrong command line does.
 fn obey_words<R>(rt: &R, machine: &HostRuntime) -> Result<ExitCode, WordsFault>
 where
-    R: Env + Print + Eprint + Files + AllocGlobal + Net + Clock + Threads + Wait + Sync,
+    R: Env
+        + Print
+        + Eprint
+        + Files
+        + AllocGlobal
+        + Net
+        + Clock
+        + HostClocks
+        + Threads
+        + Wait
+        + Sync,
 {
     match words_given(rt)? {
         Some(words) => obey(rt, machine, words.as_slice()),

@@ -1,70 +1,32 @@
 //! `srtgw run`: the gateway at a UDP socket, until it is told to stop.
 
-ghost use Rattle.std.specs.Prelude.{◌≤◌};
+ghost use Rattle.std.specs.Prelude.{◌≡◌, ◌≤◌, ◌^◌};
 ghost use Rattle.std.specs.Vec.{vec_len};
+ghost use Rattle.srt_host.specs.Clock.{start_of};
+ghost use Rattle.srtgw.specs.Bindings.{IsAtBind, IsOfRun};
+ghost use Rattle.srtgw.specs.Clocks.{ticked_by};
 
-use crate::clocks::{ClockPoller, ClockTicker};
+use crate::binding::{Bound, bind_explained};
+use crate::clocks::ClockTicker;
 use crate::faults::Fault;
-use crate::serving::{bind, gates, print_report};
+use crate::serving::{gates, print_report};
 use srt_command_line::Manner;
 use srt_config::Config;
+use srt_cookie::Secret;
 use srt_explain::Explained;
-use srt_host::{HostWatcher, bind_hint, open_watcher, socket_address, time_now};
+use srt_host::{HostClocks, HostWatcher, open_watcher, time_now};
 use srt_mailbox::Account;
 use srt_offline::OfflineFault;
-use srt_poller::{BindFault, MioSource, MioWire, Report, Ungated};
+use srt_poller::{Report, Ungated};
 use srt_serve::{Crew, Gates, RunFault, RunPlan, Watched, run_until};
 use std::io;
 use std::net::Net;
 use std::rt::{Clock, Files};
 use std::sync::Wait;
 use std::thread::Threads;
-use std::time::Instant;
 
 /// The most rounds of `run`: at one a microsecond they last nine years.
 const MAX_RUN_ROUNDS: u64 = 1 << 48;
-
-/// The gateway's UDP socket: what arrives at it, what is sent from it, and the moment 0 of both. Without a clock there is
-/// no such moment.
-#[derive(Drop)]
-pub struct Bound<'a, R: Clock> {
-    source: MioSource<ClockPoller<'a, R>>,
-    wire: MioWire,
-    start: Option<Instant>,
-}
-
-/// Says on standard error why no socket was bound.
-fn explain_bind(rt: &impl Eprint, config: &Config, fault: BindFault) {
-    let address = socket_address(config.bind);
-    let _ = match fault {
-        BindFault::Socket(Some(number)) => {
-            let why = io::Error::from_raw_os_error(number);
-            let hint = bind_hint(why.kind(), config.bind.port);
-            eprintln!(rt; "srtgw: {address}: {why}{hint}")
-        }
-        BindFault::Socket(None) => eprintln!(rt; "srtgw: {address}: the socket can't be used"),
-        BindFault::OutOfMemory => eprintln!(rt; "srtgw: {address}: out of memory"),
-    };
-}
-
-/// Binds the UDP socket of a configuration. Standard error gets why there is none.
-pub fn bind_explained<'a, R>(rt: &'a R, config: &Config) -> Result<Bound<'a, R>, Fault>
-where
-    R: Eprint + AllocGlobal + Net + Clock,
-{
-    let start = Instant::now(rt).ok();
-    match bind(rt, config, start) {
-        Ok((source, wire)) => Ok(Bound {
-            source,
-            wire,
-            start,
-        }),
-        Err(fault) => {
-            explain_bind(rt, config, fault);
-            Err(Fault::Bind(fault))
-        }
-    }
-}
 
 /// Says on standard error why the routes weren't served.
 fn explain_run(rt: &impl Eprint, path: &str, fault: RunFault) {
@@ -126,6 +88,54 @@ fn tell_end(
     }
 }
 
+/// Returns the plan of a run of a configuration, with this secret.
+fn plan_of<'a>(config: &'a Config, secret: &'a Secret) -> RunPlan<'a>
+    ensures secret { result.secret.now ≡ secret.now }
+    ensures routes { (result.entries.now ≡ config.now.entries.items) × (result.schedules.now ≡ config.now.schedules.items) }
+    ensures rounds { result.rounds ≡ 2 ^ 48 }
+{
+    RunPlan {
+        secret,
+        entries: config.entries.as_slice(),
+        schedules: config.schedules.as_slice(),
+        rounds: MAX_RUN_ROUNDS,
+    }
+}
+
+/// Runs this plan at this socket. It is the one call of a run.
+fn run_planned<'a, 'b, R>(
+    rt: &R,
+    config: &Config,
+    plan: RunPlan<'_>,
+    bound: &mut Bound<'_, R>,
+    crew: Crew<ClockTicker<'a, R>, Ungated, HostWatcher<'b>>,
+) -> Result<Watched<ClockTicker<'a, R>, HostWatcher<'b>>, RunFault>
+where
+    R: AllocGlobal + Clock + HostClocks + Threads + Wait + Sync,
+    requires secret { IsOfRun R.was_time config.now.secret plan.secret.now }
+    requires routes { (plan.entries.now ≡ config.now.entries.items) × (plan.schedules.now ≡ config.now.schedules.items) }
+    requires rounds { plan.rounds ≡ 2 ^ 48 }
+    requires at { IsAtBind config.now.bind bound.old.source bound.old.wire }
+    requires start { R.was_instant bound.old.start × (start_of (ticked_by crew.ticker) ≡ bound.old.start) }
+    requires workers { (1 ≤ vec_len crew.gates.workers) × (vec_len crew.gates.workers ≤ 16) }
+{
+    run_until(
+        rt,
+        rt.alloc(),
+        plan,
+        &mut bound.source,
+        &mut bound.wire,
+        crew,
+    )
+}
+
+/// Returns the secret of a run that starts now.
+fn secret_now<R: HostClocks>(rt: &R, config: &Config) -> Secret
+    ensures { IsOfRun R.was_time config.now.secret result }
+{
+    config.secret.of_run(time_now(rt))
+}
+
 /// Runs the gateway at this socket with this watcher, and tells how it ended.
 fn run_watched<R>(
     rt: &R,
@@ -136,29 +146,18 @@ fn run_watched<R>(
     watcher: HostWatcher<'_>,
 ) -> Result<(), Fault>
 where
-    R: Print + Eprint + Files + AllocGlobal + Net + Clock + Threads + Wait + Sync,
-    requires { (1 ≤ vec_len gates.workers) × (vec_len gates.workers ≤ 16) }
+    R: Print + Eprint + Files + AllocGlobal + Net + Clock + HostClocks + Threads + Wait + Sync,
+    requires at { IsAtBind config.now.bind bound.old.source bound.old.wire }
+    requires start { R.was_instant bound.old.start }
+    requires workers { (1 ≤ vec_len gates.workers) × (vec_len gates.workers ≤ 16) }
 {
-    let secret = config.secret.of_run(time_now(rt));
-    let plan = RunPlan {
-        secret: &secret,
-        entries: config.entries.as_slice(),
-        schedules: config.schedules.as_slice(),
-        rounds: MAX_RUN_ROUNDS,
-    };
+    let secret = secret_now(rt, config);
     let crew = Crew {
         ticker: ClockTicker::new(rt, bound.start),
         gates,
         watch: watcher,
     };
-    match run_until(
-        rt,
-        rt.alloc(),
-        plan,
-        &mut bound.source,
-        &mut bound.wire,
-        crew,
-    ) {
+    match run_planned(rt, config, plan_of(config, &secret), bound, crew) {
         Ok(watched) => {
             let Watched {
                 report,
@@ -187,7 +186,7 @@ pub fn run_gateway<R>(
     manner: Manner,
 ) -> Result<(), Fault>
 where
-    R: Print + Eprint + Files + AllocGlobal + Net + Clock + Threads + Wait + Sync,
+    R: Print + Eprint + Files + AllocGlobal + Net + Clock + HostClocks + Threads + Wait + Sync,
 {
     let config = &explained.config;
     let mut bound = bind_explained(rt, config)?;

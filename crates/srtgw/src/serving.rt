@@ -1,31 +1,26 @@
 //! `srtgw serve`: the gateway at a UDP socket, for a number of rounds.
 
-ghost use Rattle.std.specs.Prelude.{◌≡◌, IfOk};
+ghost use Rattle.std.specs.Prelude.{◌≡◌, ◌≤◌, IfOk, IfErr};
 ghost use Rattle.std.specs.Vec.{vec_len};
+ghost use Rattle.srt_offline.specs.declared.faults.OfflineFault.TheVariants.{Memory};
+ghost use Rattle.srtgw.specs.declared.faults.Fault.TheVariants.{Offline};
+ghost use Rattle.srtgw.specs.Bindings.{IsAtBind};
+ghost use Rattle.srtgw.specs.Ends.{IsOfRouting, IsOfServing};
 
-use crate::clocks::{ClockPoller, ClockTicker};
+use crate::binding::{Bound, bind};
+use crate::clocks::ClockTicker;
 use crate::faults::Fault;
 use srt_config::Config;
-use srt_host::socket_address;
+use srt_host::HostClocks;
 use srt_offline::OfflineFault;
-use srt_poller::{BindFault, MioSource, MioWire, Report, Ungated};
+use srt_poller::{Report, Ungated};
 use srt_serve::{Gates, run};
 use std::alloc::{AllocError, Global};
 use std::io;
 use std::net::Net;
 use std::sync::Wait;
 use std::thread::Threads;
-use std::time::{Clock, Instant};
-
-/// Binds the UDP socket of a configuration. `start` is the moment 0 of its datagrams.
-pub fn bind<'a, R: AllocGlobal + Net + Clock>(
-    rt: &'a R,
-    config: &Config,
-    start: Option<Instant>,
-) -> Result<(MioSource<ClockPoller<'a, R>>, MioWire), BindFault> {
-    let address = socket_address(config.bind);
-    MioSource::bind(rt, rt.alloc(), address, ClockPoller::new(rt, start))
-}
+use std::time::Clock;
 
 /// A gate for each worker, which lets every turn pass.
 fn workers(alloc: Global, count: u32) -> Result<Vec<Ungated>, AllocError>
@@ -36,7 +31,8 @@ fn workers(alloc: Global, count: u32) -> Result<Vec<Ungated>, AllocError>
 
 /// A gate for the polling thread and one for each worker, which let every turn pass.
 pub fn gates(alloc: Global, count: u32) -> Result<Gates<Ungated>, Fault>
-    ensures { IfOk result (λ gates. vec_len gates.workers ≡ count) }
+    ensures count { IfOk result (λ gates. vec_len gates.workers ≡ count) }
+    ensures memory { IfErr result (λ fault. fault ≡ Offline Memory) }
 {
     match workers(alloc, count) {
         Ok(workers) => Ok(Gates {
@@ -47,33 +43,53 @@ pub fn gates(alloc: Global, count: u32) -> Result<Gates<Ungated>, Fault>
     }
 }
 
-/// Serves the routes of a configuration for this number of rounds of the poller, and returns its report. Routes open
-/// and close in the rounds of their schedules. Binds the UDP socket; starts a ticking thread and `workers` worker
-/// threads; the calling thread polls the socket. Errors: `Bind`, that of memory and `Run`, before anything was read; but
-/// `RunFault::Busy` comes at the end. docs/OPERATING.md says how long a round is.
-pub fn serve<R: AllocGlobal + Net + Clock + Threads + Wait + Sync>(
+/// Serves the routes of a configuration at its socket for this number of rounds.
+fn serve_bound<R: AllocGlobal + Clock + HostClocks + Threads + Wait + Sync>(
     rt: &R,
     config: &Config,
+    bound: &mut Bound<'_, R>,
+    gates: Gates<Ungated>,
     rounds: u32,
-) -> Result<Report, Fault> {
-    let start = Instant::now(rt).ok();
-    let (mut source, mut wire) = bind(rt, config, start).map_err(Fault::Bind)?;
-    let gates = gates(rt.alloc(), config.workers)?;
+) -> Result<Report, Fault>
+    requires at { IsAtBind config.now.bind bound.old.source bound.old.wire }
+    requires start { R.was_instant bound.old.start }
+    requires workers { (1 ≤ vec_len gates.workers) × (vec_len gates.workers ≤ 16) }
+    ensures { IfErr result IsOfRouting }
+{
     match run(
         rt,
         rt.alloc(),
         &config.secret,
         config.entries.as_slice(),
         config.schedules.as_slice(),
-        &mut source,
-        &mut wire,
-        ClockTicker::new(rt, start),
+        &mut bound.source,
+        &mut bound.wire,
+        ClockTicker::new(rt, bound.start),
         gates,
         rounds,
     ) {
         Ok(ran) => Ok(ran.report),
         Err(fault) => Err(Fault::Run(fault)),
     }
+}
+
+/// Serves the routes of a configuration for this number of rounds of the poller, and returns its report. Routes open
+/// and close in the rounds of their schedules. Binds the UDP socket; starts a ticking thread and `workers` worker
+/// threads; the calling thread polls the socket. Errors: `Bind`, that of memory and `Run`, before anything was read; but
+/// `RunFault::Busy` comes at the end. docs/OPERATING.md says how long a round is.
+pub fn serve<R: AllocGlobal + Net + Clock + HostClocks + Threads + Wait + Sync>(
+    rt: &R,
+    config: &Config,
+    rounds: u32,
+) -> Result<Report, Fault>
+    ensures { IfErr result IsOfServing }
+{
+    let mut bound = match bind(rt, config) {
+        Ok(bound) => bound,
+        Err(fault) => return Err(Fault::Bind(fault)),
+    };
+    let gates = gates(rt.alloc(), config.workers)?;
+    serve_bound(rt, config, &mut bound, gates, rounds)
 }
 
 /// Prints a report as one line on standard output: each count after its name. What was dropped is one count.

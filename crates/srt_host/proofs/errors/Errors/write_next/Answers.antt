@@ -1,5 +1,5 @@
 use Rattle.std.proofs.Common.{◌≤◌, length, sym, subst}
-use Rattle.srt_host.specs.inside.Held.{held_in}
+use Rattle.srt_host.specs.Held.{held_in}
 use Rattle.srt_host.proofs.HeldTexts.{few_taken}
 use Rattle.srt_host.proofs.errors.Errors.write_next.Goals as goal
 

@@ -1,0 +1,19 @@
+-- The machine and the configuration's file.
+use Rattle.std.specs.Prelude.{ℕ, List}
+use denote.Ref.{Bor}
+use Rattle.srt_config.specs.declared.config.address.BindAddress.{BindAddress}
+use Rattle.srt_host.specs.declared.clock.Since.{Since}
+use Rattle.srt_host.specs.declared.host.Host.{Host}
+use Rattle.srt_host.specs.declared.host.HostFile.{HostFile}
+
+-- at which address the gateway's socket is
+abbrev pub bind_of : {R : Type 0} → Host R → BindAddress
+bind_of host = host.bind
+
+-- the routes' clock
+abbrev pub since_of : {R : Type 0} → Host R → Since R
+since_of host = host.since
+
+-- the path of the file
+abbrev pub path_of : {R : Type 0} → HostFile R → List ℕ
+path_of file = file.path.now
