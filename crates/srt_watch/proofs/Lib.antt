@@ -2,6 +2,7 @@ pub mod Appended
 pub mod Asked
 pub mod BeginningRoutes
 pub mod ChangedRoutes
+pub mod ExpectedRoutes
 pub mod Floods
 pub mod GrownRoutes
 pub mod HeldChanges

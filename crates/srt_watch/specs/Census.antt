@@ -1,5 +1,5 @@
--- The refusals of a route and of the lobby, as the status page shows them.
-use Rattle.std.specs.Prelude.{ℕ, ◌+◌, ◌-◌, ◌^◌, ◌==◌, ◌&&◌, min, List, Option, None, Some, if◌then◌else◌}
+-- The status of a route, and the refusals of the lobby, as the status page shows them.
+use Rattle.std.specs.Prelude.{ℕ, ◌+◌, ◌-◌, ◌^◌, ◌==◌, ◌&&◌, min, Bool, List, Option, None, Some, option_map, if◌then◌else◌}
 use Rattle.srt_types.specs.declared.shared.Role.TheVariants.{Publish, Request}
 use Rattle.srt_types.specs.declared.shared.NotAdmitted.{NotAdmitted}
 use Rattle.srt_types.specs.declared.shared.NotAdmitted.TheVariants.{NoName, UnknownName, Address, Key}
@@ -13,6 +13,8 @@ use Rattle.srt_status.specs.declared.gateway.RefusalCounts.{RefusalCounts}
 use Rattle.srt_status.specs.declared.gateway.CauseCounts.{CauseCounts}
 use Rattle.srt_status.specs.declared.routes.LimitCounts.{LimitCounts}
 use Rattle.srt_status.specs.declared.routes.RouteStatus.{RouteStatus}
+use Rattle.srt_status.specs.declared.expectation.Expectation.{Expectation}
+use Rattle.srt_status.specs.Expectations.{is_on_air, looked, line_at}
 use Rattle.srt_status.specs.History.{noted, round_trip_in}
 
 -- the conclusions that a route refused, by their codes, and by the limits of the route
@@ -46,6 +48,26 @@ status_with moment route sessions totals status = record status {
   limits = Some (limits_of route);
   history = noted status.history moment totals.received.bytes totals.received.reported_lost (round_trip_in sessions);
 }
+
+-- an expectation after a look at its route at this time, when it has these open sessions; while the gateway stops, none is looked at
+abbrev pub looked_if : (stops : Bool) → List (Option SessionView) → (moment : ℕ) → Option Expectation → Option Expectation
+looked_if stops sessions moment before = if stops then before else option_map (λ e. looked e (is_on_air sessions) moment) before
+
+abbrev pub with_look : (stops : Bool) → List (Option SessionView) → (moment : ℕ) → RouteStatus → RouteStatus
+with_look stops sessions moment status = record status { expectation = looked_if stops sessions moment status.expectation }
+
+-- the minutes that a line at this look tells of, if there is to be one
+abbrev pub line_in : List (Option SessionView) → (moment : ℕ) → Option Expectation → Option ℕ
+line_in sessions moment None = None
+line_in sessions moment (Some e) = line_at e (is_on_air sessions) moment
+
+abbrev pub absence_at : (stops : Bool) → List (Option SessionView) → (moment : ℕ) → Option Expectation → Option ℕ
+absence_at stops sessions moment before = if stops then None else line_in sessions moment before
+
+-- of the status of a route, if it is there
+abbrev pub absence_of : (stops : Bool) → List (Option SessionView) → (moment : ℕ) → Option RouteStatus → Option ℕ
+absence_of stops sessions moment None = None
+absence_of stops sessions moment (Some status) = absence_at stops sessions moment status.expectation
 
 -- one more, or 2^64 - 1 if that is the count already
 abbrev pub one_more : ℕ → ℕ

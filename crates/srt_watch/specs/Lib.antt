@@ -22,6 +22,7 @@ pub mod Routes
 pub mod Holding
 pub mod Observing
 pub mod Placing
+pub mod Expecting
 pub mod Overview
 pub mod Pages
 pub mod RouteLines

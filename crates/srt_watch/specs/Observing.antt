@@ -8,7 +8,7 @@ use Rattle.srt_route.specs.Ledgers.{opened_in}
 use Rattle.srt_log.specs.declared.snapshots.RouteSnapshot.{RouteSnapshot}
 use Rattle.srt_status.specs.declared.routes.LimitCounts.{LimitCounts}
 use Rattle.srt_status.specs.declared.routes.RouteStatus.{RouteStatus}
-use Rattle.srt_watch.specs.Census.{limits_of, status_with, grown_limits}
+use Rattle.srt_watch.specs.Census.{limits_of, status_with, grown_limits, with_look, absence_of}
 use Rattle.srt_watch.specs.Log.{most}
 use Rattle.srt_watch.specs.Routes.{place_of, route_at}
 use Rattle.srt_watch.specs.Showing.{AreShown, AreSlots, AreTotals}
@@ -52,8 +52,8 @@ grown_of route None = None
 grown_of route (Some status) = grown_limits (unwrap_or status.limits no_limits) (Some (limits_of route))
 
 -- the snapshots before and now, if there is a route
-abbrev pub pair_of : Option WatchedRoute → RouteSnapshot → Option LimitCounts → Option SnapshotPair
-pair_of before snapshot grown = option_map (λ route. record { old = route.snapshot; new = snapshot; grown = grown }) before
+abbrev pub pair_of : Option WatchedRoute → RouteSnapshot → Option LimitCounts → (absent : Option ℕ) → Option SnapshotPair
+pair_of before snapshot grown absent = option_map (λ route. record { old = route.snapshot; new = snapshot; grown = grown; absent = absent }) before
 
 -- a snapshot of a route at this time, whose open sessions are these
 pub record IsSnapshot (route : Route) (sessions : List (Option SessionView)) (moment : ℕ) (stops : Bool) (snapshot : RouteSnapshot) : Type 0 where
@@ -62,7 +62,8 @@ pub record IsSnapshot (route : Route) (sessions : List (Option SessionView)) (mo
   pub slots_are : AreSlots 17 route sessions snapshot.slots
   pub opened_is : snapshot.opened ≡ opened_in route
 
--- A route was observed: of the route with this index the snapshot is another one, and the status, and nothing else has changed.
+-- A route was observed: of the route with this index the snapshot is another one, and the status, and nothing else has changed. The status is
+-- noted first; then it is looked whether the route is on air, if that is expected.
 pub record HasObserved (old new : WatchedRoutes) (index : ℕ) (route : Route) (moment : ℕ) (stops : Bool) (pair : Option SnapshotPair) : Type 0 where
   pub sessions : List (Option SessionView)
   pub totals : Totals
@@ -71,7 +72,10 @@ pub record HasObserved (old new : WatchedRoutes) (index : ℕ) (route : Route) (
   pub totals_are : AreTotals route totals
   pub snapshot_is : IsSnapshot route sessions moment stops snapshot
   pub routes_are : new.routes.items ≡ changed_if (with_snapshot snapshot) old.routes.items (place_of old.routes.items index)
-  pub shown_is : new.shown.items ≡ changed_if (status_with moment route sessions totals) old.shown.items (status_place old index)
+  pub noted : List RouteStatus
+  pub noted_is : noted ≡ changed_if (status_with moment route sessions totals) old.shown.items (status_place old index)
+  pub shown_is : new.shown.items ≡ changed_if (with_look stops sessions moment) noted (status_place old index)
   pub pair_is :
       pair
       ≡ pair_of (route_at old.routes.items (place_of old.routes.items index)) snapshot (grown_of route (status_at old.shown.items (status_place old index)))
+      (absence_of stops sessions moment (status_at noted (status_place old index)))

@@ -4,13 +4,13 @@ use Rattle.srt_status.specs.declared.gateway.ChangeCounts.{ChangeCounts}
 use Rattle.srt_supervision.specs.Changes.{with_asked}
 use Rattle.srt_supervision.specs.declared.changes.ChangeFault.{ChangeFault}
 use Rattle.srt_watch.specs.ChangeLines.{one_taken, one_refused, not_taken_said, counted_not_taken, no_room_said, rejected_said, taken_calls, few_calls}
+use Rattle.srt_watch.specs.Expecting.{IsExpecting}
 use Rattle.srt_watch.specs.Files.{FileState}
 use Rattle.srt_watch.specs.Following.{Record, IsTaken, IsFollowed, IsRefused, IsFoundConfig, IsFound, changes_no_route, opens_of, request_of}
 use Rattle.srt_watch.specs.Holding.{held_calls, waits_for, look_of}
 use Rattle.srt_watch.specs.Indexes.{numbers_of}
 use Rattle.srt_watch.specs.Log.{LogCall, Always, Logged}
 use Rattle.srt_watch.specs.Openings.{AreOpening}
-use Rattle.srt_watch.specs.Placing.{IsRouted}
 use Rattle.srt_watch.specs.Polls.{FoundFile, news_of, after_look, held, kept_after}
 use Rattle.srt_watch.specs.Requests.{config_of}
 use Rattle.srt_watch.specs.Routes.{used_of}
@@ -42,7 +42,9 @@ pub data IsAnnounced (before after : InForce) (wanted : Wanted) (asked_before as
     (written_before written_after : Option (List ℕ)) (p q : LogPace) (c d : ChangeCounts) : Type 0 where
   Unchanged : (first : ℕ) (opening : List OpeningRoute) → AreOpening (opens_of wanted) opening →
       changes_no_route wanted ≡ true → IsTaken before after wanted first →
-      asked_after ≡ asked_before → IsRouted old new wanted.changes.routes.items after.indexes.items opening → written_after ≡ written_before → q ≡ p → d ≡ c →
+      asked_after ≡ asked_before →
+      IsExpecting old new wanted.changes.routes.items after.indexes.items opening wanted.config.expected.items →
+      written_after ≡ written_before → q ≡ p → d ≡ c →
       IsAnnounced before after wanted asked_before asked_after when old new written_before written_after p q c d
   Rejected : (fault : ChangeFault) (opening : List OpeningRoute) → AreOpening (opens_of wanted) opening → after ≡ before →
       asked_after ≡ with_asked asked_before (request_of before wanted (Err fault)) → new ≡ old →
@@ -50,7 +52,7 @@ pub data IsAnnounced (before after : InForce) (wanted : Wanted) (asked_before as
       IsAnnounced before after wanted asked_before asked_after when old new written_before written_after p q c d
   Made : (first : ℕ) (opening : List OpeningRoute) → AreOpening (opens_of wanted) opening → IsTaken before after wanted first →
       asked_after ≡ with_asked asked_before (request_of before wanted (Ok first)) →
-      IsRouted old new wanted.changes.routes.items after.indexes.items opening →
+      IsExpecting old new wanted.changes.routes.items after.indexes.items opening wanted.config.expected.items →
       Logged written_before written_after p q (made_calls when before wanted first old new) → d ≡ one_taken c →
       IsAnnounced before after wanted asked_before asked_after when old new written_before written_after p q c d
 

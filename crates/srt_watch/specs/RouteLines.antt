@@ -3,9 +3,9 @@ use Rattle.std.specs.Prelude.{ℕ, zero, suc, List, [], ◌∷◌, Option, None,
 use denote.Ref.{Bor}
 use Rattle.srt_log.specs.Between.{event_at, events_between, events_to, listed}
 use Rattle.srt_log.specs.Changes.{change_at}
-use Rattle.srt_log.specs.declared.events.LogEvent.TheVariants.{Limited}
+use Rattle.srt_log.specs.declared.events.LogEvent.TheVariants.{Limited, Absent}
 use Rattle.srt_log.specs.declared.changes.Change.{Change}
-use Rattle.srt_log.specs.declared.line_limits.LineKind.TheVariants.{Refusal}
+use Rattle.srt_log.specs.declared.line_limits.LineKind.TheVariants.{Refusal, Session}
 use Rattle.srt_log.specs.declared.changes.Change.TheVariants.{TookOver}
 use Rattle.srt_log.specs.declared.snapshots.RouteSnapshot.{RouteSnapshot}
 use Rattle.srt_status.specs.declared.routes.LimitCounts.{LimitCounts}
@@ -27,6 +27,11 @@ change_calls when name pair = offered when (events_between name pair.old pair.ne
 abbrev pub limit_calls : When → (name : List ℕ) → Option LimitCounts → List LogCall
 limit_calls when name None = []
 limit_calls when name (Some n) = Offered when Refusal (said (Limited (lent name) n.sessions n.reserved n.sessions_per_address)) ∷ []
+
+-- for how many minutes the route with this name has had no encoder, if a line is to tell of it
+abbrev pub absence_calls : When → (name : List ℕ) → (minutes : Option ℕ) → List LogCall
+absence_calls when name None = []
+absence_calls when name (Some minutes) = Offered when Session (said (Absent (lent name) minutes)) ∷ []
 
 -- the take-overs in the first steps
 abbrev pub take_over_more : (count : ℕ) → Option Change → ℕ

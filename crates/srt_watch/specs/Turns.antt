@@ -13,7 +13,7 @@ use Rattle.srt_watch.specs.Log.{LogCall, Logged, IsTimeOf, Always, Missed, Polle
 use Rattle.srt_watch.specs.Losses.{loss_calls, after_losses, more_missed}
 use Rattle.srt_watch.specs.Machines.{MachineState}
 use Rattle.srt_watch.specs.Observing.{status_place, with_take_overs, changed_if, HasObserved}
-use Rattle.srt_watch.specs.RouteLines.{change_calls, limit_calls, take_overs_to}
+use Rattle.srt_watch.specs.RouteLines.{change_calls, limit_calls, absence_calls, take_overs_to}
 use Rattle.srt_watch.specs.Routes.{name_of}
 use Rattle.srt_watch.specs.Watching.{stop_calls}
 use Rattle.srt_watch.specs.declared.course.Course.{Course}
@@ -84,7 +84,7 @@ pub record HasEnded (says : Option MachineState) (stopping : Bool) (losses : Los
 
 -- the lines of two snapshots of a route
 abbrev pub pair_calls : When → Bor (List ℕ) → SnapshotPair → List LogCall
-pair_calls when name pair = change_calls when name pair ++ limit_calls when name.now pair.grown
+pair_calls when name pair = change_calls when name pair ++ limit_calls when name.now pair.grown ++ absence_calls when name.now pair.absent
 
 -- what was logged and counted of two snapshots of the route with this index, if there are two
 pub data HasTold (middle new : WatchedRoutes) (index : ℕ) (before after : Option (List ℕ)) (p q : LogPace) (when : When) : Option SnapshotPair → Type 0 where

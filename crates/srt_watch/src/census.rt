@@ -1,7 +1,7 @@
 //! The status of a route, and the counts of refusals.
 
 ghost use Rattle.std.specs.Prelude.{◌≡◌};
-ghost use Rattle.srt_watch.specs.Census.{refusals_of, limits_of, status_with, with_refusal, with_cause, grown_limits};
+ghost use Rattle.srt_watch.specs.Census.{refusals_of, limits_of, status_with, with_refusal, with_cause, grown_limits, with_look, absence_at};
 
 use srt_hs::RefusalCode;
 use srt_route::{RefusalCause, Route, SessionView, Totals};
@@ -54,6 +54,31 @@ pub(crate) fn note_route(
     status.limits = Some(limits_of(route));
     let round_trip = round_trip_in(sessions);
     status.history.note(moment, &totals.received, round_trip);
+}
+
+/// Looks whether a route with these open sessions is on air at this moment, in microseconds of the routes' clock, if it is expected to be. Returns
+/// the minutes that a line is to tell of, if one is due. `stops`: the gateway is about to end, so nothing is expected any more.
+pub(crate) fn look_at(
+    status: &mut RouteStatus,
+    sessions: &[Option<SessionView>; MAX_SESSIONS],
+    moment: u64,
+    stops: bool,
+) -> Option<u64>
+    ensures status { status.new ≡ with_look stops sessions.now moment status.old }
+    ensures line { result ≡ absence_at stops sessions.now moment status.old.expectation }
+{
+    if stops {
+        return None;
+    }
+    match status.expectation {
+        Some(before) => {
+            let mut expectation = before;
+            let line = expectation.look(sessions, moment);
+            status.expectation = Some(expectation);
+            line
+        }
+        None => None,
+    }
 }
 
 /// Counts a refusal by its code (draft-sharabayko-srt-01, section 4.3, table 7). A code that the gateway never sends isn't

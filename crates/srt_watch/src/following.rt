@@ -5,6 +5,7 @@ ghost use Rattle.srt_types.specs.Terms.{Terms, terms_of};
 ghost use Rattle.srt_supervision.specs.Answers.{Closes, Opens};
 ghost use Rattle.srt_watch.specs.Answers.{WasInForce, WasRead, IsToClose, IsToOpen};
 ghost use Rattle.srt_watch.specs.ChangeLines.{one_taken};
+ghost use Rattle.srt_watch.specs.Expecting.{IsExpecting};
 ghost use Rattle.srt_watch.specs.Holding.{waits_for, waiting, held_calls, IsHeldConfig, look_of};
 ghost use Rattle.srt_watch.specs.Indexes.{numbers_of};
 ghost use Rattle.srt_watch.specs.Log.{Logged};
@@ -13,7 +14,6 @@ ghost use Rattle.srt_watch.specs.Polls.{first_polling, after_look};
 ghost use Rattle.srt_watch.specs.Requests.{config_of, first_indexes};
 ghost use Rattle.srt_watch.specs.Following.{IsTaken, IsRequested, IsFollowed, closes_of, opens_of};
 ghost use Rattle.srt_watch.specs.Outcomes.{made_calls, IsAnnounced, file_with, HasFound, HasTold};
-ghost use Rattle.srt_watch.specs.Placing.{IsRouted};
 
 use crate::change_log::ChangeLog;
 use crate::config_file::ConfigFile;
@@ -152,7 +152,8 @@ impl<'a, F: ConfigFile + Drop> Following<'a, F> {
         ensures file { self.new.file ≡ self.old.file }
         ensures taken { IsTaken self.old.in_force self.new.in_force change.wanted first }
         ensures counts { log.new.counts ≡ one_taken log.old.counts }
-        ensures routes { IsRouted routes.old routes.new change.wanted.changes.routes.items self.new.in_force.indexes.items change.room.opening.items }
+        ensures routes { IsExpecting routes.old routes.new change.wanted.changes.routes.items self.new.in_force.indexes.items change.room.opening.items
+            change.wanted.config.expected.items }
         ensures logged { Logged (W.contents log.old.log.out) (W.contents log.new.log.out) log.old.log.pace log.new.log.pace
             (made_calls when self.old.in_force change.wanted first routes.old routes.new) }
     {

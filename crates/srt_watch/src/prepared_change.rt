@@ -2,13 +2,13 @@
 
 ghost use Rattle.std.specs.Prelude.{◌≡◌, ◌≤◌, ◌+◌, [], ◌∷◌, ◌++◌, IfOk, OnOk, length, map, slice_get, vec_len, vec_capacity};
 ghost use Rattle.srt_types.specs.Terms.{terms_of};
+ghost use Rattle.srt_watch.specs.Expecting.{IsExpecting};
 ghost use Rattle.srt_watch.specs.Following.{IsWanted};
 ghost use Rattle.srt_watch.specs.Indexes.{closing, indexes_from, numbers_of, changes_nothing};
 ghost use Rattle.srt_watch.specs.Requests.{opened_by, config_of};
 ghost use Rattle.srt_watch.specs.Openings.{opening_name, AreOpening};
 ghost use Rattle.srt_watch.specs.Preparing.{HasClosings, HasOpening, HasPrepared, IsPrepared};
 ghost use Rattle.srt_watch.specs.Outcomes.{SameRoutes};
-ghost use Rattle.srt_watch.specs.Placing.{IsRouted};
 
 use crate::in_force::{InForce, Wanted};
 use crate::indexes::{fill_indexes, index_at};
@@ -257,7 +257,8 @@ impl PreparedChange {
         }
     }
 
-    /// Puts the configuration in force. The routes that open have the indexes from `first` on. Doesn't allocate.
+    /// Puts the configuration in force, and expects the routes on air that it expects so. The routes that open have the indexes from
+    /// `first` on. Doesn't allocate.
     pub(crate) fn put_in_force(
         self,
         alloc: Global,
@@ -268,7 +269,8 @@ impl PreparedChange {
         requires { vec_len routes.old.routes + length self.room.opening.items ≤ vec_capacity routes.old.routes }
         ensures config { config_of in_force.new ≡ self.wanted.config }
         ensures indexes { in_force.new.indexes.items ≡ indexes_from in_force.old.indexes.items first self.wanted.changes.routes.items }
-        ensures routes { IsRouted routes.old routes.new self.wanted.changes.routes.items in_force.new.indexes.items self.room.opening.items }
+        ensures routes { IsExpecting routes.old routes.new self.wanted.changes.routes.items in_force.new.indexes.items self.room.opening.items
+            self.wanted.config.expected.items }
     {
         let PreparedChange {
             numbers: _,
@@ -284,6 +286,7 @@ impl PreparedChange {
         let changes = changes.routes.as_slice();
         let indexes = fill_indexes(indexes, changes, in_force.indexes(), first);
         routes.change(alloc, changes, indexes.as_slice(), opening, shown);
+        routes.expect(config.expected.as_slice());
         in_force.put(config, indexes);
     }
 }

@@ -2,7 +2,7 @@
 
 ghost use Rattle.std.specs.Prelude.{◌≡◌};
 ghost use Rattle.srt_watch.specs.Log.{Logged};
-ghost use Rattle.srt_watch.specs.RouteLines.{step_calls, calls_to, change_calls, limit_calls, take_over_more, take_overs_to};
+ghost use Rattle.srt_watch.specs.RouteLines.{step_calls, calls_to, change_calls, limit_calls, absence_calls, take_over_more, take_overs_to};
 
 use crate::log::{LogWriter, When};
 use crate::watched_routes::SnapshotPair;
@@ -93,4 +93,20 @@ pub(crate) fn log_limits<W: Write + Drop>(
             per_address: grown.sessions_per_address,
         },
     );
+}
+
+/// Writes for how many minutes the route with this name has had no encoder, which is expected to be on air, if such a line is due.
+#[tactic(auto, using(crate::proofs::Logging::logged_nothing))]
+pub(crate) fn log_absence<W: Write + Drop>(
+    log: &mut LogWriter<W>,
+    when: When,
+    route: &[u8],
+    absent: Option<u64>,
+)
+    ensures { Logged (W.contents log.old.out) (W.contents log.new.out) log.old.pace log.new.pace (absence_calls when route.now absent) }
+{
+    let Some(minutes) = absent else {
+        return;
+    };
+    log.append(when, LineKind::Session, LogEvent::Absent { route, minutes });
 }

@@ -7,7 +7,8 @@ ghost use Rattle.std.specs.List.{position};
 ghost use Rattle.std.specs.Vec.Iter.{into_iter_items, into_iter_len};
 ghost use Rattle.srt_status.specs.declared.routes.RouteStatus.{RouteStatus as TheStatus};
 ghost use Rattle.srt_types.specs.Terms.{terms_of};
-ghost use Rattle.srt_watch.specs.Census.{status_with};
+ghost use Rattle.srt_watch.specs.Census.{status_with, with_look, absence_of};
+ghost use Rattle.srt_watch.specs.Expecting.{is_expected, expecting, all_expecting, AreExpecting};
 ghost use Rattle.srt_watch.specs.Log.{most};
 ghost use Rattle.srt_watch.specs.FirstRoutes.{HasShownMore, HasOpened};
 ghost use Rattle.srt_watch.specs.Openings.{fresh_status, IsOpening};
@@ -17,13 +18,13 @@ ghost use Rattle.srt_watch.specs.Placing.{IsKnown, AreKnown, IsRouted};
 ghost use Rattle.srt_watch.specs.Holding.{is_open, has_sessions, is_used_at, first_used};
 ghost use Rattle.srt_watch.specs.Routes.{used_of, has_index, is_of, place_of, route_at, name_of};
 
-use crate::census::{grown_limits, limits_of, note_route};
+use crate::census::{grown_limits, limits_of, look_at, note_route};
 use crate::indexes::index_at;
 use crate::showing::{first_snapshot, sessions_of, snapshot_of};
 use srt_config::RouteChange;
 use srt_log::{RouteSnapshot, SlotSession};
 use srt_route::{Route, SessionView, Totals};
-use srt_status::{LimitCounts, RefusalCounts, RouteHistory, RouteStatus};
+use srt_status::{LimitCounts, RefusalCounts, RouteHistory, RouteStatus, expected_if};
 use srt_sub::Sendings;
 use srt_types::product_limits::MAX_SESSIONS;
 use srt_types::{Entry, Mode};
@@ -73,12 +74,15 @@ pub(crate) struct OpeningRoute {
     status: RouteStatus,
 }
 
-/// Two snapshots of a route, and what its limits refused between them.
+/// Two snapshots of a route, and what else was found at the later one.
 #[derive(Clone, Copy)]
 pub(crate) struct SnapshotPair {
     pub old: RouteSnapshot,
     pub new: RouteSnapshot,
+    /// What the limits of the route refused between them, if a line is to tell of it.
     pub grown: Option<LimitCounts>,
+    /// For how many minutes the route has had no encoder, if it is expected to be on air and a line is to tell of it.
+    pub absent: Option<u64>,
 }
 
 /// The routes of a run, closed ones included, and the status of those in the configuration in force.
@@ -306,8 +310,14 @@ impl WatchedRoutes {
         let place = self.status_place(index);
         let old = put_snapshot(&mut self.routes, at, new);
         let grown = put_status(&mut self.shown, place, moment, route, &sessions, totals);
+        let absent = put_look(&mut self.shown, place, &sessions, moment, stops);
         match old {
-            Some(old) => Some(SnapshotPair { old, new, grown }),
+            Some(old) => Some(SnapshotPair {
+                old,
+                new,
+                grown,
+                absent,
+            }),
             None => None,
         }
     }
@@ -319,6 +329,14 @@ impl WatchedRoutes {
     {
         let place = self.status_place(index);
         add_take_overs(&mut self.shown, place, more);
+    }
+
+    /// Expects the routes to be on air that a configuration expects so. `expected` has that of each route that is shown, in its order;
+    /// those that it leaves out aren't expected.
+    pub(crate) fn expect(&mut self, expected: &[bool])
+        ensures { AreExpecting self.old self.new expected.now }
+    {
+        expect_all(&mut self.shown, expected);
     }
 
     /// Allocates what this many more routes need, and returns an empty list for the status of as many routes as the
@@ -491,6 +509,53 @@ fn put_status(
     let before = shown[place].limits.unwrap_or(LimitCounts::default());
     note_route(moment, route, sessions, totals, &mut shown[place]);
     grown_limits(before, Some(limits_of(route)))
+}
+
+// Looks whether the route of the status at a place is on air at this moment, if one is there and that is expected. Returns the minutes that a
+// line is to tell of, if one is due.
+fn put_look(
+    shown: &mut Vec<RouteStatus>,
+    place: Option<usize>,
+    sessions: &[Option<SessionView>; MAX_SESSIONS],
+    moment: u64,
+    stops: bool,
+) -> Option<u64>
+    ensures shown { shown.new.items ≡ changed_if (with_look stops sessions.now moment) shown.old.items place }
+    ensures line { result ≡ absence_of stops sessions.now moment (status_at shown.old.items place) }
+{
+    let place = place?;
+    if place >= shown.len() {
+        return None;
+    }
+    look_at(&mut shown[place], sessions, moment, stops)
+}
+
+// Whether the route at a place of the configuration is expected to be on air.
+fn is_expected(expected: &[bool], place: usize) -> bool
+    ensures { result ≡ is_expected expected.now place }
+{
+    match expected.get(place) {
+        Some(flag) => *flag,
+        None => false,
+    }
+}
+
+// Expects the route of a status to be on air, or doesn't.
+fn expect_one(status: &mut RouteStatus, expected: bool)
+    ensures { status.new ≡ expecting expected status.old }
+{
+    status.expectation = expected_if(expected, status.expectation);
+}
+
+// Expects the routes to be on air of which a list has that, in their order.
+#[tactic(auto, using(crate::proofs::ExpectedRoutes::expecting_none, crate::proofs::ExpectedRoutes::expecting_next))]
+fn expect_all(shown: &mut Vec<RouteStatus>, expected: &[bool])
+    ensures { shown.new.items ≡ all_expecting expected.now shown.old.items }
+{
+    for at in 0..shown.len() {
+        let flag = is_expected(expected, at);
+        expect_one(&mut shown[at], flag);
+    }
 }
 
 // Returns a number of take-overs and some more.

@@ -7,6 +7,7 @@ ghost use Rattle.srt_watch.specs.Course.{first_course, begun, is_due, after_due,
 ghost use Rattle.srt_watch.specs.Log.{HasState, Logged, Missed};
 ghost use Rattle.srt_watch.specs.Losses.{no_losses, with_faults, with_missed, more_missed};
 ghost use Rattle.srt_types.specs.Terms.{terms_of};
+ghost use Rattle.srt_watch.specs.Expecting.{AreExpecting};
 ghost use Rattle.srt_watch.specs.FirstRoutes.{HasOpened};
 ghost use Rattle.srt_watch.specs.Outcomes.{file_with, HasPolled};
 ghost use Rattle.srt_watch.specs.Overview.{no_overview, no_changes, with_report, after_refusal};
@@ -30,7 +31,7 @@ use crate::machine::Machine;
 use crate::overview::Overview;
 use crate::page::Page;
 use crate::page_interface::StatusServer;
-use crate::route_lines::{RouteLog, log_changes, log_limits, take_overs};
+use crate::route_lines::{RouteLog, log_absence, log_changes, log_limits, take_overs};
 use crate::steering::Steering;
 use crate::watched_routes::{SnapshotPair, WatchedRoutes};
 use srt_config::Config;
@@ -138,13 +139,13 @@ fn log_drops<M: Machine, W: Write + Drop>(
     losses.log(log, when, drops);
 }
 
-// Writes the lines of what changed between two snapshots of the route with this name.
-#[tactic(auto, using(crate::proofs::Logging::logged_both))]
+// Writes the lines of two snapshots of the route with this name.
 fn log_pair<W: Write + Drop>(log: &mut LogWriter<W>, when: When, name: &[u8], pair: &SnapshotPair)
     ensures { Logged (W.contents log.old.out) (W.contents log.new.out) log.old.pace log.new.pace (pair_calls when name.entry pair.now) }
 {
     log_changes(log, RouteLog { name, when }, pair);
     log_limits(log, when, name, pair.grown);
+    log_absence(log, when, name, pair.absent);
 }
 
 // Takes a snapshot of the route with this index, and writes what has changed since the one before. `stops`: the gateway is
@@ -254,6 +255,18 @@ where
         let following = Following::new(self.alloc, config, file)?;
         mem::drop(self.following.replace(following));
         Ok(())
+    }
+
+    /// Expects the routes to be on air that the configuration expects so from the start. `expected` has that of each of the watcher's
+    /// routes, in their order; those that it leaves out aren't expected. Later configurations that are followed replace it.
+    pub fn expect(&mut self, expected: &[bool])
+        ensures expected { AreExpecting self.old.routes self.new.routes expected.now }
+        ensures others { (self.new.machine ≡ self.old.machine) × (self.new.steering ≡ self.old.steering) × (self.new.losses ≡ self.old.losses)
+            × (self.new.overview ≡ self.old.overview) × (self.new.first_lines ≡ self.old.first_lines) }
+        ensures kept { (self.new.following ≡ self.old.following) × (self.new.form ≡ self.old.form) × (self.new.changes ≡ self.old.changes)
+            × (self.new.page ≡ self.old.page) }
+    {
+        self.routes.expect(expected);
     }
 
     /// Returns the name of the route with this index, closed or not; empty if there is none.

@@ -6,6 +6,7 @@ ghost use Rattle.std.specs.Prelude.{◌≡◌};
 ghost use Rattle.srt_types.specs.Items.{input_of, moment_of};
 
 mod changing;
+mod expecting;
 mod holding;
 mod random_files;
 
