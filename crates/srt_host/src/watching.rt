@@ -113,9 +113,9 @@ fn tell_watcher<'a>(
     Ok(())
 }
 
-/// Opens the watcher of a run whose clock is 0 at `start`, and whose socket is bound at this address. It follows the
-/// configuration's file, which is at `path`, and logs the warnings about it after its first line. Binds the status page's
-/// address. Allocates some kilobytes for each route.
+/// Opens the watcher of a run whose clock is 0 at `start`, and whose socket is bound at this address. It expects the routes on
+/// air that the configuration expects so, follows its file, which is at `path`, and logs the warnings about it after its first
+/// line. Binds the status page's address. Allocates some kilobytes for each route.
 pub fn open_watcher<'a>(
     machine: &'a HostRuntime,
     path: &'a str,
@@ -143,6 +143,7 @@ pub fn open_watcher<'a>(
     ) else {
         return Err(WatcherFault::OutOfMemory);
     };
+    watcher.expect(config.expected.as_slice());
     tell_watcher(machine, path, explained, &mut watcher)?;
     Ok(watcher)
 }
