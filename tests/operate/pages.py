@@ -18,6 +18,7 @@ from documents import PAGES
 from expecting import Wrong, expect
 from installing import commands, help_of, options
 from running import SECRET, Run, live
+from running import Shown as ShownRun
 from tree import PROGRAM, TOP, read
 
 sys.path.append(f"{TOP}/tests/docs")
@@ -37,10 +38,13 @@ FULL = {
     "secret": f'"{SECRET}"', "bind": '"127.0.0.1:0"', "workers": "1", "status": '"127.0.0.1:0"', "defaults": "{}", "name": '"studio"', "mode": '"live"',
     "latency_ms": "120", "buffer": "1024", "sessions": "5", "inbox": "16", "outbox": "334", "open_round": "0", "close_round": "5",
     "callers": '"libsrt"', "publish_from": '["192.0.2.7"]', "request_from": '["192.0.2.7"]', "publish_key": '"a"', "request_key": '"b"',
-    "reserved": "1", "sessions_per_address": "2", "takeover_ms": "500", "resend_percent": "50",
+    "reserved": "1", "sessions_per_address": "2", "takeover_ms": "500", "resend_percent": "50", "expect": "true",
 }
 REQUIRED = ("secret", "bind", "workers", "name", "mode", "latency_ms", "buffer", "sessions", "inbox", "outbox")
-WRONG_KINDS = {"text": ("5", "[]"), "number": ('"5"', "1.5", "true"), "list": ('"192.0.2.7"', "5", '["192.0.2.7", 5]'), "table": ("5", "[]"), "tables": ("5", "[5]")}
+WRONG_KINDS = {
+    "text": ("5", "[]"), "number": ('"5"', "1.5", "true"), "list": ('"192.0.2.7"', "5", '["192.0.2.7", 5]'), "table": ("5", "[]"), "tables": ("5", "[5]"),
+    "boolean": ("1", '"true"', "[]"),
+}
 
 
 def documents() -> list[str]:
@@ -106,6 +110,8 @@ def values_of(key: Key) -> Iterator[tuple[str, int]]:
     if key.kind == "number":
         low, high = between(key)
         yield from ((str(low), 0), (str(high), 0), (str(low - 1), 5), (str(high + 1), 5))
+    elif key.kind == "boolean":
+        yield from ((it, 0) for it in ticked(key.limits))
     elif key.kind == "table":
         yield from (("{}", 0), ("{ sessions = 5, inbox = 16 }", 0))
     elif "Address and port" in key.limits:
@@ -219,19 +225,21 @@ def given(key: Key) -> str | None:
     """The value that a default says, as a configuration has it; None if it says that there is none."""
     if re.fullmatch(r"\d+", key.default):
         return key.default
-    return f'"{ticked(key.default)[0]}"' if ticked(key.default) else None
+    words = ticked(key.default)
+    return None if not words else words[0] if key.kind == "boolean" else f'"{words[0]}"'
 
 
 @case("a default that CONFIGURATION has is what a route without the key does")
 def defaults_are_right():
-    """A route without the key stays the same if the default is written; with any other value it changes."""
+    """A route without the key stays the same if the default is written; with any other value it changes, but for `expect`, of which the
+    page tells."""
     keys = {it.name: it for it in keys_in(read(KEYS)) if it.of == "route" and given(it) and not it.name.endswith("_round")}
-    expect(sorted(keys) == ["callers", "reserved"], f"the defaults with a value are those of {sorted(keys)}")
+    expect(sorted(keys) == ["callers", "expect", "reserved"], f"the defaults with a value are those of {sorted(keys)}")
     small = dict(buffer=190, sessions=4, inbox=16)
-    with Run([live(name, **small) for name in keys], "--no-time") as run:
+    with ShownRun([live(name, **small) for name in keys], "--no-time") as run:
         run.is_up()
         first = read(run.file)
-        for values, changed in (({name: given(key) for name, key in keys.items()}, 0), ({"callers": '"libsrt"', "reserved": "1"}, 2)):
+        for values, changed in (({name: given(key) for name, key in keys.items()}, 0), ({"callers": '"libsrt"', "expect": "true", "reserved": "1"}, 2)):
             text = first
             for name, value in values.items():
                 text = text.replace(f'name = "{name}"\n', f'name = "{name}"\n{name} = {value}\n')
@@ -239,7 +247,9 @@ def defaults_are_right():
             with open(f"{run.file}.new", "w") as it:
                 it.write(text + live(f"more{changed}", **small))
             os.replace(f"{run.file}.new", run.file)
-            run.line(rf"configuration changed: {2 - changed} routes stay, 1 open, {1 if changed else 0} close, {changed} change", 5, before)
+            run.line(rf"configuration changed: {len(keys) - changed} routes? stays?, 1 open, {1 if changed else 0} close, {changed} change", 5, before)
+            expected = [labels["route"] for labels, _ in run.page.metrics().found("srtgw_route_expected")]
+            expect(expected == (["expect"] if changed else []), f"after {values} the routes that are expected are {expected}")
         run.stop()
 
 

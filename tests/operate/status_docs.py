@@ -108,7 +108,7 @@ def prometheus_scrapes():
             found = server.value("count(srtgw_route_sessions)")
             expect(found == 4, f"two roles of two routes are {found} series")
             loaded = server.answer("rules")
-            expect(loaded and len(loaded["groups"][0]["rules"]) == 8, f"the rules that it has are {loaded}")
+            expect(loaded and len(loaded["groups"][0]["rules"]) == 9, f"the rules that it has are {loaded}")
             for expression in expressions_of_dashboard():
                 whole = re.sub(r"\$(?:instance|route)\b", ".*", expression)
                 expect(server.answer(f"query?{urllib.parse.urlencode({'query': whole})}") is not None, f"Prometheus doesn't take {whole!r}")
