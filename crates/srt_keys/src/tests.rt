@@ -2,7 +2,6 @@
 
 ghost use Rattle.std.specs.Prelude.{◌≡◌, ◌≤◌, ◌+◌, ◌%◌, length};
 ghost use Rattle.srt_aes.specs.Aes.{IsKeyLength};
-ghost use Rattle.srt_aes.specs.Keys.{key_of};
 
 use crate::{HmacKey, hmac_sha256, kek, unwrap, wrap};
 use srt_aes::RoundKeys;
@@ -25,19 +24,20 @@ const TEXT: [u8; 32] = [
     0x00, 0x01, 0x02, 0x03, 0x04, 0x05, 0x06, 0x07, 0x08, 0x09, 0x0a, 0x0b, 0x0c, 0x0d, 0x0e, 0x0f,
 ];
 
-/// Whether the text is wrapped as expected, and unwrapped again.
-fn gives(keys: &RoundKeys, text: &[u8], wrapped: &[u8]) -> bool
-    requires key { IsKeyLength (length (key_of keys.now)) }
+/// Whether the text is wrapped with this key as expected, and unwrapped again.
+fn gives(key: &[u8], text: &[u8], wrapped: &[u8]) -> bool
+    requires key { IsKeyLength (length key.now) }
     requires whole { length text.now % 8 ≡ 0 }
     requires few { length text.now ≤ 64 }
     requires longer { length wrapped.now ≡ length text.now + 8 }
 {
+    let keys = RoundKeys::new(key);
     let before = [0x55u8; 64];
     let mut out = before;
-    match unwrap(keys, wrapped, &mut out) {
+    match unwrap(&keys, wrapped, &mut out) {
         None => false,
         Some(len) => {
-            wrap(keys, text).starts_with(wrapped)
+            wrap(&keys, text).starts_with(wrapped)
                 && out[..len] == text[..]
                 && out[len..] == before[len..]
         }
@@ -127,10 +127,9 @@ fn long_passphrases_are_hashed(rt: HostRuntime) -> Result<(), Fail> {
 
 #[test]
 fn wraps_are_those_of_the_standard(rt: HostRuntime) -> Result<(), Fail> {
-    let keys = RoundKeys::new(&KEY[..16]);
     assert!(rt;
         gives(
-            &keys,
+            &KEY[..16],
             &TEXT[..16],
             &[
                 0x1f, 0xa6, 0x8b, 0x0a, 0x81, 0x12, 0xb4, 0x47, 0xae, 0xf3, 0x4b, 0xd8, 0xfb, 0x5a,
@@ -138,10 +137,9 @@ fn wraps_are_those_of_the_standard(rt: HostRuntime) -> Result<(), Fail> {
             ]
         )
     );
-    let keys = RoundKeys::new(&KEY[..24]);
     assert!(rt;
         gives(
-            &keys,
+            &KEY[..24],
             &TEXT[..16],
             &[
                 0x96, 0x77, 0x8b, 0x25, 0xae, 0x6c, 0xa4, 0x35, 0xf9, 0x2b, 0x5b, 0x97, 0xc0, 0x50,
@@ -149,10 +147,9 @@ fn wraps_are_those_of_the_standard(rt: HostRuntime) -> Result<(), Fail> {
             ]
         )
     );
-    let keys = RoundKeys::new(&KEY);
     assert!(rt;
         gives(
-            &keys,
+            &KEY,
             &TEXT[..16],
             &[
                 0x64, 0xe8, 0xc3, 0xf9, 0xce, 0x0f, 0x5b, 0xa2, 0x63, 0xe9, 0x77, 0x79, 0x05, 0x81,
@@ -160,10 +157,9 @@ fn wraps_are_those_of_the_standard(rt: HostRuntime) -> Result<(), Fail> {
             ]
         )
     );
-    let keys = RoundKeys::new(&KEY[..24]);
     assert!(rt;
         gives(
-            &keys,
+            &KEY[..24],
             &TEXT[..24],
             &[
                 0x03, 0x1d, 0x33, 0x26, 0x4e, 0x15, 0xd3, 0x32, 0x68, 0xf2, 0x4e, 0xc2, 0x60, 0x74,
@@ -172,10 +168,9 @@ fn wraps_are_those_of_the_standard(rt: HostRuntime) -> Result<(), Fail> {
             ]
         )
     );
-    let keys = RoundKeys::new(&KEY);
     assert!(rt;
         gives(
-            &keys,
+            &KEY,
             &TEXT[..24],
             &[
                 0xa8, 0xf9, 0xbc, 0x16, 0x12, 0xc6, 0x8b, 0x3f, 0xf6, 0xe6, 0xf4, 0xfb, 0xe3, 0x0e,
@@ -184,10 +179,9 @@ fn wraps_are_those_of_the_standard(rt: HostRuntime) -> Result<(), Fail> {
             ]
         )
     );
-    let keys = RoundKeys::new(&KEY);
     assert!(rt;
         gives(
-            &keys,
+            &KEY,
             &TEXT,
             &[
                 0x28, 0xc9, 0xf4, 0x04, 0xc4, 0xb8, 0x10, 0xf4, 0xcb, 0xcc, 0xb3, 0x5c, 0xfb, 0x87,
@@ -199,19 +193,12 @@ fn wraps_are_those_of_the_standard(rt: HostRuntime) -> Result<(), Fail> {
     Ok(())
 }
 
-/// The schedule of the key in the first 16 bytes.
-fn first_half(key: &[u8; 40]) -> RoundKeys
-    ensures { IsKeyLength (length (key_of result)) }
-{
-    RoundKeys::new(&key[..16])
-}
-
 #[test]
 fn wraps_are_those_of_openssl(rt: HostRuntime) -> Result<(), Fail> {
-    let keys = first_half(&kek(b"correct horse battery", &SALT, 16));
+    let key = kek(b"correct horse battery", &SALT, 16);
     assert!(rt;
         gives(
-            &keys,
+            &key[..16],
             &[
                 0x70, 0x3c, 0x80, 0x6a, 0x6c, 0x17, 0xff, 0x61, 0xa2, 0x61, 0xcb, 0xcd, 0x91, 0x72,
                 0x8f, 0x66, 0x23, 0x4b, 0x23, 0xfc, 0x9e, 0xe0, 0x61, 0x27, 0xa5, 0xed, 0xb4, 0xa6,
@@ -226,7 +213,7 @@ fn wraps_are_those_of_openssl(rt: HostRuntime) -> Result<(), Fail> {
     );
     assert!(rt;
         gives(
-            &keys,
+            &key[..16],
             &[
                 0x23, 0x4b, 0x23, 0xfc, 0x9e, 0xe0, 0x61, 0x27, 0xa5, 0xed, 0xb4, 0xa6, 0x38, 0x20,
                 0x85, 0xfb,

@@ -1,5 +1,7 @@
 //! Computed examples of reception: across the wrap of sequence numbers, after a gap, and after drop requests.
 
+ghost use Rattle.std.specs.Prelude.{◌<◌, ◌≤◌, length};
+
 mod plain;
 mod random;
 
@@ -30,6 +32,15 @@ fn is_given(buffer: &mut RecvBuf, now: u32, bytes: &[u8]) -> bool {
     buffer.note_delivered(now, 64) && is_due
 }
 
+/// Puts a payload under a number.
+fn put(buffer: &mut RecvBuf, word: u32, due: i64, payload: &[u8]) -> Result<Put, Fail>
+    requires some { 0 < length payload.now }
+    requires most { length payload.now ≤ 1456 }
+{
+    let payload = PayloadRef { bytes: payload };
+    Ok(buffer.put(number(word)?, due, payload))
+}
+
 fn gives_nothing(buffer: &mut RecvBuf, now: u32, room: u32) -> bool {
     let now = u64::from(now);
     buffer.next_due(now, room).is_none() && !buffer.note_delivered(now, room)
@@ -38,22 +49,10 @@ fn gives_nothing(buffer: &mut RecvBuf, now: u32, room: u32) -> bool {
 #[test]
 fn a_window_takes_each_number_once(rt: HostRuntime) -> Result<(), Fail> {
     let mut buffer = buffer(&rt, 7)?;
-    assert_eq!(rt;
-        buffer.put(number(38)?, 5, PayloadRef { bytes: &[1] }),
-        Put::New
-    );
-    assert_eq!(rt;
-        buffer.put(number(39)?, 5, PayloadRef { bytes: &[2] }),
-        Put::Outside
-    );
-    assert_eq!(rt;
-        buffer.put(number(6)?, 5, PayloadRef { bytes: &[2] }),
-        Put::Outside
-    );
-    assert_eq!(rt;
-        buffer.put(number(38)?, 5, PayloadRef { bytes: &[2] }),
-        Put::Repeat
-    );
+    assert_eq!(rt; put(&mut buffer, 38, 5, &[1])?, Put::New);
+    assert_eq!(rt; put(&mut buffer, 39, 5, &[2])?, Put::Outside);
+    assert_eq!(rt; put(&mut buffer, 6, 5, &[2])?, Put::Outside);
+    assert_eq!(rt; put(&mut buffer, 38, 5, &[2])?, Put::Repeat);
     assert_eq!(rt; buffer.width(), 32);
     assert_eq!(rt; buffer.front().get(), 7);
     assert_eq!(rt; buffer.top().get(), 39);
@@ -69,22 +68,10 @@ fn a_window_takes_each_number_once(rt: HostRuntime) -> Result<(), Fail> {
 #[test]
 fn numbers_go_round(rt: HostRuntime) -> Result<(), Fail> {
     let mut buffer = buffer(&rt, 0x7fff_ffff)?;
-    assert_eq!(rt;
-        buffer.put(number(0x1e)?, 9, PayloadRef { bytes: &[3] }),
-        Put::New
-    );
-    assert_eq!(rt;
-        buffer.put(number(0x1f)?, 9, PayloadRef { bytes: &[3] }),
-        Put::Outside
-    );
-    assert_eq!(rt;
-        buffer.put(number(0x7fff_ffff)?, 9, PayloadRef { bytes: &[1] }),
-        Put::New
-    );
-    assert_eq!(rt;
-        buffer.put(number(0)?, 9, PayloadRef { bytes: &[2] }),
-        Put::New
-    );
+    assert_eq!(rt; put(&mut buffer, 0x1e, 9, &[3])?, Put::New);
+    assert_eq!(rt; put(&mut buffer, 0x1f, 9, &[3])?, Put::Outside);
+    assert_eq!(rt; put(&mut buffer, 0x7fff_ffff, 9, &[1])?, Put::New);
+    assert_eq!(rt; put(&mut buffer, 0, 9, &[2])?, Put::New);
     assert_eq!(rt; buffer.ack_point().get(), 1);
     assert_eq!(rt; buffer.available(), 30);
     let runs = buffer.runs(buffer.front());
@@ -99,14 +86,8 @@ fn numbers_go_round(rt: HostRuntime) -> Result<(), Fail> {
 #[test]
 fn a_packet_behind_a_gap_waits_for_its_moment(rt: HostRuntime) -> Result<(), Fail> {
     let mut buffer = buffer(&rt, 7)?;
-    assert_eq!(rt;
-        buffer.put(number(9)?, 20, PayloadRef { bytes: &[9, 9] }),
-        Put::New
-    );
-    assert_eq!(rt;
-        buffer.put(number(7)?, 10, PayloadRef { bytes: &[7] }),
-        Put::New
-    );
+    assert_eq!(rt; put(&mut buffer, 9, 20, &[9, 9])?, Put::New);
+    assert_eq!(rt; put(&mut buffer, 7, 10, &[7])?, Put::New);
     assert!(rt; gives_nothing(&mut buffer, 9, 64));
     assert!(rt; gives_nothing(&mut buffer, 20, 0));
     assert!(rt; is_given(&mut buffer, 10, &[7]));
@@ -127,22 +108,10 @@ fn a_packet_behind_a_gap_waits_for_its_moment(rt: HostRuntime) -> Result<(), Fai
 #[test]
 fn payloads_that_are_due_come_in_order(rt: HostRuntime) -> Result<(), Fail> {
     let mut buffer = buffer(&rt, 7)?;
-    assert_eq!(rt;
-        buffer.put(number(7)?, 1, PayloadRef { bytes: &[7, 7] }),
-        Put::New
-    );
-    assert_eq!(rt;
-        buffer.put(number(8)?, 1, PayloadRef { bytes: &[8] }),
-        Put::New
-    );
-    assert_eq!(rt;
-        buffer.put(number(9)?, 1, PayloadRef { bytes: &[9] }),
-        Put::New
-    );
-    assert_eq!(rt;
-        buffer.put(number(10)?, 2, PayloadRef { bytes: &[10, 10] }),
-        Put::New
-    );
+    assert_eq!(rt; put(&mut buffer, 7, 1, &[7, 7])?, Put::New);
+    assert_eq!(rt; put(&mut buffer, 8, 1, &[8])?, Put::New);
+    assert_eq!(rt; put(&mut buffer, 9, 1, &[9])?, Put::New);
+    assert_eq!(rt; put(&mut buffer, 10, 2, &[10, 10])?, Put::New);
     for wanted in [&[7, 7][..], &[8][..], &[9][..]] {
         assert!(rt; is_given(&mut buffer, 1, wanted));
     }
@@ -155,14 +124,8 @@ fn payloads_that_are_due_come_in_order(rt: HostRuntime) -> Result<(), Fail> {
 #[test]
 fn a_payload_passed_over_is_gone(rt: HostRuntime) -> Result<(), Fail> {
     let mut buffer = buffer(&rt, 7)?;
-    assert_eq!(rt;
-        buffer.put(number(8)?, 20, PayloadRef { bytes: &[8] }),
-        Put::New
-    );
-    assert_eq!(rt;
-        buffer.put(number(10)?, 30, PayloadRef { bytes: &[10] }),
-        Put::New
-    );
+    assert_eq!(rt; put(&mut buffer, 8, 20, &[8])?, Put::New);
+    assert_eq!(rt; put(&mut buffer, 10, 30, &[10])?, Put::New);
     assert!(rt; !buffer.note_delivered(19, 64));
     assert!(rt; !buffer.note_delivered(20, 0));
     assert_eq!(rt; buffer.front().get(), 7);
@@ -177,16 +140,10 @@ fn a_payload_passed_over_is_gone(rt: HostRuntime) -> Result<(), Fail> {
 #[test]
 fn what_is_dropped_may_still_come(rt: HostRuntime) -> Result<(), Fail> {
     let mut buffer = buffer(&rt, 7)?;
-    assert_eq!(rt;
-        buffer.put(number(9)?, 1, PayloadRef { bytes: &[9] }),
-        Put::New
-    );
+    assert_eq!(rt; put(&mut buffer, 9, 1, &[9])?, Put::New);
     buffer.dropped(number(8)?, number(11)?);
     assert_eq!(rt; buffer.ack_point().get(), 7);
-    assert_eq!(rt;
-        buffer.put(number(8)?, 1, PayloadRef { bytes: &[8] }),
-        Put::New
-    );
+    assert_eq!(rt; put(&mut buffer, 8, 1, &[8])?, Put::New);
     assert!(rt; is_given(&mut buffer, 1, &[8]));
     assert!(rt; is_given(&mut buffer, 1, &[9]));
     // 10 and 11 were dropped
