@@ -272,6 +272,54 @@ def order_changed():
         expect_polite(run.stop(), ["studio", "news", "guest"])
 
 
+# Routes that are expected to be on air.
+
+ABSENT = "{}: expected on air, no encoder"
+SHOWN = 1.5  # A look twice a second, and the page after it.
+
+
+def expect_absences(run, first, *names):
+    """Expects that the log tells of just these routes from this line on that they have no encoder, in this order."""
+    told = [it for it in run.texts(first) if "expected on air" in it]
+    expect(told == [ABSENT.format(it) for it in names], f"it says {told}")
+
+
+def expect_marks(run, **seconds):
+    """Expects that the page, in its JSON and its metrics, shows just these routes as expected, each absent for so many seconds: 0, or at least 1."""
+    time.sleep(SHOWN)
+    state, metrics = run.page.state(), run.page.metrics()
+    marks = {it["name"]: it["absent_seconds"] for it in state["routes"] if it.get("expected") == 1}
+    expect({name: min(it, 1) for name, it in marks.items()} == seconds, f"the page shows {marks}")
+    for family, wanted in (("srtgw_route_expected", {it: 1 for it in seconds}), ("srtgw_route_absent_seconds", seconds)):
+        samples = {labels["route"]: value for labels, value in metrics.found(family)}
+        expect({name: min(it, 1) for name, it in samples.items()} == wanted, f"the metrics have {samples} of {family}")
+
+
+@case("an expected route is told while it has no encoder, and a change of that key alone closes nothing")
+def expected_routes():
+    with Shown([live("studio", expect=True, **SMALL), live("news", **SMALL)], "--no-time") as run:
+        run.is_up()
+        run.line(ABSENT.format("studio"), LOOK)
+        expect_marks(run, studio=1)
+        air = OnAir(run, "studio")
+        expect_marks(run, studio=0)
+        expect_absences(run, 0, "studio")
+        before = written(run, text_of(run, [live("news", expect=True, **SMALL), live("studio", **SMALL)]))
+        run.line(ABSENT.format("news"), LOOK, before)
+        expect_silent(run, before)
+        expect_marks(run, news=1)
+        expect_absences(run, before, "news")
+        expect_counts(run, routes=2, taken=0, refused=0, indexes=2)
+        before = written(run, text_of(run, [live("news", **SMALL), live("studio", expect=True, **SMALL)]))
+        expect_silent(run, before)
+        expect_marks(run, studio=0)
+        expect_absences(run, before)
+        air.end()
+        run.line(ABSENT.format("studio"), LOOK, before)
+        expect_polite(run.stop(), ["studio", "news"])
+        expect_absences(run, before, "studio")
+
+
 # Who may call a route that a change opens.
 
 HERE, THERE = "127.0.0.1", "127.0.0.9"
