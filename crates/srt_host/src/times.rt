@@ -16,7 +16,7 @@ pub trait HostClocks {
     /// The clock that never goes back gave this instant, or couldn't be read.
     ghost was_instant: { Option TheInstant → Type 0 };
 
-    /// The system's time was so many nanoseconds since 1970, or couldn't be read.
+    /// The system's time was this number of nanoseconds since 1970, or couldn't be read.
     ghost was_time: { Option ℕ → Type 0 };
 
     /// Reads the clock that never goes back. `None` if it can't be read.

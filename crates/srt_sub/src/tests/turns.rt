@@ -25,11 +25,11 @@ pub enum Turn<'a> {
     /// The session is held below this bound, and its flow window was 8192.
     Hold(u64),
     Release,
-    /// So many payloads were queued so far.
+    /// The number of payloads that were queued so far.
     Queued(u64),
-    /// So many can still be queued.
+    /// The number of payloads that can still be queued.
     Room(u32),
-    /// So many packets were given up so far.
+    /// The number of packets that were given up so far.
     GivenUp(u64),
     /// The caller's flow window.
     FlowWindow(u32),

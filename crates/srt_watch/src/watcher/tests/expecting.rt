@@ -14,7 +14,7 @@ const SECOND: u64 = 1_000_000;
 /// The last key of a route that is to be on air all the time.
 const EXPECT: &str = "expect = true\n";
 
-/// The watcher is shown the route with this index, so many seconds after the start.
+/// The watcher is shown the route with this index, at this number of seconds after the start.
 fn look(watcher: &mut Watching<'_>, seconds: u64, index: usize, route: &Route) {
     watcher.machine.moment = seconds.saturating_mul(SECOND);
     watcher.show_route(index, route);
