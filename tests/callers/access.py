@@ -35,6 +35,14 @@ def opens(caller, what):
     return caller
 
 
+def viewed(run):
+    """Waits until the gateway is up, and returns a subscriber of the route `studio` whose session is open."""
+    run.is_up()
+    viewer = opens(Subscriber(run.address, "studio"), "a viewer")
+    viewer.start()
+    return viewer
+
+
 def closed(*callers):
     for one in callers:
         one.close()
@@ -313,9 +321,7 @@ def transmit_from_elsewhere(_):
 @case("ffmpeg publishes with the key, from a listed address", needs=[tools.FFMPEG])
 def ffmpeg_with_key(_):
     with Run([live("studio", publish_key=KEY, publish_from=[HERE])]) as run:
-        run.is_up()
-        viewer = opens(Subscriber(run.address, "studio"), "a viewer")
-        viewer.start()
+        viewer = viewed(run)
         with encoder(tools.srt(run.address, streamid=f"{publish('studio')},k={KEY}", pkt_size=1316), 2):
             viewer.wait(6, 100)
         time.sleep(0.5)

@@ -11,7 +11,7 @@ import gateway
 import packets
 import running
 import tools
-from access import closed, opens
+from access import closed, opens, viewed
 from caller import Publisher, Subscriber, endless, indexes, start_all, stream
 from cases import case, pieces
 from expecting import Wrong, expect, expect_delays, expect_run, publish
@@ -291,9 +291,7 @@ def tail_is_delivered(_):
 def comes_back_at_once(_):
     count = 100
     with Run([live("studio", latency_ms=500)], "--no-time") as run:
-        run.is_up()
-        subscriber = opens(Subscriber(run.address, "studio"), "the subscriber")
-        subscriber.start()
+        subscriber = viewed(run)
         for first in (0, count):
             publisher = Publisher(run.address, publish("studio"), stream(count, first), 5_000)
             start_all(publisher)
@@ -313,9 +311,7 @@ def transmit_ends(_):
     """It may keep back the last payload or two that it has read."""
     count = 300
     with Run([live("studio", latency_ms=500)], "--no-time") as run:
-        run.is_up()
-        subscriber = opens(Subscriber(run.address, "studio"), "the subscriber")
-        subscriber.start()
+        subscriber = viewed(run)
         with tools.transmit("file://con", tools.srt(run.address, streamid=publish("studio"), latency=500), fed=True) as source:
             expect(source.wait_errors("SRT target connected", 10), f"it doesn't connect: {source.errors()[-300:]!r}")
             for one in stream(count):
@@ -332,9 +328,7 @@ def transmit_ends(_):
 def ffmpeg_ends(_):
     """What it sends it also writes to a file. It ends its session at once; so libsrt may not have sent its last packets."""
     with Run([live("studio", latency_ms=500)], "--no-time") as run, tempfile.TemporaryDirectory(prefix="srtgw-ffmpeg-") as room:
-        run.is_up()
-        subscriber = opens(Subscriber(run.address, "studio"), "the subscriber")
-        subscriber.start()
+        subscriber = viewed(run)
         sink = tools.srt(run.address, streamid=publish("studio"), pkt_size=PAYLOAD)
         source = ["-re", "-f", "lavfi", "-i", "testsrc=size=320x240:rate=25:duration=3", "-map", "0", "-c:v", "mpeg2video", "-b:v", "1M"]
         both = f"[f=mpegts]{sink}|[f=mpegts]{room}/sent.ts"

@@ -1,10 +1,10 @@
 """A subscriber that asks for everything again, hundreds and thousands of times in a second, and what `resend_percent` leaves of it."""
-import multiprocessing
 import time
 from typing import NamedTuple
 
 import packets
 from access import closed, opens
+from apart import OwnProcess
 from caller import SECOND, Caller, Publisher, Subscriber, now, stream
 from cases import case, over_a_line
 from expecting import expect, expect_delays, expect_run, publish
@@ -85,22 +85,14 @@ def flood_route(address, name, rate, over, told):
     told.put(Flooded(flood.new, flood.again, flood.naks, wrong))
 
 
-class Attacker:
+class Attacker(OwnProcess):
     """A flood in a process of its own: its work holds up none of the honest callers."""
 
     def __init__(self, address, name, rate):
-        context = multiprocessing.get_context("spawn")
-        self.over, self.told = context.Event(), context.Queue()
-        self.process = context.Process(target=flood_route, args=(address, name, rate, self.over, self.told), daemon=True)
-        self.process.start()
-        found = self.told.get(timeout=30)
-        expect(found == "open", f"the attacker's session doesn't open: {found}")
+        super().__init__("the attacker", flood_route, address, name, rate)
 
     def end(self):
-        """Ends the flood."""
-        self.over.set()
-        found = self.told.get(timeout=30)
-        self.process.join(5)
+        found = super().end()
         expect(not found.wrong, f"the attacker: {found.wrong}")
         return found
 
@@ -143,7 +135,7 @@ def play_flood(rate):
             neighbour.expect_whole(20)
             flood = attacker.end()
         finally:
-            attacker.process.kill()
+            attacker.kill()
         spent, dropped = now() - opened, drops_of(run.address[1])
         end = run.stop()
     expect(not dropped and end.report["full"] == 0, f"the gateway is too slow: the kernel dropped {dropped} datagrams, and {end.report['full']} found no room in the inbox")

@@ -10,7 +10,7 @@ from itertools import groupby
 
 import packets
 import tools
-from access import closed, opens
+from access import closed, opens, viewed
 from caller import Publisher, Subscriber, endless, now, payload
 from cases import case
 from expecting import Wrong, expect, publish
@@ -138,9 +138,7 @@ def ffmpeg(address, name):
 @case("ffmpeg is stopped, continued and killed, and another one takes over within 0.6 s", needs=[tools.FFMPEG])
 def ffmpeg_takes_over(_):
     with Run([live("studio", takeover_ms=TAKEOVER_MS)]) as run:
-        run.is_up()
-        viewer = opens(Subscriber(run.address, "studio"), "a viewer")
-        viewer.start()
+        viewer = viewed(run)
         two_publishers(run, Watch(viewer, source_of_ts), lambda name: ffmpeg(run.address, name), lambda: ffmpeg(run.address, "backup"))
         closed(viewer)
 
@@ -172,9 +170,7 @@ def source_of_number(body):
 @case("srt-live-transmit is stopped, continued and killed, and each payload comes once and in order", needs=[tools.SRT])
 def transmit_takes_over(_):
     with Run([live("studio", takeover_ms=TAKEOVER_MS)]) as run:
-        run.is_up()
-        viewer = opens(Subscriber(run.address, "studio"), "a viewer")
-        viewer.start()
+        viewer = viewed(run)
         started = {"main": 0, "backup": OTHER_NUMBERS}
         two_publishers(run, Watch(viewer, source_of_number), lambda name: Fed(run.address, started[name]), lambda: Fed(run.address, 2 * OTHER_NUMBERS))
         closed(viewer)

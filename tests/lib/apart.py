@@ -41,19 +41,20 @@ def play(address, name, interval, over, told):
     told.put(Streamed(wrong, publisher.next - publisher.initial, publisher.dropped + subscriber.dropped))
 
 
-class Apart:
-    """A stream in a process of its own, with a packet each `interval` microseconds."""
+class OwnProcess:
+    """A function that runs in a process of its own: `of` with these arguments, an Event and a Queue. It puts "open" into the queue once
+    its sessions are open, or what is wrong, and its result once the event is set."""
 
-    def __init__(self, address, name, interval):
+    def __init__(self, what, of, *args):
         context = multiprocessing.get_context("spawn")
         self.over, self.told = context.Event(), context.Queue()
-        self.process = context.Process(target=play, args=(address, name, interval, self.over, self.told), daemon=True)
+        self.process = context.Process(target=of, args=(*args, self.over, self.told), daemon=True)
         self.process.start()
         found = self.told.get(timeout=SECONDS_TO_OPEN)
-        expect(found == "open", f"the stream's sessions don't open: {found}")
+        expect(found == "open", f"{what} doesn't open: {found}")
 
     def end(self):
-        """Ends the stream."""
+        """Ends it, and returns its result."""
         self.over.set()
         found = self.told.get(timeout=SECONDS_TO_END)
         self.process.join(5)
@@ -61,3 +62,10 @@ class Apart:
 
     def kill(self):
         self.process.kill()
+
+
+class Apart(OwnProcess):
+    """A stream in a process of its own, with a packet each `interval` microseconds."""
+
+    def __init__(self, address, name, interval):
+        super().__init__("the stream", play, address, name, interval)

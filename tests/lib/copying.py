@@ -114,7 +114,8 @@ def function_at(path: str, lines: list[str], at: int) -> Function:
     if not found:
         raise CannotCopy("it stands in no function")
     last = first
-    while lines[last] != f"{found[1]}}}" and not (last == first and lines[last].endswith("}")):
+    # An empty body behind a contract has a line of its own.
+    while lines[last] not in (f"{found[1]}}}", f"{found[1]}{{}}") and not (last == first and lines[last].endswith("}")):
         last += 1
         if last == len(lines):
             raise CannotCopy("it stands in no function")

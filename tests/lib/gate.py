@@ -185,8 +185,10 @@ class Gate:
         self.do(step._replace(gives_way=steps.LAST_AT))
 
     def try_edits(self) -> None:
-        """Tries the edits of tests/edits over the libraries that `rt ci` built."""
+        """Compiles the programs outside of crates over the libraries that `rt ci` built, and tries the edits of tests/edits."""
         snapshot.take_libraries(self.room)
+        words = [f"{self.room.whole}/tests/programs/run", "--built"]
+        self.do(Step("programs", words, r"programs: (\d+) passed, (\d+) failed", self.room.whole, steps.PROOFS_AT))
         within = [] if self.anew else ["--minutes", f"{edits_within(self.minutes()):.1f}"]
         words = [f"{self.room.whole}/tests/edits/run", "--gate", self.commit, *within, *(["--controls"] if self.anew else [])]
         step = Step("wrong bodies", words, r"wrong bodies: (\d+) refused, (\d+) wrong", self.room.whole, steps.PROOFS_AT)

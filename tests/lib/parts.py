@@ -120,6 +120,7 @@ PARTS: dict[str, Callable[[], Count]] = {
     "layout": layouts,
     "docs": lambda: subjects("docs"),
     "edits": lambda: subjects("edits"),
+    "programs": lambda: subjects("programs"),
     "explain": lambda: subjects("explain"),
     "cases": cases,
     "model": lambda: subjects("model"),
@@ -130,6 +131,7 @@ PARTS: dict[str, Callable[[], Count]] = {
     "package": package,
     "refusals": lambda: subjects("refusals"),
 }
-# Those that read files alone, and those that play for a short while against the built program.
-OF_FILES = ("layout", "docs", "edits")
-QUICK = ("layout", "docs", "edits", "explain", "cases", "examples")
+# Those that read files alone (programs are compiled too where the libraries are built), and those that play for a short while against
+# the built program.
+OF_FILES = ("layout", "docs", "edits", "programs")
+QUICK = ("layout", "docs", "edits", "programs", "explain", "cases", "examples")

@@ -22,25 +22,33 @@ LEFT_OUT = r"lines left out (\d+)"
 # refusals leaves out one of them.
 OTHERS = r"serving at .*|steady: .* opened, .*|steady: .* ended, .*|stopping, .*|stopped"
 EVENTS = 7
+REQUEST = packets.hsreq(packets.FLAGS["live"], 120, 0)
 
 
 class Flood(threading.Thread):
-    """Makes the same conclusion again and again from one socket, `count` times at `rate` a second, so many at once (`burst`),
-    and counts the refusals that it receives: it is as slow as Python, so that some may be lost at its own socket."""
+    """Makes conclusions from one socket, `count` times at `rate` a second, so many at once (`burst`), and counts the refusals
+    that it receives: it is as slow as Python, so that some may be lost at its own socket. Each has a Stream ID of its own, with
+    its number in front, unless all are to have the same one: then they are one caller that comes again and again."""
 
-    def __init__(self, address, stream_id, count, rate, burst=1):
+    def __init__(self, address, stream_id, count, rate, burst=1, same=False):
         super().__init__(daemon=True)
         self.caller, self.count, self.rate, self.burst, self.refused = Caller(address, stream_id), count, rate, burst, 0
+        self.stream_id, self.same = stream_id, same
         self.caller.induce()
+
+    def conclusion(self, number):
+        """The body of a conclusion with the Stream ID of this number."""
+        if not self.same:
+            self.caller.blocks = packets.extensions(REQUEST, f"{number:05}{self.stream_id}".encode(), None)
+        return self.caller.conclusion()
 
     def run(self):
         it = self.caller
-        body = it.conclusion()
         began, sent = time.monotonic(), 0
         while sent < self.count:
             due = min(self.count, int((time.monotonic() - began) * self.rate / self.burst) * self.burst)
-            for _ in range(due - sent):
-                it.send(packets.control(packets.HANDSHAKE, 0, it.stamp(), 0, body))
+            for number in range(sent, due):
+                it.send(packets.control(packets.HANDSHAKE, 0, it.stamp(), 0, self.conclusion(number)))
             sent = max(sent, due)
             self.take(0.001)
         until = time.monotonic() + 5
@@ -89,7 +97,8 @@ def expect_few(run, seconds):
 
 
 def play_flood(routes, stream_id, line, count=20_000, rate=5_000, burst=1):
-    """Plays a flood of conclusions that all are refused. Returns how many datagrams the lobby answered that weren't inductions."""
+    """Plays a flood of conclusions that all are refused, each with a name of its own. Returns how many datagrams the lobby answered that
+    weren't inductions."""
     with Run([live("steady", latency_ms=500, inbox=1024), *routes]) as run:
         run.is_up()
         began = time.monotonic()
@@ -179,7 +188,7 @@ def read_again():
         raise Skipped("`env` can't start a program with signals blocked")
     with Run([live("steady")], "--no-time", reads=False, limit=with_small_pipe) as run:
         Caller(run.address).induce(10)
-        # A line of such a name has 319 bytes, so that 10 a second fill the pipe and the 64 KiB that are kept in 22 seconds.
+        # A line of such a name has 304 bytes, so that 10 a second fill the pipe and the 64 KiB that are kept in 22 seconds.
         flood = Flood(run.address, "\x01" * 300, 600, 20)
         flood.start()
         flood.join()
@@ -245,20 +254,34 @@ def drops_in_a_flood():
 
 @case("20,000 conclusions that the lobby refuses")
 def lobby_flood():
-    line = r'127\.0\.0\.1:{} refused, 1002 PEER, asked for "nowhere", unknown name'
+    line = r'127\.0\.0\.1:{} refused, 1002 PEER, asked for "\d+nowhere", unknown name'
     refused = play_flood([], "nowhere", line)
     expect(refused == 20_000, f"the lobby refused {refused}")
 
 
 @case("6,000 conclusions in bursts of 200, more than wait for the log at once")
 def bursts():
-    line = r'127\.0\.0\.1:{} refused, 1002 PEER, asked for "nowhere", unknown name'
+    line = r'127\.0\.0\.1:{} refused, 1002 PEER, asked for "\d+nowhere", unknown name'
     play_flood([], "nowhere", line, 6_000, 2_000, 200)
 
 
 @case("20,000 conclusions that a route refuses")
 def route_flood():
-    """The flooded route is in buffer mode, and its callers want live mode."""
-    line = r'127\.0\.0\.1:{} refused, 1012 MESSAGEAPI, asked for "files"'
-    refused = play_flood([files("files", inbox=4096, outbox=4096)], "files", line)
-    expect(refused == 0, f"the lobby refused {refused}")
+    """The flooded route is in buffer mode, and its caller wants live mode: it has one line, and one with a number each ten seconds."""
+    with Run([live("steady", latency_ms=500, inbox=1024), files("files", inbox=4096, outbox=4096)], "--no-time") as run:
+        run.is_up()
+        flood = Flood(run.address, "files", 20_000, 5_000, same=True)
+        asked = beside_a_stream(run, flood)
+        time.sleep(1.5)
+        dropped = drops_of(run.address[1])
+        end = run.stop()
+        expect(not dropped, f"the gateway is too slow: the kernel dropped {dropped} datagrams")
+        expect_polite(end, ["steady", "files"])
+        flood.expect_refused()
+        refusal = r'1012 MESSAGEAPI, asked for "files"'
+        first = [it for it in run.texts() if re.fullmatch(rf"127\.0\.0\.1:{flood.caller.here[1]} refused, {refusal}", it)]
+        again = [int(found[1]) for found in (re.fullmatch(rf"127\.0\.0\.1 refused (\d+) more times, {refusal}", it) for it in run.texts()) if found]
+        expect(len(first) == 1 and 1 <= len(again) <= 3, f"{len(first)} lines and {again} repeats of one caller")
+        left_out = sum(int(found[1]) for found in (re.fullmatch(LEFT_OUT, it) for it in run.texts()) if found)
+        expect(1 + sum(again) + left_out == 20_000, f"{sum(again)} refusals are told as repeats and {left_out} lines left out, of 20,000")
+        expect(end.report["answered"] == asked, "the lobby refused some")

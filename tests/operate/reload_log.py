@@ -41,6 +41,11 @@ class Refused:
         """The most lines that it may have: one for each conclusion that was sent."""
         return self.caller.handshakes[packets.CONCLUSION]
 
+    @property
+    def reason(self) -> tuple[str, str, str]:
+        """Its code, the name that it requested, and its cause: refusals of one address with the same ones are told in one line and counts."""
+        return str(self.verdict.code), self.call.name, self.verdict.cause
+
 
 @dataclass
 class Session:
@@ -81,6 +86,8 @@ class Journal:
 
     def __init__(self, names: list[str]) -> None:
         self.refused: list[Refused] = []
+        # How often refusals were told as repeats, by their reason.
+        self.again: Counter[tuple[str, str, str]] = Counter()
         self.sessions: dict[int, Session] = {}
         self.indexes = {name: index for index, name in enumerate(names)}  # Of the routes that are open.
         self.closing: set[int] = set()
@@ -98,6 +105,10 @@ class Journal:
 
     def refuse(self, caller: Caller, call: Call, verdict: Verdict) -> None:
         self.refused.append(Refused(caller, call, verdict))
+
+    def causes(self, caller: Caller, code: int, name: str) -> set[str]:
+        """The causes for which callers of this address were refused with this code and name."""
+        return {it.verdict.cause for it in self.refused if (it.caller.here[0], it.verdict.code, it.call.name) == (caller.here[0], code, name)}
 
     def end(self, caller: Caller) -> None:
         """A caller ends its session."""
@@ -148,14 +159,20 @@ class Journal:
             return "no such caller was refused"
         number = next((it for it in numbers if it >= self.reported), numbers[-1])
         one = self.refused[number]
-        wanted = (str(one.verdict.code), one.call.name, one.verdict.cause)
-        if (found["code"], found["asked"], found["cause"] or "") != wanted:
-            return f"it was refused with {wanted}"
+        if (found["code"], found["asked"], found["cause"] or "") != one.reason:
+            return f"it was refused with {one.reason}"
         one.lines += 1
-        if one.lines == 1 and number != self.reported:
-            return f"before it {self.refused[self.reported].call} was refused"
-        self.reported += one.lines == 1
+        if one.lines == 1 and number < self.reported:
+            return f"{self.refused[self.reported - 1].call}, which was refused later, has its line already"
+        self.reported = max(self.reported, number + 1)
         return f"it has {one.lines} such lines, and sent {one.most} conclusions" if one.lines > one.most else ""
+
+    def refused_again(self, found: re.Match[str]) -> str:
+        reason = (found["code"], found["asked"], found["cause"] or "")
+        if reason not in {it.reason for it in self.refused if it.caller.here[0] == found["ip"]}:
+            return "no such caller was refused"
+        self.again[reason] += int(found["count"])
+        return ""
 
     def session_of(self, found: re.Match[str]) -> tuple[Session | None, str]:
         """The session that a line names, and what the line has wrong of it."""
@@ -212,7 +229,11 @@ class Journal:
 
     def missing(self) -> Iterator[str]:
         """What the log lacks at its end."""
-        yield from (f"the log lacks the refusal of {it.call}" for it in self.refused if not it.lines)
+        for reason in {it.reason for it in self.refused}:
+            those = [it for it in self.refused if it.reason == reason]
+            told, most = sum(it.lines for it in those) + self.again[reason], sum(it.most for it in those)
+            if not len(those) <= told <= most:
+                yield f"the log has {told} refusals with {reason}, and not {len(those)} to {most}"
         half = [it for it in self.sessions.values() if it.lines and it.lines[-1] != "ended"]
         yield from (f"of the session of {it.call} the log has {it.lines}" for it in half)
         without = Counter(it.call.name for it in self.sessions.values() if not it.lines)
@@ -235,6 +256,7 @@ Method = Callable[[Journal, "re.Match[str]"], str]
 FORMS: tuple[tuple[str, Method], ...] = (
     *((it, Journal.slowness) for it in SLOW),
     (r'(?P<peer>\S+) refused, (?P<code>\d+) \w+, asked for "(?P<asked>[^"]*)"(?:, (?P<cause>.+))?', Journal.refusal),
+    (r'(?P<ip>\S+) refused (?P<count>\d+) more times, (?P<code>\d+) \w+, asked for "(?P<asked>[^"]*)"(?:, (?P<cause>.+))?', Journal.refused_again),
     (rf"{OF_SESSION}opened(?P<standby> as standby)?, {SOCKET}(?:, latency (?P<latency>\d+) ms)?", Journal.opened),
     (rf"{OF_SESSION}ended, {SOCKET}, (?P<reason>.+), after \d+ ms, (?P<packets>\d+) packets, \d+ bytes, \d+ lost, \d+ resent(?:, clock drift .+)?",
      Journal.ended),

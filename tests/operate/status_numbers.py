@@ -6,7 +6,7 @@ from typing import Any, Iterator
 from lines import NAMES
 from page import Metrics
 
-CODES = (1002, 1003, 1004, 1008, 1011, 1012, 1014, 1015)
+CODES = (1002, 1003, 1004, 1008, 1010, 1011, 1012, 1014, 1015)
 # What sessions count, by their role: `NAME_total` in the JSON, `srtgw_route_NAME_total` and `srtgw_session_NAME_total` in the metrics.
 NAMES_OF = {
     "publisher": ("received_packets", "received_bytes", "delivered_packets", "repeated_packets", "late_packets", "ahead_packets",

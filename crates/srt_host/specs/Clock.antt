@@ -1,9 +1,8 @@
 -- The routes' clock (our choice).
-use Rattle.std.specs.Prelude.{◌≡◌, ℕ, ◌/◌, ◌%◌, List, [], ◌∷◌, Option, None, Some, option_map}
+use Rattle.std.specs.Prelude.{◌≡◌, ℕ, ◌/◌, ◌%◌, List, [], ◌∷◌, Option, None, Some}
 use Rattle.std.specs.declared.time.Instant.{Instant}
 use Rattle.srt_procfs.specs.Notes.{Note}
 use Rattle.srt_host.specs.declared.clock.Since.{Since}
-use Rattle.srt_host.specs.declared.clock.Elapsed.{Elapsed}
 use Rattle.srt_host.specs.Times.{time_after}
 
 -- the start from which it counts, if there is one

@@ -5,3 +5,4 @@ pub mod Hints
 pub mod Hosts
 pub mod Pages
 pub mod Times
+pub mod Watching

@@ -1,20 +1,27 @@
 //! The machine and the configuration's file, as a watcher uses them.
 
-ghost use Rattle.std.specs.Prelude.{◌≡◌, IfSome};
+ghost use Rattle.std.specs.Prelude.{◌≡◌, None, codes, IfSome};
 ghost use Rattle.srt_procfs.specs.Drops.{AreDrops};
+ghost use Rattle.srt_procfs.specs.Process.{processor_time_in, most_descriptors_in, AreOpen, IsStart};
+ghost use Rattle.srt_procfs.specs.Readings.{IsTold};
 
 use crate::clock::Since;
+use crate::socket::ServedSocket;
 use crate::times::time_now;
 use srt_config::BindAddress;
 use srt_offline::read_configuration;
-use srt_procfs::{KernelFiles, kernel_drops, resident_memory, stop_requested};
+use srt_procfs::{
+    KernelFiles, kernel_drops, most_descriptors, open_descriptors, processor_time, resident_memory,
+    start_time, stop_requested,
+};
+use srt_status::ProcessUse;
 use srt_watch::{ConfigFile, FileStamp, MAX_REASON, Machine};
 use std::fmt::InlineText;
 use std::fs::{Metadata, metadata};
 use std::os::unix::fs::MetadataExt;
 use std::rt::Files;
 use std::thread;
-use std::time::{Clock, Duration, Instant};
+use std::time::{Clock, Duration};
 
 /// The time that a watcher sleeps between two polls, in milliseconds.
 const REST_MS: u64 = 20;
@@ -28,21 +35,28 @@ pub struct Host<'a, R> {
     rt: &'a R,
     since: Since<'a, R>,
     bind: BindAddress,
+    receive_buffer: Option<u64>,
+    // the start of the process, in microseconds since 1970
+    began: Option<u64>,
 }
 
-impl<'a, R: Clock> Host<'a, R> {
+impl<'a, R: Clock + KernelFiles + AllocGlobal> Host<'a, R> {
     ghost use Rattle.srt_host.specs.Clock.{start_of, last_of};
-    ghost use Rattle.srt_host.specs.Hosts.{bind_of, since_of};
+    ghost use Rattle.srt_host.specs.Hosts.{bind_of, since_of, buffer_of, began_of};
 
-    /// Returns the machine of a gateway that started at `start`, with its socket at this address.
-    pub fn new(rt: &'a R, start: Option<Instant>, bind: BindAddress) -> Host<'a, R>
-        ensures start { (start_of (since_of result) ≡ start) × (last_of (since_of result) ≡ 0) }
+    /// Returns the machine of a gateway with this socket, which is at this address.
+    pub fn new(rt: &'a R, socket: ServedSocket, bind: BindAddress) -> Host<'a, R>
+        ensures start { (start_of (since_of result) ≡ socket.start) × (last_of (since_of result) ≡ 0) }
         ensures bind { bind_of result ≡ bind }
+        ensures buffer { buffer_of result ≡ socket.receive_buffer }
+        ensures began { IsStart R.reading R.was_refused R.was_full (began_of result) }
     {
         Host {
             rt,
-            since: Since::new(rt, start),
+            since: Since::new(rt, socket.start),
             bind,
+            receive_buffer: socket.receive_buffer,
+            began: start_time(rt),
         }
     }
 }
@@ -52,6 +66,23 @@ fn drops_at<F: KernelFiles + AllocGlobal>(files: &F, bind: BindAddress) -> Optio
     ensures { AreDrops F.reading F.was_refused F.was_full bind.ip bind.port result }
 {
     kernel_drops(files, bind.ip, bind.port)
+}
+
+/// What the process uses, if it began at this time.
+fn process_use<F: KernelFiles + AllocGlobal>(files: &F, began: Option<u64>) -> ProcessUse
+    ensures processor { IsTold F.reading F.was_refused (codes "/proc/self/stat") 4_096
+        (result.cpu_micros ≡ None) (λ text. result.cpu_micros ≡ processor_time_in text) }
+    ensures open { AreOpen F.reading F.was_refused F.was_full result.open_descriptors }
+    ensures most { IsTold F.reading F.was_refused (codes "/proc/self/limits") 4_096
+        (result.most_descriptors ≡ None) (λ text. result.most_descriptors ≡ most_descriptors_in text) }
+    ensures began { result.started_micros ≡ began }
+{
+    ProcessUse {
+        cpu_micros: processor_time(files),
+        open_descriptors: open_descriptors(files),
+        most_descriptors: most_descriptors(files),
+        started_micros: began,
+    }
 }
 
 impl Machine for Host<'_, HostRuntime> {
@@ -81,6 +112,14 @@ impl Machine for Host<'_, HostRuntime> {
 
     fn drops(&self) -> Option<u64> {
         drops_at(self.rt, self.bind)
+    }
+
+    fn process(&self) -> ProcessUse {
+        process_use(self.rt, self.began)
+    }
+
+    fn receive_buffer(&self) -> Option<u64> {
+        self.receive_buffer
     }
 }
 

@@ -1,14 +1,12 @@
 -- Finding all KMREQ blocks is finding the first and then the others, for any sufficient bound on their number.
 use Rattle.std.proofs.Common.{◌≡◌, ◌∙◌, ℕ, zero, suc, ◌≤◌, ◌<◌, Bool, true, false, List, [], ◌∷◌, length, drop, refl, sym, ap, length-drop, arith}
-use Rattle.srt_hs.specs.Grammar.{length_of, after_block}
+use Rattle.srt_hs.specs.Grammar.{after_block}
 use Rattle.srt_hs.specs.KeyRequest.{Asked, begins_with_block, with_first_request, with_requests, requests_in, key_request_in}
+use Rattle.srt_hs.proofs.Steps.{after_shorter}
 use Rattle.srt_types.specs.Words.{word_at}
 use Rattle.std.proofs.lemmas.Bool.Decides.{nat_tests}
 use Rattle.std.proofs.lemmas.Bool.{cond-true, cond-false}
 use Rattle.std.specs.Prelude.{if◌then◌else◌}
-
-after_shorter : (b : ℕ) (bytes : List ℕ) → length (after_block (b ∷ bytes)) ≤ length bytes
-after_shorter b bytes = omega (arith, length-drop (length_of (b ∷ bytes)) (drop 4 (b ∷ bytes)), length-drop 4 (b ∷ bytes))
 
 -- all bounds of at least the number of bytes have the same result
 enough : (m n : ℕ) (before : Asked) (bytes : List ℕ) → length bytes ≤ m → length bytes ≤ n →

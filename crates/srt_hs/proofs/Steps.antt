@@ -12,7 +12,7 @@ same_then : {A B : Type 0} (r : Result A HsFault) (f g : A → Result B HsFault)
 same_then (Ok x) f g h = h x
 same_then (Err e) f g h = refl
 
-after_shorter : (b : ℕ) (bytes : List ℕ) → length (after_block (b ∷ bytes)) ≤ length bytes
+pub after_shorter : (b : ℕ) (bytes : List ℕ) → length (after_block (b ∷ bytes)) ≤ length bytes
 after_shorter b bytes = omega (arith, length-drop (length_of (b ∷ bytes)) (drop 4 (b ∷ bytes)), length-drop 4 (b ∷ bytes))
 
 -- all bounds of at least the number of bytes have the same result

@@ -10,8 +10,8 @@
 //! `contents.rt`, copy the contents of two blocks.
 //!
 //! Encoding: fill an [`HsAnswer`] with an [`AnswerKind`] and [`write`] it, or [`write_with_keys`] if the session has keys,
-//! all in `writing.rt`. [`RefusalCode`], in
-//! `refusal_codes.rt`, lists each reason for a refusal with its causes.
+//! all in `writing.rt`; the
+//! flags of an HSRSP are in `response_flags.rt`. [`RefusalCode`], in `refusal_codes.rt`, lists each reason for a refusal with its causes.
 //!
 //! Keys: [`key_request`] (`key_requests.rt`) finds the KMREQ block in the same bytes. [`read_key_message`] and
 //! [`write_key_message`] (`key_reading.rt`) read its contents as a [`KeyMessageRef`] (`key_message.rt`), or return the first
@@ -29,6 +29,7 @@ mod key_requests;
 pub mod laws;
 mod reading;
 mod refusal_codes;
+mod response_flags;
 mod writing;
 
 pub use contents::{congestion, stream_id};

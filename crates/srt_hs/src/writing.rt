@@ -2,11 +2,12 @@
 
 ghost use Rattle.std.specs.Prelude.{◌≡◌, ℕ, ◌+◌, ◌*◌, ◌≤◌, ◌++◌, length, take, drop, Some};
 ghost use Rattle.srt_hs.specs.View.{text_words};
-ghost use Rattle.srt_hs.specs.Text.{answer_text, answer_with, encryption_text, flags_of, hsrsp_text, kmrsp_text, congestion_text};
+ghost use Rattle.srt_hs.specs.Text.{answer_text, answer_with, encryption_text, hsrsp_text, kmrsp_text, congestion_text};
 
 use crate::CongestionText;
 use crate::refusal_codes::{RefusalCode, code};
-use srt_types::protocol_limits::{MAX_ANSWER, MAX_ANSWER_WITH_KEYS};
+use crate::response_flags::flags;
+use srt_types::protocol_limits::{MAX_ANSWER, MAX_ANSWER_WITH_KEYS, MAX_MTU};
 use srt_types::{Mode, write_at, write_words};
 
 /// The kind of an answer, and its content apart from the initial number. The other fields of the 48 bytes are fixed:
@@ -81,15 +82,6 @@ fn write_fields(fields: Fields, out: &mut [u8]) -> usize
     write_at(out, end, &[0; 16])
 }
 
-fn flags(mode: Mode) -> u32
-    ensures { result ≡ flags_of mode }
-{
-    match mode {
-        Mode::Live => 0x3f,
-        Mode::Buffer => 0x74,
-    }
-}
-
 /// Returns the bytes of an HSRSP block; the delays are milliseconds (section 3.2.1.1).
 fn hsrsp(mode: Mode, recv_ms: u16, send_ms: u16) -> [u8; 16]
     ensures { result ≡ hsrsp_text mode recv_ms send_ms }
@@ -131,7 +123,7 @@ pub fn write(answer: &HsAnswer, out: &mut [u8; MAX_ANSWER]) -> usize
         encryption: 0,
         extension: 0,
         initial: answer.initial,
-        mtu: 1500,
+        mtu: MAX_MTU,
         window: 8192,
         kind: 1,
         id: 1,

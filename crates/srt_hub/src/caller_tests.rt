@@ -5,8 +5,8 @@ use crate::tests::{assert_floods, assert_sends, assert_sends_nothing, assert_tur
 use crate::{Arrived, Cause, Hub, SrtGateway, Ticked};
 use srt_cookie::Secret;
 use srt_samples::{
-    Acknowledged, Block, Caller, Handshake, Offer, Phase, Sample, conclusion, data_packet,
-    full_ack, handshake_packet, shutdown,
+    Acknowledged, Block, Caller, HSREQ, HSRSP, Sample, conclusion, conclusion_answer, data_packet,
+    full_ack, refusal, shutdown,
 };
 use srt_types::{Entry, Mode, OpenFault, Peer, Turned};
 use std::alloc::Global;
@@ -62,62 +62,19 @@ const THIRD: Call = Call {
 /// The first caller's cookie of minute 3.
 const COOKIE_3: u32 = 0xc3ac_78a5;
 
-const HSREQ: Block<'static> = Block::Request(Offer {
-    version: 0x1_0500,
-    flags: 0xbf,
-    receiver_ms: 120,
-    sender_ms: 120,
-});
-
 /// The blocks of a subscriber and of a publisher.
 pub(crate) const REQUESTS: [Block<'static>; 2] = [HSREQ, Block::StreamId("studio")];
 
 const PUBLISHES: [Block<'static>; 2] = [HSREQ, Block::StreamId("#!::r=studio,m=publish")];
 
-/// The block of an answer.
-const RESPONSE: [Block<'static>; 1] = [Block::Response(Offer {
-    version: 0x1_0500,
-    flags: 0x3f,
-    receiver_ms: 120,
-    sender_ms: 120,
-})];
-
 /// The answer to this call with this session ID, of a route with a window of this many packets.
 pub(crate) fn agreed<'a>(call: &Call, window: u32, session: u32) -> Sample<'a> {
-    handshake_packet(
-        Handshake {
-            version: 5,
-            fields: 1,
-            initial: call.caller.initial,
-            mtu: 1500,
-            window,
-            phase: Phase::Conclusion,
-            id: session,
-            cookie: 0,
-            address: 0,
-        },
-        &RESPONSE,
-    )
-    .to(call.caller.id)
+    conclusion_answer(call.caller.initial, window, session, &[HSRSP]).to(call.caller.id)
 }
 
 /// The answer of 1002 to this call.
 pub(crate) fn refused<'a>(call: &Call) -> Sample<'a> {
-    handshake_packet(
-        Handshake {
-            version: 5,
-            fields: 0,
-            initial: call.caller.initial,
-            mtu: 1500,
-            window: 8192,
-            phase: Phase::Refused(1002),
-            id: 1,
-            cookie: 0,
-            address: 0,
-        },
-        &[],
-    )
-    .to(call.caller.id)
+    refusal(call.caller.initial, 1002).to(call.caller.id)
 }
 
 /// The socket ID of the first route's first session, and of the second route's.

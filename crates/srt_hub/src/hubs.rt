@@ -12,6 +12,7 @@ use crate::parts::{Doors, Lobby, RouteStep};
 use srt_cookie::Secret;
 use srt_lobby::{Cause, Class};
 use srt_types::product_limits::MAX_ROUTES;
+use srt_types::protocol_limits::MAX_DATAGRAM;
 use srt_types::{Entry, Item, OpenFault, Peer, Turned};
 use std::alloc::Global;
 
@@ -165,7 +166,7 @@ impl<R: RouteStep, L: Lobby> Hub<R, L> {
     /// Removes the oldest reply from the outbox of route `r` and writes its packet to the front of `out`. Returns its
     /// receiver and its length in bytes; None if the outbox is empty. The rest of `out` doesn't change. Doesn't
     /// allocate.
-    pub fn send(&mut self, r: usize, out: &mut [u8; 1472]) -> Option<(Peer, usize)>
+    pub fn send(&mut self, r: usize, out: &mut [u8; MAX_DATAGRAM]) -> Option<(Peer, usize)>
         requires { r < ⟦<Hub<R, L> as Gateway>⟧.routes self.old }
         ensures stands { Happened ⟦<Hub<R, L> as Gateway>⟧.stands self.old self.new (Sends r) }
         ensures answer { RouteAnswers ⟦<Hub<R, L> as Gateway>⟧.stands self.old L.class R.reply r first_out (datagram_at out.new result) }

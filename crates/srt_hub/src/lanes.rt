@@ -8,6 +8,7 @@ ghost use Rattle.srt_packet.specs.Held.{IsPacketOrNothing};
 use crate::items::Timely;
 use crate::parts::RouteStep;
 use srt_route::{Reply, blank_boxes};
+use srt_types::protocol_limits::MAX_DATAGRAM;
 use srt_types::{Entry, OpenFault, Peer, Turned};
 use std::alloc::Global;
 use std::collections::VecDeque;
@@ -117,7 +118,7 @@ impl<R: RouteStep> Lane<R> {
 
     /// Removes the oldest reply from the outbox and writes its packet to the front of `out`. Returns its receiver and
     /// its length in bytes; None if the outbox is empty.
-    pub fn send(&mut self, out: &mut [u8; 1472]) -> Option<(Peer, usize)>
+    pub fn send(&mut self, out: &mut [u8; MAX_DATAGRAM]) -> Option<(Peer, usize)>
         ensures stands { LaneBecomes ⟦<Lane<R> as Standing>⟧.is self.old self.new (λ e r m. sent_from m) }
         ensures answer { LaneAnswers ⟦<Lane<R> as Standing>⟧.is self.old first_out (datagram_at out.new result) }
         ensures within { IfSome result (λ sent. sent.1 ≤ 1472) }

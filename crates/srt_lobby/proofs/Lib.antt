@@ -6,6 +6,9 @@ pub mod Refusing
 pub mod Bytes
 pub mod Changing
 pub mod Tables
+pub mod Replacing
+pub mod ReplacedClasses
+pub mod InForce
 pub mod Rows
 pub mod HiddenNames
 pub mod Appending

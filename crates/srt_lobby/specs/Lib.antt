@@ -1,6 +1,7 @@
 pub mod Numbers
 pub mod Opening
 pub mod RouteNames
+pub mod ListsAndKeys
 pub mod Tables
 pub mod Names
 pub mod Keys
@@ -8,3 +9,5 @@ pub mod Lobby
 pub mod Causes
 pub mod Laws
 pub mod Changing
+pub mod Replacing
+pub mod InForce

@@ -5,6 +5,9 @@ ghost use Rattle.srt_lobby.specs.Changing.{ShowingKeepsOthers, HiddenHasNone, Di
 ghost use Rattle.srt_lobby.specs.Laws.{NamesAreDistinct, RouteIsItsOwn, RouteIsNamed, RouteIsShown, RouteHasHeader, AnswerIsPacket};
 ghost use Rattle.srt_lobby.specs.Laws.{RouteIsForCallers, RouteIsKeyed};
 ghost use Rattle.srt_lobby.specs.Causes.{CauseRefuses, RefusalHasCause};
+ghost use Rattle.srt_lobby.specs.Replacing.{ReplacedAsOpened, ReplacingKeepsClasses, ReplacingKeepsOthers, ReplacedDecide, StrangersAreNotHeard};
+ghost use Rattle.srt_lobby.specs.Replacing.{ReplacingKeepsNames, ReplacingAndMarkingCommute, LaterReplacementCounts};
+ghost use Rattle.srt_lobby.specs.InForce.{LastGivenAreInForce, LastGivenDecide, ClassesAreByNamesInForce};
 
 /// Entries that can be opened have distinct names.
 pub fn names()
@@ -53,6 +56,30 @@ pub fn changing_names()
     ensures hidden { HiddenHasNone }
     ensures unused { DistinctAreUnused }
     ensures behind { HiddenChangeNothing }
+{}
+
+/// After the lists and keys of a route are replaced, each datagram has the class that it would have if the gateway had
+/// been opened with them. Only the class of a datagram that names this route can change, and each other route keeps its
+/// datagrams. No datagram of a sender outside of both new lists is for the route. Names stay distinct. A hidden route
+/// that is made visible has the new lists and keys, and of two replacements the later one counts.
+pub fn replacing_access()
+    ensures opened { ReplacedAsOpened }
+    ensures classes { ReplacingKeepsClasses }
+    ensures others { ReplacingKeepsOthers }
+    ensures decide { ReplacedDecide }
+    ensures strangers { StrangersAreNotHeard }
+    ensures names { ReplacingKeepsNames }
+    ensures marks { ReplacingAndMarkingCommute }
+    ensures later { LaterReplacementCounts }
+{}
+
+/// Whatever changes and datagrams there were, a route has the lists and keys that it was last given, and a datagram is for
+/// it only if these admit the sender. A datagram is classified by the names after the changes before it; those after it
+/// have no influence.
+pub fn names_in_force()
+    ensures given { LastGivenAreInForce }
+    ensures decide { LastGivenDecide }
+    ensures classes { ClassesAreByNamesInForce }
 {}
 
 /// Each answer of the lobby is the encoding of a handshake packet.

@@ -14,19 +14,27 @@
 //! neither `append` nor, once `is_unused` is true, `show` allocates. `refusal_cause` returns the reason for which a
 //! conclusion was refused, for a log. `is_taken` is for readers of configurations.
 //!
+//! The lists and keys of an open route are replaced so: another thread allocates a `NewAccess`, `Names::replace_access`
+//! puts it in force for the next datagram, and that thread drops the `ReplacedAccess`. Neither is allocated or freed by
+//! the thread that classifies.
+//!
 //! Files: `lobby.rt` has the checks in their order (docs/PROTOCOL.md, "Where a datagram goes"): destination, handshake,
 //! cookie; `refusals.rt` those of a conclusion: 1008, 1004, 1011, 1014, 1015 and 1002, and 1011 again for keys that a
-//! secured role lacks. `classes.rt` has the classes and causes, `causes_for_monitoring.rt` the causes of a 1002, `names.rt` the names and
-//! their table, `new_name.rt` the name of a route to be added, `entry_faults.rt` the entries that a gateway can't be
-//! opened with, and `laws.rt` what is proved of all of it. The definition is `specs/Lobby.antt`.
+//! secured role lacks. `access_lists.rt` has the rule of packets to a session, whose sender has to be in a list. `classes.rt`
+//! has the classes and causes, `causes_for_monitoring.rt` the causes of a 1002, `names.rt` the names and their table,
+//! `new_name.rt` the name of a route to be added, `new_access.rt` the lists and keys that replace others, `entry_faults.rt`
+//! the entries that a gateway can't be opened with, and `laws.rt` what is proved of all of it. The definition is
+//! `specs/Lobby.antt`.
 #![tactic(auto)]
 
+mod access_lists;
 mod causes_for_monitoring;
 mod classes;
 mod entry_faults;
 pub mod laws;
 mod lobby;
 mod names;
+mod new_access;
 mod new_name;
 mod refusals;
 
@@ -35,6 +43,7 @@ pub use classes::{Cause, Class, LOBBY_ANSWER};
 pub use entry_faults::is_taken;
 pub use lobby::classify;
 pub use names::Names;
+pub use new_access::{NewAccess, ReplacedAccess};
 pub use new_name::NewName;
 
 #[cfg(test)]

@@ -11,12 +11,13 @@ ghost use Rattle.srt_hs.specs.KeyRequest.{key_request_in};
 ghost use Rattle.srt_hs.specs.Reading.{handshake_in};
 ghost use Rattle.srt_streamid.specs.Reading.{ask_in, key_of};
 ghost use Rattle.srt_cookie.specs.Cookie.{secret_bytes};
-ghost use Rattle.srt_lobby.specs.Names.{names_of, knows_caller_at};
+ghost use Rattle.srt_lobby.specs.Names.{names_of};
 ghost use Rattle.srt_lobby.specs.Lobby.{answer_bytes, answered as is_answered, refused as is_refused, reason_of, role_named, is_secured_role};
-ghost use Rattle.srt_lobby.specs.Lobby.{of_role, of_request, if_known};
+ghost use Rattle.srt_lobby.specs.Lobby.{of_role, of_request};
 ghost use Rattle.srt_lobby.specs.Causes.{requests_secured};
 ghost use Rattle.srt_lobby.specs.Lobby.{by_kind, of_conclusion, of_handshake, of_body, to_session, of_packet, class_of};
 
+use crate::access_lists::if_known;
 use crate::refusals::of_conclusion;
 use crate::{Cause, Class, LOBBY_ANSWER, Names};
 use srt_cookie::{Secret, cookie, minute_of, right};
@@ -82,19 +83,6 @@ fn of_info(secret: &Secret, names: &Names, peer: Peer, moment: u64, info: &[u8])
     match srt_hs::read(info) {
         Ok(hs) => of_handshake(secret, names, peer, moment, info, &hs),
         Err(_) => Class::Dropped(Cause::Handshake),
-    }
-}
-
-/// Returns the class of a packet from this sender for a visible route: the route's, if one of its lists contains the
-/// address.
-#[inline(always)]
-fn if_known(names: &Names, peer: Peer, route: usize) -> Class
-    ensures { result ≡ if_known (knows_caller_at (names_of names.now) route peer) route }
-{
-    if names.knows(route, peer) {
-        Class::Route(route)
-    } else {
-        Class::Dropped(Cause::NotAllowed)
     }
 }
 

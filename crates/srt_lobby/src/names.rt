@@ -11,6 +11,7 @@ ghost use Rattle.srt_lobby.specs.Keys.{has_keys_in};
 ghost use Rattle.srt_lobby.specs.Tables.{name_in, index_in, Enters, HasShown, HasNamed, HasTexts};
 
 use crate::entry_faults::fault;
+use crate::new_access::{NewAccess, ReplacedAccess, replace_rules};
 use crate::new_name::NewName;
 use indexmap::IndexMap;
 use srt_hs::{KeyRequest, key_request, read_key_message};
@@ -108,6 +109,7 @@ fn has_keys_in(access: &Access, role: Role, info: &[u8]) -> bool
 
 impl Names {
     ghost use Rattle.std.specs.Prelude.{◌↔◌, ◌++◌, ◌∷◌, [], true, None, Some, Err, IsTrue, IfOk, IfErr, OnOk, OnErr, slice_get};
+    ghost use Rattle.std.specs.Option.{option_map};
     ghost use Rattle.srt_types.specs.declared.shared.OpenFault.{OpenFault as TheFault};
     ghost use Rattle.srt_types.specs.Terms.{terms_of};
     ghost use Rattle.srt_lobby.specs.Opening.{are_names, fault_of};
@@ -116,6 +118,7 @@ impl Names {
     ghost use Rattle.srt_lobby.specs.Keys.{has_keys};
     ghost use Rattle.srt_streamid.specs.Reading.{key_of};
     ghost use Rattle.srt_lobby.specs.Changing.{fault_of_name, fault_of_adding, added, hidden_at, shown_at, IsUnused};
+    ghost use Rattle.srt_lobby.specs.ListsAndKeys.{lists_and_keys, replaced_at, new_access, replaced_access};
 
     /// Returns an empty table. Allocates space for 511 routes.
     fn empty(alloc: Global) -> Result<Names, AllocError>
@@ -327,5 +330,16 @@ impl Names {
     {
         turn(&mut self.latest, &self.routes[r].text, r);
         self.routes[r].is_shown = true;
+    }
+
+    /// Replaces the lists and keys of a route, visible or hidden, and returns those that it had. They decide from the
+    /// next datagram on, also for packets to sessions. Its passphrases and the length of its keys stay, and so do its
+    /// name and visibility and all other routes. Neither allocates nor frees memory.
+    pub fn replace_access(&mut self, r: usize, new: NewAccess) -> ReplacedAccess
+        requires { r < length (names_of self.old) }
+        ensures names { names_of self.new ≡ replaced_at (new_access new) r (names_of self.old) }
+        ensures replaced { Some (replaced_access result) ≡ option_map (λ name. lists_and_keys name.access) (slice_get (names_of self.old) r) }
+    {
+        replace_rules(&mut self.routes[r].access, new)
     }
 }

@@ -6,6 +6,7 @@ ghost use Rattle.std.specs.Prelude.{◌^◌, ◌<◌};
 mod appending;
 mod causes;
 mod keys;
+mod replacing;
 
 use crate::{Cause, Class, Names, classify};
 use srt_cookie::Secret;

@@ -16,7 +16,8 @@ pub const STEPS: usize = 120;
 /// A change between two snapshots of a route.
 #[derive(Clone, Copy, PartialEq, Eq)]
 pub enum Change {
-    /// The session that was open in this slot has ended, and the slot has another one: only the earlier snapshot has it.
+    /// The session that was open in this slot has ended, and the slot has another one. The later snapshot has its end if it was the last one
+    /// that ended there.
     Gone {
         /// The slot, from 0.
         slot: usize,
@@ -51,7 +52,7 @@ pub enum Change {
 }
 
 // Whether these are states of the same session.
-fn is_same_view(old: &SessionView, new: &SessionView) -> bool
+pub(crate) fn is_same_view(old: &SessionView, new: &SessionView) -> bool
     ensures { result ≡ is_same_view old.now new.now }
 {
     old.id == new.id && old.opened == new.opened

@@ -41,7 +41,7 @@ pub use line_limits::{LineAllowance, LineKind, LineShares};
 pub use objects::put_object;
 pub use repeats::{MAX_REPEATS, Refusal, RefusalRepeats, Repeat, Telling};
 pub use snapshots::{RouteSnapshot, SlotSession, slot_of};
-pub use telling::event_of;
+pub use telling::{end_between, event_of};
 pub use times::utc_text;
 pub use writing::{event_line, write_line};
 

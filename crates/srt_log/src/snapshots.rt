@@ -49,6 +49,8 @@ pub struct RouteSnapshot {
     pub stops: bool,
     /// In each slot the session that opened there last; `None` if there was none.
     pub slots: [Option<SlotSession>; MAX_SESSIONS],
+    /// In each slot the session that ended there last, also if another one is open there now; `None` if none has ended.
+    pub ended: [Option<EndedSession>; MAX_SESSIONS],
     /// The sessions that opened so far.
     pub opened: u64,
 }

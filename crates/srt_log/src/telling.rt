@@ -2,12 +2,13 @@
 
 ghost use Rattle.std.specs.Prelude.{◌≡◌};
 ghost use Rattle.srt_log.specs.Snapshots.{counts_of, ppm_of, clock_after, clock_of, reason_of, latency_of};
-ghost use Rattle.srt_log.specs.Telling.{session_at, caller_of, stands_by, opened_event, ended_event, gone_event, took_over_event, troubled_event, event_of};
+ghost use Rattle.srt_log.specs.Telling.{session_at, last_end, if_same, end_between, caller_of, stands_by, opened_event, end_event, ended_event};
+ghost use Rattle.srt_log.specs.Telling.{gone_event, replaced_event, took_over_event, troubled_event, event_of};
 
-use crate::changes::Change;
+use crate::changes::{Change, is_same_view};
 use crate::events::{Caller, ClockDrift, EndReason, LogEvent, SessionCounts, Trouble};
 use crate::snapshots::{RouteSnapshot, SlotSession};
-use srt_route::{EndCause, SessionView, Traffic};
+use srt_route::{EndCause, EndedSession, SessionView, Traffic};
 use srt_types::Role;
 use srt_types::product_limits::MAX_SESSIONS;
 
@@ -110,6 +111,38 @@ fn session_at(snapshot: &RouteSnapshot, slot: usize) -> Option<SlotSession>
     }
 }
 
+// Returns the session that ended last in this slot.
+fn last_end(snapshot: &RouteSnapshot, slot: usize) -> Option<EndedSession>
+    ensures { result ≡ last_end snapshot.now slot }
+{
+    if slot < MAX_SESSIONS {
+        snapshot.ended[slot]
+    } else {
+        None
+    }
+}
+
+// Returns the end of this session, if the session that ended last in this slot is this one.
+fn end_of(snapshot: &RouteSnapshot, slot: usize, view: &SessionView) -> Option<EndedSession>
+    ensures { result ≡ if_same view.now (last_end snapshot.now slot) }
+{
+    let ended = last_end(snapshot, slot)?;
+    if is_same_view(view, &ended.view) {
+        Some(ended)
+    } else {
+        None
+    }
+}
+
+/// Returns the end of the session that the earlier of two snapshots has in a slot, if the later one has it as the last that ended there.
+/// `None` otherwise: others have ended there since, or it hasn't ended.
+pub fn end_between(old: &RouteSnapshot, new: &RouteSnapshot, slot: usize) -> Option<EndedSession>
+    ensures { result ≡ end_between old.now new.now slot }
+{
+    let session = session_at(old, slot)?;
+    end_of(new, slot, session.view())
+}
+
 // Returns a session as a line names it.
 fn caller_of<'a>(route: &'a [u8], view: &SessionView) -> Caller<'a>
     ensures { result ≡ caller_of route.entry view.now }
@@ -142,21 +175,26 @@ fn opened_event<'a>(route: &'a [u8], view: &SessionView) -> LogEvent<'a>
     }
 }
 
+// Returns the event of an end.
+fn end_event<'a>(route: &'a [u8], stops: bool, ended: &EndedSession) -> LogEvent<'a>
+    ensures { result ≡ end_event route.entry stops ended.now }
+{
+    let elapsed = ended.moment.saturating_sub(ended.view.opened);
+    LogEvent::Ended {
+        caller: caller_of(route, &ended.view),
+        reason: reason_of(stops, ended.cause),
+        lasted_ms: elapsed / 1000,
+        counts: counts_of(&ended.view.traffic),
+        clock: clock_of(&ended.view.traffic, elapsed),
+    }
+}
+
 fn ended_event<'a>(route: &'a [u8], stops: bool, session: &SlotSession) -> Option<LogEvent<'a>>
     ensures { result ≡ ended_event route.entry stops session.now }
 {
     match session {
         SlotSession::Open(_) => None,
-        SlotSession::Ended(ended) => {
-            let elapsed = ended.moment.saturating_sub(ended.view.opened);
-            Some(LogEvent::Ended {
-                caller: caller_of(route, &ended.view),
-                reason: reason_of(stops, ended.cause),
-                lasted_ms: elapsed / 1000,
-                counts: counts_of(&ended.view.traffic),
-                clock: clock_of(&ended.view.traffic, elapsed),
-            })
-        }
+        SlotSession::Ended(ended) => Some(end_event(route, stops, ended)),
     }
 }
 
@@ -171,6 +209,22 @@ fn gone_event<'a>(route: &'a [u8], view: &SessionView, moment: u64) -> LogEvent<
         lasted_ms: elapsed / 1000,
         counts: counts_of(&view.traffic),
         clock: clock_of(&view.traffic, elapsed),
+    }
+}
+
+// Returns the event of a session whose slot has another one since: by its end, if the later snapshot has that.
+fn replaced_event<'a>(
+    route: &'a [u8],
+    old: &RouteSnapshot,
+    new: &RouteSnapshot,
+    slot: usize,
+    view: &SessionView,
+) -> LogEvent<'a>
+    ensures { result ≡ replaced_event route.entry old.now new.now view.now (end_between old.now new.now slot) }
+{
+    match end_between(old, new, slot) {
+        Some(ended) => end_event(route, new.stops, &ended),
+        None => gone_event(route, view, old.moment),
     }
 }
 
@@ -193,7 +247,8 @@ fn troubled_event<'a>(route: &'a [u8], view: &SessionView, trouble: Trouble) -> 
 
 /// Returns the event of a change between two snapshots of the route of this name. `None` for a change of a slot that has
 /// no such session, which [`change_at`](crate::change_at) doesn't return for these snapshots. The event of a session whose
-/// slot has another session since has the counts of the earlier snapshot.
+/// slot has another session since has the cause, the time and the counts of its end, if it was the last one that ended there, and otherwise
+/// the counts of the earlier snapshot.
 pub fn event_of<'a>(
     route: &'a [u8],
     old: &RouteSnapshot,
@@ -205,7 +260,7 @@ pub fn event_of<'a>(
     match change {
         Change::Gone { slot } => {
             let session = session_at(old, slot)?;
-            Some(gone_event(route, session.view(), old.moment))
+            Some(replaced_event(route, old, new, slot, session.view()))
         }
         Change::Ended { slot } => {
             let session = session_at(new, slot)?;

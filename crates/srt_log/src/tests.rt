@@ -665,8 +665,16 @@ fn route(first: Option<SlotSession>, last: Option<SlotSession>, opened: u64) -> 
         moment: 4_000_007,
         stops: false,
         slots,
+        ended: [None; MAX_SESSIONS],
         opened,
     }
+}
+
+/// The same, in whose first slot this session ended last.
+fn route_after(end: EndedSession, route: RouteSnapshot) -> RouteSnapshot {
+    let mut after = route;
+    after.ended[0] = Some(end);
+    after
 }
 
 /// Asserts that these changes, and no others, come between two looks, in this order.
@@ -872,6 +880,35 @@ fn the_end_of_a_publisher_that_is_gone_has_its_clock(rt: HostRuntime) -> Result<
         &old,
         &new,
         "studio: publisher 192.0.2.7:50123 ended, socket 0x00000001, its slot was taken again, after 3000 ms, 0 packets, 0 bytes, 0 lost, 0 resent, clock drift -500 ppm, correction -1501 us\nstudio: publisher 192.0.2.7:50123 opened, socket 0x00000002, latency 120 ms\n",
+    )
+}
+
+#[test]
+fn the_end_of_a_session_whose_slot_is_taken_is_reported_if_it_was_the_last_one(
+    rt: HostRuntime,
+) -> Result<(), Fail> {
+    let old = route(Some(session(1, true)), None, 1);
+    let taken = route(Some(session(2, true)), None, 2);
+    let end = EndedSession {
+        view: view(1, true),
+        cause: EndCause::Silence,
+        moment: 12_007,
+    };
+    assert_reported(
+        &rt,
+        &old,
+        &route_after(end, taken),
+        "studio: publisher 192.0.2.7:50123 ended, socket 0x00000001, nothing arrived from its peer, after 12 ms, 0 packets, 0 bytes, 0 lost, 0 resent\nstudio: publisher 192.0.2.7:50123 opened, socket 0x00000002, latency 120 ms\n",
+    )?;
+    let other = EndedSession {
+        view: view(3, true),
+        ..end
+    };
+    assert_reported(
+        &rt,
+        &old,
+        &route_after(other, taken),
+        "studio: publisher 192.0.2.7:50123 ended, socket 0x00000001, its slot was taken again, after 4000 ms, 0 packets, 0 bytes, 0 lost, 0 resent\nstudio: publisher 192.0.2.7:50123 opened, socket 0x00000002, latency 120 ms\n",
     )
 }
 

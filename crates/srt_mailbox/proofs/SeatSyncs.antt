@@ -14,7 +14,7 @@ use Rattle.srt_mailbox.specs.contracts.seats.PollerEnds as ends
 use Rattle.srt_mailbox.specs.contracts.seats.ClockHand as hand
 use Rattle.srt_mailbox.specs.contracts.seats.SeatTag as tag
 use Rattle.srt_mailbox.specs.contracts.seats.Seat as seat
-use Rattle.srt_mailbox.specs.contracts.places.Place as place
+use Rattle.srt_mailbox.specs.contracts.added_seats.Place as place
 use Rattle.srt_mailbox.specs.contracts.readers.SeatReader as reader
 use Rattle.srt_mailbox.proofs.inbox.Ingress.TheSendSync as ingress_is
 use Rattle.srt_mailbox.proofs.inbox.ClockEnd.TheSendSync as clock_is

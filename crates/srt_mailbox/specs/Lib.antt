@@ -12,6 +12,7 @@ pub mod Visits
 pub mod Cells
 pub mod Looks
 pub mod Settled
+pub mod Taken
 pub mod Identities
 pub mod Seats
 pub mod Places

@@ -3,7 +3,7 @@ use Rattle.std.specs.Prelude.{◌≡◌, ℕ, List, map, length, Some, slice_get
 use Rattle.srt_mailbox.specs.Cells.{CellIdentity}
 use Rattle.srt_mailbox.specs.Identities.{identity_in}
 use Rattle.srt_mailbox.specs.declared.seats.Attachment.{Ghosts}
-use Rattle.srt_mailbox.specs.declared.places.Place.{Place}
+use Rattle.srt_mailbox.specs.declared.added_seats.Place.{Place}
 use Rattle.srt_mailbox.specs.declared.readers.SeatReader.{SeatReader}
 
 module _ {X : Type 0} {g : Ghosts X} where

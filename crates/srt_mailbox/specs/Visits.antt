@@ -51,10 +51,11 @@ VisitedAs v a b = (turns_of b ≡ turns_of a + v.turns) × (length b.outbox.put 
 abbrev pub nothing_done : Visit
 nothing_done = record { turns = 0; moved = 0; end = Some (Turned Idle) }
 
--- each turn of the visit is one for which the gate was asked about one route; or the gate was asked nothing, and the visit is that of an empty place
-abbrev pub QueriedOrEmpty : Visit → (old new : Option (List Answer)) → Type 0
-QueriedOrEmpty v old new = ((r : ℕ) × (new ≡ option_map (queried_in r v) old)) ⊎ ((new ≡ old) × (v ≡ nothing_done))
+-- Each turn of the visit is one for which the gate was asked about one route; or the gate was asked nothing, and the visit is that of an empty place, as
+-- the gate was told
+abbrev pub QueriedOrEmpty : (nobody : Type 0) → Visit → (old new : Option (List Answer)) → Type 0
+QueriedOrEmpty nobody v old new = ((r : ℕ) × (new ≡ option_map (queried_in r v) old)) ⊎ ((new ≡ old) × (v ≡ nothing_done) × nobody)
 
 -- the same of one turn
-abbrev pub QueriedOnceOrEmpty : Served → (old new : Option (List Answer)) → Type 0
-QueriedOnceOrEmpty s old new = ((r : ℕ) × (new ≡ option_map (queried_last r s) old)) ⊎ ((new ≡ old) × (s ≡ Turned Idle))
+abbrev pub QueriedOnceOrEmpty : (nobody : Type 0) → Served → (old new : Option (List Answer)) → Type 0
+QueriedOnceOrEmpty nobody s old new = ((r : ℕ) × (new ≡ option_map (queried_last r s) old)) ⊎ ((new ≡ old) × (s ≡ Turned Idle) × nobody)

@@ -1,15 +1,17 @@
 //! Finalising a route: consumes its four ends and returns the final counters.
 
-ghost use Rattle.std.specs.Prelude.{◌≡◌, IfOk, IfErr};
+ghost use Rattle.std.specs.Prelude.{◌≡◌, true, IfOk, IfErr};
 ghost use Rattle.srt_mailbox.specs.Cells.{AreEndsOf};
 ghost use Rattle.srt_mailbox.specs.Identities.{identity_in};
 ghost use Rattle.srt_mailbox.specs.Runs.{Replays};
 ghost use Rattle.srt_mailbox.specs.Settled.{IsAccountOf, Settles};
+ghost use Rattle.srt_mailbox.specs.Taken.{is_for_good};
 
 use crate::cells::RouteCell;
 use crate::inbox::{ClockEnd, Ingress};
 use crate::outbox::Drain;
 use crate::running::Running;
+use crate::slots::TakenElsewhere;
 use std::sync::Wait;
 
 /// The final counters of a route: messages processed, drained replies and what remains in its queues.
@@ -27,7 +29,7 @@ pub struct Account {
     pub drained: u64,
 }
 
-/// The error of `settle`: another call had claimed the route. Returns the four ends unchanged.
+/// The error of `settle`: another call had claimed the route. Returns the four ends unchanged, with evidence of that.
 #[derive(Drop)]
 pub struct Unsettled {
     /// The poller's end of the inbox.
@@ -38,6 +40,8 @@ pub struct Unsettled {
     pub cell: RouteCell,
     /// The end of the outbox.
     pub drain: Drain,
+    /// Evidence that another call had taken the route.
+    pub taken: TakenElsewhere,
 }
 
 impl Running {
@@ -75,14 +79,16 @@ pub fn settle<R: Wait>(
     requires { AreEndsOf (identity_in cell) ingress clock drain }
     ensures settled { IfOk result (λ account. Settles account (identity_in cell) ingress clock drain) }
     ensures busy { IfErr result (λ ends. (ends.ingress ≡ ingress) × (ends.clock ≡ clock) × (ends.cell ≡ cell) × (ends.drain ≡ drain)) }
+    ensures taken { IfErr result (λ ends. is_for_good ends.taken ≡ true) }
 {
-    match cell.into_running() {
-        Ok(running) => Ok(running.settle(rt, ingress, clock, drain)),
-        Err(cell) => Err(Unsettled {
+    match cell.into_route() {
+        Ok(route) => Ok(route.settle(rt, ingress, clock, drain)),
+        Err((cell, taken)) => Err(Unsettled {
             ingress,
             clock,
             cell,
             drain,
+            taken,
         }),
     }
 }

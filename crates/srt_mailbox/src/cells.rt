@@ -1,20 +1,22 @@
 //! The cell in which workers find a route: the route and a claim word. A worker that finds the route claimed doesn't
 //! wait for it.
 
-ghost use Rattle.std.specs.Prelude.{◌≡◌, ◌≢◌, ◌≤◌, ℕ, Some, None, IfOk, IfErr, OnOk, option_map};
+ghost use Rattle.std.specs.Prelude.{◌≡◌, ◌≢◌, ◌≤◌, ℕ, true, Some, None, IfOk, IfErr, OnOk, option_map};
 ghost use Rattle.srt_types.specs.Terms.{terms_of};
 ghost use Rattle.srt_mailbox.specs.Counts.{Grew};
 ghost use Rattle.srt_mailbox.specs.Cells.{CellIdentity, Bears};
 ghost use Rattle.srt_mailbox.specs.Looks.{WasShown};
+ghost use Rattle.srt_mailbox.specs.Taken.{is_for_good};
 ghost use Rattle.srt_mailbox.specs.declared.gates.Served.TheVariants.{GateRefused, ClaimedElsewhere};
 
-use crate::claims::{Claimed, GivenBack};
+use crate::added_seats::EmptyPlace;
 use crate::gates::{Gate, Served, Visit};
 use crate::inbox_rule::Inbox;
 use crate::observer::Observer;
 use crate::outbox_rule::Outbox;
-use crate::places::EmptyPlace;
 use crate::running::Running;
+use crate::slots::claims::{Claimed, GivenBack};
+use crate::slots::taken_route::TakenRoute;
 use crate::slots::{TakenElsewhere, take_out};
 use counted_slot::{Counted, Fits};
 use srt_types::Entry;
@@ -90,8 +92,8 @@ impl RouteCell {
     fn claim(&self) -> Result<Claimed, TakenElsewhere>
         ensures { IfOk result (λ c. Bears (identity_in self.now) c.was × (c.now ≡ c.was)) }
     {
-        match take_out(&self.slot) {
-            Ok(boxed) => Ok(Claimed::new(boxed)),
+        match take_out(&self.slot, false) {
+            Ok(out) => Ok(Claimed::new(out)),
             Err(elsewhere) => Err(elsewhere),
         }
     }
@@ -103,26 +105,28 @@ impl RouteCell {
         self.index
     }
 
-    /// Takes the route out for good: to every later call the route is claimed elsewhere. The error is evidence that another
-    /// call has it. Never waits.
-    pub(crate) fn take(&self) -> Result<Running, TakenElsewhere>
-        ensures { IfOk result (λ running. Bears (identity_in self.now) running) }
+    /// Takes the route out for good: to every later call the route is claimed elsewhere. It has to be settled. The error is
+    /// evidence that another call has it. Never waits.
+    pub(crate) fn take(&self) -> Result<TakenRoute, TakenElsewhere>
+        ensures route { IfOk result (λ route. Bears (identity_in self.now) route) }
+        ensures taken { IfErr result (λ e. is_for_good e ≡ true) }
     {
-        match take_out(&self.slot) {
-            Ok(boxed) => Ok(Box::into_inner(boxed.running)),
+        match take_out(&self.slot, true) {
+            Ok(out) => Ok(TakenRoute::new(out)),
             Err(elsewhere) => Err(elsewhere),
         }
     }
 
-    /// Consumes the cell and returns its route. If another call has the route, the cell is returned unchanged. Never
-    /// waits.
-    pub fn into_running(self) -> Result<Running, RouteCell>
-        ensures route { IfOk result (λ running. Bears (identity_in self) running) }
-        ensures busy { IfErr result (λ cell. cell ≡ self) }
+    /// Consumes the cell and returns its route, which has to be settled. If another call has the route, the cell is returned
+    /// unchanged, with evidence of that. Never waits.
+    pub fn into_route(self) -> Result<TakenRoute, (RouteCell, TakenElsewhere)>
+        ensures route { IfOk result (λ route. Bears (identity_in self) route) }
+        ensures busy { IfErr result (λ back. back.0 ≡ self) }
+        ensures taken { IfErr result (λ back. is_for_good back.1 ≡ true) }
     {
         match self.take() {
-            Ok(running) => Ok(running),
-            Err(_) => Err(self),
+            Ok(route) => Ok(route),
+            Err(elsewhere) => Err((self, elsewhere)),
         }
     }
 
@@ -192,10 +196,14 @@ impl RouteCell {
     pub fn serve<R: Wait, G: Gate>(&self, rt: &R, gate: &mut G) -> Served
         ensures held { result ≡ GateRefused → Grew (G.held gate.old) (G.held gate.new) }
         ensures requested { G.requested gate.new ≡ option_map (queried_last (identity_in self.now).index result) (G.requested gate.old) }
+        ensures elsewhere { result ≡ ClaimedElsewhere → G.elsewhere gate.new (identity_in self.now).index }
     {
         match self.serve_claimed(rt, gate) {
             Ok((served, _)) => served,
-            Err(_) => Served::ClaimedElsewhere,
+            Err(taken) => {
+                gate.is_elsewhere(self.index, taken);
+                Served::ClaimedElsewhere
+            }
         }
     }
 }
@@ -247,7 +255,7 @@ pub trait Serve {
 impl Serve for RouteCell {
     ghost use Rattle.srt_mailbox.specs.Identities.{identity_in};
     ghost use Rattle.srt_mailbox.specs.Looks.{IsRouteWith};
-    ghost use Rattle.srt_mailbox.specs.Visits.{queried_in};
+    ghost use Rattle.srt_mailbox.specs.Visits.{queried_in, queried_last};
 
     ghost holds = { λ cell route waiting. IsRouteWith (identity_in cell) route waiting };
 
@@ -262,18 +270,26 @@ impl Serve for RouteCell {
         ensures passed { result.end ≢ Some GateRefused → G.held gate.new ≡ G.held gate.old }
         ensures busy { result.end ≡ Some ClaimedElsewhere → (result.turns ≡ 0) × (gate.new ≡ gate.old) }
         ensures requested { G.requested gate.new ≡ option_map (queried_in (identity_in self.now).index result) (G.requested gate.old) }
+        ensures elsewhere { result.end ≡ Some ClaimedElsewhere → G.elsewhere gate.new (identity_in self.now).index }
     {
         match self.visit_claimed(rt, gate, most) {
             Ok((visit, _)) => visit,
-            Err(_) => Visit {
-                turns: 0,
-                moved: 0,
-                end: Some(Served::ClaimedElsewhere),
-            },
+            Err(taken) => {
+                gate.is_elsewhere(self.index, taken);
+                Visit {
+                    turns: 0,
+                    moved: 0,
+                    end: Some(Served::ClaimedElsewhere),
+                }
+            }
         }
     }
 
-    fn serve<R: Wait, G: Gate>(&self, rt: &R, gate: &mut G) -> Served {
+    fn serve<R: Wait, G: Gate>(&self, rt: &R, gate: &mut G) -> Served
+        ensures held { result ≡ GateRefused → Grew (G.held gate.old) (G.held gate.new) }
+        ensures requested { G.requested gate.new ≡ option_map (queried_last (identity_in self.now).index result) (G.requested gate.old) }
+        ensures elsewhere { result ≡ ClaimedElsewhere → G.elsewhere gate.new (identity_in self.now).index }
+    {
         RouteCell::serve(self, rt, gate)
     }
 

@@ -1,20 +1,17 @@
 //! Readers of the places of routes, in order. Each owner of ends has one: the poller, and the clock's thread.
 
 ghost use Rattle.std.specs.Prelude.{◌≡◌, ◌≤◌, ◌<◌, ℕ, List, [], ◌∷◌, ◌++◌, length, map, take, get_or, slice_get, Some};
-ghost use Rattle.std.specs.Prelude.{IfOk, IfErr, OnOk, vec_len, vec_capacity};
+ghost use Rattle.std.specs.Prelude.{IfOk, IfErr, vec_len, vec_capacity};
 ghost use Rattle.srt_mailbox.specs.Cells.{CellIdentity};
 ghost use Rattle.srt_mailbox.specs.Identities.{identity_in};
 ghost use Rattle.srt_mailbox.specs.Seats.{IsNewPoller, IsNewClock};
 
-use crate::places::{EmptyPlace, Place, token_in};
+use crate::added_seats::{EmptyPlace, Place, token_in};
+use crate::misplaced::{Misplaced, check_index};
 use crate::seats::{Attachment, ClockHand, PollerEnds, Seat};
-use crate::slots::{TakenElsewhere, take_out};
+use crate::slots::{TakenElsewhere, take_over};
 use std::alloc::{AllocError, Global};
 use std::sync::OnceToken;
-
-/// Evidence that a route has another index than the place that it is in.
-#[derive(Drop)]
-pub struct Misplaced(());
 
 /// Evidence that a reader found no further route, or no ends of it.
 #[derive(Drop)]
@@ -27,17 +24,6 @@ pub enum NoneSeated {
     Misplaced(Misplaced),
     /// Another call has taken the ends.
     Taken(TakenElsewhere),
-}
-
-// Checks that the route of this seat has this index. The error is evidence that it has another one.
-fn check_index<X: Attachment + Drop>(seat: &Seat<X>, index: usize) -> Result<(), Misplaced>
-    ensures { OnOk result ((identity_in seat.now.cell).index ≡ index) }
-{
-    if seat.cell.index() == index {
-        Ok(())
-    } else {
-        Err(Misplaced(()))
-    }
 }
 
 /// One owner's reader of places. It reaches the routes one after the other.
@@ -120,7 +106,7 @@ impl<'a, X: Attachment + Drop> SeatReader<'a, X> {
         ensures places { places_of self.new ≡ places_of self.old }
     {
         let (seat, token) = self.coming()?;
-        match take_out(&seat.poller) {
+        match take_over(&seat.poller) {
             Ok(ends) => {
                 self.pass(token);
                 Ok(ends)
@@ -138,7 +124,7 @@ impl<'a, X: Attachment + Drop> SeatReader<'a, X> {
         ensures places { places_of self.new ≡ places_of self.old }
     {
         let (seat, token) = self.coming()?;
-        match take_out(&seat.clock) {
+        match take_over(&seat.clock) {
             Ok(hand) => {
                 self.pass(token);
                 Ok(hand)

@@ -1,7 +1,7 @@
 //! Seats: each has one route added at run time, with its ends until their owners take them. The thread that opens a
 //! route has no access to the owners' threads; it leaves the ends here, and each owner takes its own.
 
-ghost use Rattle.std.specs.Prelude.{◌≡◌, ℕ, Some, None, Err, IfOk, IfErr};
+ghost use Rattle.std.specs.Prelude.{◌≡◌, ℕ, true, Some, None, Err, IfOk, IfErr};
 ghost use Rattle.srt_types.specs.declared.shared.OpenFault.{OpenFault as TheFault};
 ghost use Rattle.srt_types.specs.Terms.{Terms, terms_of};
 ghost use Rattle.srt_route.specs.Opening.{fault_of};
@@ -10,6 +10,7 @@ ghost use Rattle.srt_mailbox.specs.Identities.{identity_in};
 ghost use Rattle.srt_mailbox.specs.Seats.{IsNewPoller, IsNewClock};
 ghost use Rattle.srt_mailbox.specs.Looks.{WasShown};
 ghost use Rattle.srt_mailbox.specs.Settled.{Settles};
+ghost use Rattle.srt_mailbox.specs.Taken.{is_for_good};
 
 use crate::accounts::Account;
 use crate::cells::RouteCell;
@@ -17,7 +18,7 @@ use crate::inbox::{ClockEnd, Ingress};
 use crate::observer::Observer;
 use crate::openings::open_route;
 use crate::outbox::Drain;
-use crate::slots::TakenElsewhere;
+use crate::slots::{Handed, TakenElsewhere};
 use counted_slot::{Counted, Fits};
 use srt_types::{Entry, OpenFault};
 use std::alloc::Global;
@@ -63,6 +64,8 @@ impl<X: Attachment + Drop> Fits for PollerEnds<X> {
     ghost fits = { λ n e. IsNewPoller n e.ingress e.drain × X.belongs n.terms n.index e.companion };
 }
 
+impl<X: Attachment + Drop> Handed for PollerEnds<X> {}
+
 /// The clock's end of an added route.
 #[derive(Drop)]
 pub struct ClockHand {
@@ -75,6 +78,8 @@ impl Fits for ClockHand {
 
     ghost fits = { λ n h. IsNewClock n h.end };
 }
+
+impl Handed for ClockHand {}
 
 /// An added route, and its ends until the poller and the clock's thread take them.
 #[derive(Drop)]
@@ -138,11 +143,12 @@ impl<X: Attachment + Drop> Seat<X> {
         requires { AreEndsOf (identity_in self.now.cell) ingress clock drain }
         ensures settled { IfOk result (λ a. (s : Settles a (identity_in self.now.cell) ingress clock drain) × WasShown s.route (L.noted look.old look.new)) }
         ensures busy { IfErr result (λ _. look.new ≡ look.old) }
+        ensures taken { IfErr result (λ e. is_for_good e ≡ true) }
     {
         match self.cell.take() {
-            Ok(running) => {
-                running.show(look);
-                Ok(running.settle(rt, ingress, clock, drain))
+            Ok(route) => {
+                route.show(look);
+                Ok(route.settle(rt, ingress, clock, drain))
             }
             Err(elsewhere) => Err(elsewhere),
         }

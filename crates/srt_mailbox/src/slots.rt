@@ -1,12 +1,15 @@
 //! Moves a value out of a slot and back. The functions are generic over the value's type, of which they don't know that
-//! it may be dropped: so no body of theirs loses a value.
+//! it may be dropped: so no body of theirs loses a value. What was taken out is a `TakenOut`, which has no `Drop` either.
 
-ghost use Rattle.std.specs.Prelude.{◌≡◌, ◌≢◌, IfSome, IfOk};
+ghost use Rattle.std.specs.Prelude.{◌≡◌, ◌≢◌, IfSome, IfOk, IfErr};
 ghost use Rattle.srt_mailbox.specs.inside.Slots.{word_of};
 
 use counted_slot::{Claim, Counted, FREE, Fits, PRESENT, TAKEN};
 use std::snapshot::Snapshot;
 use std::sync::Wait;
+
+pub(crate) mod claims;
+pub(crate) mod taken_route;
 
 // What a slot is left with, and the word for it.
 struct Content<X> {
@@ -44,26 +47,56 @@ impl<X> Drop for PutBack<X> {
 pub struct TakenElsewhere {
     // the word that was found
     found: u64,
+    // the call was to take the value out for good
+    for_good: bool,
     ghost taken: { found ≢ 0 },
 }
 
-/// Takes out what a slot holds. The error is evidence that another call has it. One compare-exchange; never waits.
+/// A value that was taken out of a slot. It has no `Drop`, and what is in it is private to this module and those below:
+/// `claims.rt` puts it back in the end, and `taken_route.rt` settles it. Only `take_out` makes any.
+pub(crate) struct TakenOut<X> {
+    value: X,
+}
+
+/// Values that their owner takes out of a slot for good, to have them.
+pub(crate) trait Handed {}
+
+/// Takes out what a slot holds: for good, or to put it back. The error is evidence that another call has it. One
+/// compare-exchange; never waits.
 #[inline(always)]
-pub(crate) fn take_out<X: Fits>(slot: &Counted<Option<X>>) -> Result<X, TakenElsewhere>
-    ensures { IfOk result (X.fits slot.now) }
+pub(crate) fn take_out<X: Fits>(
+    slot: &Counted<Option<X>>,
+    for_good: bool,
+) -> Result<TakenOut<X>, TakenElsewhere>
+    ensures fits { IfOk result (λ out. X.fits slot.now out.value) }
+    ensures taken { IfErr result (λ e. e.for_good ≡ for_good) }
 {
     let (found, claim) = slot.turn(FREE, TAKEN);
     if found != FREE {
         claim.done();
-        return Err(TakenElsewhere { found });
+        return Err(TakenElsewhere { found, for_good });
     }
     let content = Content {
         value: None,
         word: PRESENT,
     };
     match leave(claim, content) {
-        Some(value) => Ok(value),
-        None => Err(TakenElsewhere { found: PRESENT }),
+        Some(value) => Ok(TakenOut { value }),
+        None => Err(TakenElsewhere {
+            found: PRESENT,
+            for_good,
+        }),
+    }
+}
+
+/// Takes out what a slot holds, for its owner to have. The error is evidence that another call has it.
+#[inline(always)]
+pub(crate) fn take_over<X: Fits + Handed>(slot: &Counted<Option<X>>) -> Result<X, TakenElsewhere>
+    ensures { IfOk result (X.fits slot.now) }
+{
+    match take_out(slot, true) {
+        Ok(TakenOut { value }) => Ok(value),
+        Err(elsewhere) => Err(elsewhere),
     }
 }
 

@@ -141,7 +141,9 @@ impl Boxes {
     /// in the stock or was returned. A drain that has more found the lock taken: the route had it then, and got a
     /// batch. Once the route has used that up, no other thread holds the lock against the drain, and its next poll of
     /// the outbox returns all that it has. This isn't proved, hence the loop.
-    pub fn empty_box<R: Wait>(&mut self, rt: &R) -> Box<Reply> {
+    pub fn empty_box<R: Wait>(&mut self, rt: &R) -> Box<Reply>
+        ensures { length self.old.stock.items ≤ length self.new.stock.items + 1 }
+    {
         for _ in rt.forever() {
             if let Some(place) = self.try_box() {
                 return place;

@@ -20,8 +20,8 @@ use crate::tests::datagrams::{
     subscriber_conclusion,
 };
 use crate::{
-    Account, BUFFER_ROOM, ClockEnd, Drain, Ingress, OfferFault, RouteCell, Serve, open_route,
-    settle,
+    Account, BUFFER_ROOM, ClockEnd, Drain, EmptyPlace, Ingress, OfferFault, RouteCell, Serve,
+    TakenElsewhere, open_route, settle,
 };
 use srt_route::{Reply, Route};
 use srt_samples::first_difference;
@@ -106,6 +106,10 @@ impl Gate for Fixed {
         }
         self.passes
     }
+
+    fn is_elsewhere(&self, _route: usize, _taken: TakenElsewhere) {}
+
+    fn seats_nobody(&self, _empty: EmptyPlace) {}
 
     fn held(&self) -> u64 {
         self.held
@@ -572,17 +576,17 @@ fn an_account_tells_where_all_is(rt: HostRuntime) -> Result<(), Fail> {
     assert_accounts(&rt, &ACCOUNTINGS)
 }
 
-/// A route that received one of two ticks is finalised by `Running::settle`. A tick causes no reply.
+/// A route that received one of two ticks is finalised by `TakenRoute::settle`. A tick causes no reply.
 #[test]
 fn an_account_tells_an_item_without_a_reply(rt: HostRuntime) -> Result<(), Fail> {
     let (ingress, mut clock, cell, drain) = studio(rt.alloc())?;
     assert!(rt; tick(&rt, &mut clock, 5));
     assert!(rt; tick(&rt, &mut clock, 6));
     assert_served(&rt, &cell, &[APPLIED]);
-    let Ok(running) = cell.into_running() else {
-        return Err(Fail::from("nobody has the route"));
+    let account = match cell.into_route() {
+        Ok(route) => route.settle(&rt, ingress, clock, drain),
+        Err(_) => return Err(Fail::from("nobody has the route")),
     };
-    let account = running.settle(&rt, ingress, clock, drain);
     assert_eq!(rt;
         account,
         Account {
@@ -798,6 +802,10 @@ impl Gate for Staying<'_> {
         wait_for(self.answered);
         true
     }
+
+    fn is_elsewhere(&self, _route: usize, _taken: TakenElsewhere) {}
+
+    fn seats_nobody(&self, _empty: EmptyPlace) {}
 
     fn held(&self) -> u64 {
         0

@@ -1,5 +1,7 @@
 -- How a command ends (our choice).
-use Rattle.std.specs.Prelude.{ℕ, ◌≡◌, Bool, true, false, Result, Ok, Err}
+use Rattle.std.specs.Prelude.{ℕ, ◌≡◌, Bool, true, false, List, Option, Result, Ok, Err, IfSome}
+use Rattle.std.specs.Fmt.{with_newline}
+use Rattle.std.specs.Io.KnownBytes.{Keeps, Appends}
 use Rattle.srt_command_line.specs.declared.words.WordsFault.{WordsFault}
 use Rattle.srt_command_line.specs.declared.words.WordsFault.TheVariants as words
 use Rattle.srt_replay.specs.declared.replaying.ReplayFault.{ReplayFault}
@@ -41,6 +43,16 @@ words_fault words.Output = Output
 abbrev pub status_after : {F : Type 0} → Result (Unit {0}) F → ℕ
 status_after (Ok done) = 0
 status_after (Err fault) = 1
+
+-- a line of this text is written behind what was there; or nothing is
+abbrev pub Prints : (has_line : Bool) → (text : Option (List ℕ)) → (old new : Option (List ℕ)) → Type 0
+Prints true text old new = IfSome (with_newline text) (Appends old new)
+Prints false text old new = Keeps old new
+
+-- the line of a command's fault is written, if it has one; nothing behind a command that ended well
+abbrev pub PrintsEnd : {F : Type 0} → (has_line : F → Bool) → (text : F → Option (List ℕ)) → Result (Unit {0}) F → (old new : Option (List ℕ)) → Type 0
+PrintsEnd has_line text (Ok done) old new = Keeps old new
+PrintsEnd has_line text (Err fault) old new = Prints (has_line fault) (text fault) old new
 
 -- a configuration's file is read, or it has one of these faults
 abbrev pub IsConfigFault : OfflineFault → Type 0

@@ -1,9 +1,11 @@
 //! `srtgw check`: whether a configuration is right, and what is told of it.
 
-ghost use Rattle.std.specs.Prelude.{◌≡◌, ◌≤◌, IfErr, IsUtf8, Err};
+ghost use Rattle.std.specs.Prelude.{◌≡◌, ◌≤◌, IfErr, OnOk, IsUtf8, Err, length};
+ghost use Rattle.std.specs.Io.KnownBytes.{Appends};
 ghost use Rattle.toml.specs.Parse.{parse_document};
 ghost use Rattle.srt_config.specs.FirstFault.{Gives};
 ghost use Rattle.srt_config.specs.Config.{settings_of, config_in};
+ghost use Rattle.srt_offline.specs.Configurations.{routes_line};
 ghost use Rattle.srt_offline.specs.Ends.{IsConfigFault, IsCheckFault};
 
 use crate::configurations::read_configuration;
@@ -11,6 +13,7 @@ use crate::faults::OfflineFault;
 use srt_config::{Config, ConfigFault, read_config};
 use srt_explain::{Explained, Faults, explain};
 use std::alloc::Global;
+use std::io::{self, Write};
 use std::rt::Files;
 use std::str;
 
@@ -90,12 +93,20 @@ pub fn explained_at(
     }
 }
 
+/// Writes the number of routes in a configuration as one line.
+#[tactic(auto, unfolding(crate::specs::Configurations::routes_line))]
+pub fn write_routes<W: Write>(out: &mut W, config: &Config) -> io::Result<()>
+    ensures { OnOk result (Appends (W.contents out.old) (W.contents out.new) (routes_line (length config.now.entries.items))) }
+{
+    let routes = config.entries.len();
+    writeln!(out, "routes {routes}")
+}
+
 /// Prints the number of routes in a configuration. The only error is an output that can't be written.
 pub fn print_routes(rt: &impl Print, config: &Config) -> Result<(), OfflineFault>
     ensures { IfErr result IsCheckFault }
 {
-    let routes = config.entries.len();
-    match println!(rt; "routes {routes}") {
+    match write_routes(&mut io::writer(rt), config) {
         Ok(()) => Ok(()),
         Err(_) => Err(OfflineFault::Output),
     }

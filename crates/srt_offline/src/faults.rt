@@ -4,10 +4,12 @@ ghost use Rattle.std.specs.Prelude.{◌≡◌};
 ghost use Rattle.std.specs.Process.{exit_status};
 ghost use Rattle.srt_offline.specs.Ends.{is_printed, status_after, words_fault};
 
+use crate::ending::{PrintedFault, write_end};
 use srt_command_line::WordsFault;
 use srt_config::ConfigFault;
 use srt_replay::ReplayFault;
 use srt_transcript::TranscriptFault;
+use std::io;
 use std::process::ExitCode;
 use thiserror::Error;
 
@@ -77,17 +79,18 @@ impl OfflineFault {
     }
 }
 
-/// The exit status of a command: 0, or 1 after a fault, whose line is printed.
+impl PrintedFault for OfflineFault {
+    ghost printed = { is_printed };
+
+    fn has_line(&self) -> bool {
+        self.is_printed()
+    }
+}
+
+/// The exit status of a command: 0, or 1 after a fault, whose line is printed on standard output.
 pub fn status_of(rt: &impl Print, ended: Result<(), OfflineFault>) -> ExitCode
     ensures { exit_status result ≡ status_after ended }
 {
-    match ended {
-        Ok(()) => ExitCode::SUCCESS,
-        Err(fault) => {
-            if fault.is_printed() {
-                let _ = rt.println(&fault);
-            }
-            ExitCode::FAILURE
-        }
-    }
+    let ending = write_end(&mut io::writer(rt), ended);
+    ending.status
 }

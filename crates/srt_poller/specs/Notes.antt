@@ -1,13 +1,10 @@
 -- What devices in memory note of their calls.
 use Rattle.std.specs.Prelude.{ℕ, List, ◌==◌, if◌then◌else◌, slice_index}
 use Rattle.srt_types.specs.declared.shared.Peer.{Peer}
+use Rattle.srt_journal.specs.Notes.{Note}
 use Rattle.srt_poller.specs.declared.devices.Sent.{Sent}
 use Rattle.srt_poller.specs.declared.devices.Sent.TheVariants.{Taken, Later, Failed}
 use Rattle.srt_poller.specs.Devices.{datagram, arrival, Attempt, attempt, Call, WaitEnded, WaitFailed, ReadGave, ReadEmpty, ReadFailed}
-
--- numbers, a peer's address, and a datagram's bytes
-abbrev pub Note : Type 0
-Note = List ℕ × List ℕ × List ℕ
 
 abbrev pub peer_at : (ip : List ℕ) → (port : ℕ) → Peer
 peer_at ip port = record { ip = ip; port = port }

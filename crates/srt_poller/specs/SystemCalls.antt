@@ -1,5 +1,6 @@
 -- What a socket's source and wire note of the calls of the system, for contracts alone.
-use Rattle.std.specs.Prelude.{◌≡◌, ◌⊎◌, ℕ, ◌*◌, ◌/◌, ◌%◌, length, Bool, if◌then◌else◌, List, [], ◌∷◌, ◌++◌}
+use Rattle.std.specs.Prelude.{◌≡◌, ◌⊎◌, ℕ, ◌*◌, ◌/◌, ◌%◌, length, Bool, if◌then◌else◌, Result, Ok, Err, List, [], ◌∷◌, ◌++◌, slice_index}
+use Rattle.std.specs.Int.{w32, from_le_bytes}
 use Rattle.std.specs.Net.Addr.{ipv4_octets, ipv6_octets}
 use Rattle.std.specs.Net.Socket.{socket_ip, socket_port, socket_flowinfo, socket_scope_id, v6_ip, v6_port}
 use Rattle.std.specs.declared.net.ip_addr.IpAddr.{IpAddr}
@@ -7,7 +8,7 @@ use Rattle.std.specs.declared.net.ip_addr.IpAddr.TheVariants as ip
 use Rattle.std.specs.declared.net.socket_addr.SocketAddr.{SocketAddr}
 use Rattle.std.specs.declared.net.socket_addr.SocketAddr.TheVariants as socket
 use Rattle.srt_types.specs.declared.shared.Peer.{Peer}
-use Rattle.srt_poller.specs.Notes.{Note}
+use Rattle.srt_journal.specs.Notes.{Note, oldest_first}
 use Rattle.srt_poller.specs.Addresses.{HasAddress, IsTarget, mapped, ipv6_name}
 use Rattle.srt_poller.specs.Pauses.{pause, after_wait, after_put_off, after_datagram, after_end}
 use Rattle.srt_poller.specs.declared.devices.Polled.{Polled}
@@ -21,6 +22,7 @@ use Rattle.srt_poller.specs.declared.pace.Pause.{Pause}
 use Rattle.srt_poller.specs.declared.pace.Pause.TheVariants.{Poll, Nap}
 use Rattle.srt_poller.specs.declared.sockets.Family.{Family}
 use Rattle.srt_poller.specs.declared.sockets.Family.TheVariants as families
+use Rattle.srt_poller.specs.declared.sockets.called.Called.{Called}
 use Rattle.srt_poller.specs.declared.sockets.called.Call.{Call}
 use Rattle.srt_poller.specs.declared.sockets.called.Call.TheVariants as call
 use Rattle.srt_poller.specs.declared.sockets.system.SystemCalls.{SystemCalls}
@@ -31,7 +33,7 @@ use Rattle.srt_poller.specs.declared.sockets.system.Received.TheVariants as rece
 
 -- all calls, the oldest first
 abbrev pub notes_of : SystemCalls → List Note
-notes_of calls = calls.notes.journal.notes
+notes_of calls = oldest_first calls.notes.journal.notes
 
 -- the bytes of an IP address, four or sixteen
 abbrev pub octets_of : IpAddr → List ℕ
@@ -55,6 +57,15 @@ number_of call.BindIpv6 = 11
 number_of call.AskForRoom = 12
 number_of call.Register = 13
 
+-- the evidence is of this call, which ended so with this number
+abbrev pub IsCall : Call → (end number : ℕ) → Called → Type 0
+IsCall c end number called = (called.call ≡ c) × (called.end ≡ end) × (called.number ≡ number)
+
+-- a note with these numbers is of the call that the evidence is of: its own number, how it ended, and the number that it returned
+abbrev pub IsNoteOf : Called → (numbers : List ℕ) → Type 0
+IsNoteOf called numbers =
+    (slice_index numbers 0 ≡ number_of called.call) × (slice_index numbers 1 ≡ called.end) × (slice_index numbers 2 ≡ called.number)
+
 -- a call that ended so and returned this number, with an address and bytes
 abbrev pub note_at : (call end number : ℕ) → SocketAddr → (bytes : List ℕ) → Note
 note_at call end number a bytes = (
@@ -63,11 +74,35 @@ note_at call end number a bytes = (
   bytes,
 )
 
+-- how a send ended, and the number of bytes that it took
+abbrev pub end_of_send : Handed → ℕ
+end_of_send (handed.Took n) = 0
+end_of_send handed.NoRoom = 1
+end_of_send handed.Failed = 2
+
+abbrev pub count_of_send : Handed → ℕ
+count_of_send (handed.Took n) = n
+count_of_send handed.NoRoom = 0
+count_of_send handed.Failed = 0
+
+-- the same of a read, and how a wait ended
+abbrev pub end_of_read : Received → ℕ
+end_of_read (received.Datagram n from) = 0
+end_of_read received.Nothing = 1
+end_of_read received.Failed = 2
+
+abbrev pub count_of_read : Received → ℕ
+count_of_read (received.Datagram n from) = n
+count_of_read received.Nothing = 0
+count_of_read received.Failed = 0
+
+abbrev pub end_of_poll : Polled → ℕ
+end_of_poll polled.Ready = 0
+end_of_poll polled.Failed = 2
+
 -- a send of these bytes to this address
 abbrev pub send_note : SocketAddr → (bytes : List ℕ) → Handed → Note
-send_note a bytes (handed.Took n) = note_at 0 0 n a bytes
-send_note a bytes handed.NoRoom = note_at 0 1 0 a bytes
-send_note a bytes handed.Failed = note_at 0 2 0 a bytes
+send_note a bytes answer = note_at 0 (end_of_send answer) (count_of_send answer) a bytes
 
 -- a read, which left these bytes in the buffer
 abbrev pub receive_note : (buffer : List ℕ) → Received → Note
@@ -77,8 +112,7 @@ receive_note buffer received.Failed = (1 ∷ 2 ∷ [], [], buffer)
 
 -- a wait for at most this many nanoseconds, and a nap
 abbrev pub poll_note : (nanos : ℕ) → Polled → Note
-poll_note nanos polled.Ready = (2 ∷ 0 ∷ nanos / 1_000_000_000 ∷ nanos % 1_000_000_000 ∷ [], [], [])
-poll_note nanos polled.Failed = (2 ∷ 2 ∷ nanos / 1_000_000_000 ∷ nanos % 1_000_000_000 ∷ [], [], [])
+poll_note nanos answer = (2 ∷ end_of_poll answer ∷ nanos / 1_000_000_000 ∷ nanos % 1_000_000_000 ∷ [], [], [])
 
 abbrev pub nap_note : Note
 nap_note = (3 ∷ [], [], [])
@@ -101,36 +135,45 @@ mark_note = (6 ∷ [], [], [])
 abbrev pub count_note : Note
 count_note = (7 ∷ [], [], [])
 
+-- how a call that opens a socket ended: with what it does, or with an error
+abbrev pub end_of_opening : {A B : Type 0} → Result A B → ℕ
+end_of_opening (Ok value) = 0
+end_of_opening (Err error) = 2
+
 -- the calls that open a socket at an address of IPv4: one
-abbrev pub bind_note : SocketAddr → Note
-bind_note a = note_at 8 0 0 a []
+abbrev pub bind_note : (end : ℕ) → SocketAddr → Note
+bind_note end a = note_at 8 end 0 a []
 
 -- those of IPv6: a socket, which also has callers over IPv4, and which is bound at C's name of the address
-abbrev pub open_note : Note
-open_note = (9 ∷ [], [], [])
+abbrev pub open_note : (end : ℕ) → Note
+open_note end = (9 ∷ end ∷ [], [], [])
 
-abbrev pub callers_note : Note
-callers_note = (10 ∷ [], [], [])
+abbrev pub callers_note : (end : ℕ) → Note
+callers_note end = (10 ∷ end ∷ [], [], [])
 
-abbrev pub name_note : (name : List ℕ) → Note
-name_note name = (11 ∷ [], name, [])
+abbrev pub name_note : (end : ℕ) → (name : List ℕ) → Note
+name_note end name = (11 ∷ end ∷ [], name, [])
+
+-- the number of C's type int at the front of these bytes, in the order of the processor
+abbrev pub word_in : (bytes : List ℕ) → ℕ
+word_in bytes = from_le_bytes w32 (slice_index bytes 0 ∷ slice_index bytes 1 ∷ slice_index bytes 2 ∷ slice_index bytes 3 ∷ [])
 
 -- a larger receive buffer was requested
 abbrev pub room_note : (size : ℕ) → Note
 room_note size = (12 ∷ size ∷ [], [], [])
 
 -- the socket is polled for datagrams that may be read
-abbrev pub register_note : Note
-register_note = (13 ∷ [], [], [])
+abbrev pub register_note : (end : ℕ) → Note
+register_note end = (13 ∷ end ∷ [], [], [])
 
--- the calls that bind a socket at this address
+-- the calls that bind a socket at this address, each with success
 abbrev pub binding_notes : SocketAddr → List Note
-binding_notes (socket.V4 a) = bind_note (socket.V4 a) ∷ []
-binding_notes (socket.V6 a) = open_note ∷ callers_note ∷ name_note (ipv6_name (v6_port a) (ipv6_octets (v6_ip a))) ∷ []
+binding_notes (socket.V4 a) = bind_note 0 (socket.V4 a) ∷ []
+binding_notes (socket.V6 a) = open_note 0 ∷ callers_note 0 ∷ name_note 0 (ipv6_name (v6_port a) (ipv6_octets (v6_ip a))) ∷ []
 
--- the calls that open a source at this address
+-- the calls that open a source at this address; whether the receive buffer was had isn't noted
 abbrev pub opening_notes : SocketAddr → List Note
-opening_notes a = binding_notes a ++ room_note 4_194_304 ∷ register_note ∷ []
+opening_notes a = binding_notes a ++ room_note 4_194_304 ∷ register_note 0 ∷ []
 
 -- the one call of a pause
 abbrev pub pause_note : Pause → Polled → Note

@@ -1,6 +1,6 @@
 //! The inputs of a poller and of a round, apart from the devices, the names and the ends of the routes.
 
-ghost use Rattle.std.specs.Prelude.{◌<◌, ◌≤◌, ℕ};
+ghost use Rattle.std.specs.Prelude.{◌≡◌, ◌<◌, ◌≤◌, ℕ};
 
 use crate::signals::Hints;
 use srt_cookie::Secret;
@@ -58,7 +58,26 @@ pub(crate) struct RoundContext<'a, 'b, R, G> {
     pub(crate) round: u64,
 }
 
-impl<R, G: Hints> RoundContext<'_, '_, R, G> {
+/// The hints of a round for a look ahead, which is before it drains any outbox. It can't take a mark, and has no host, without
+/// which no reply is taken from an outbox.
+#[derive(Drop)]
+pub(crate) struct LookAhead<'a, G> {
+    signals: &'a G,
+}
+
+impl<'a, R, G> RoundContext<'a, '_, R, G> {
+    /// Returns the hints for a look ahead.
+    #[inline(always)]
+    pub(crate) fn look_ahead(&self) -> LookAhead<'a, G>
+        ensures { result.signals ≡ self.now.signals }
+    {
+        LookAhead {
+            signals: self.signals,
+        }
+    }
+}
+
+impl<G: Hints> LookAhead<'_, G> {
     /// Returns the first route from this one on with a hint that its outbox may have a reply.
     #[inline(always)]
     pub(crate) fn next_hinted(&self, route: usize) -> usize

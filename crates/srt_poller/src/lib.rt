@@ -7,7 +7,8 @@
 //! `Report` has the counts. `Signals` are four traits: `Orders` before a round (`Order`), `Hints` that save checks of empty
 //! outboxes, a `PollerObserver`, and the `InlineService` of the polling thread. `Report` and `Order` are
 //! `srt_supervision`'s. Devices in memory are `SourceScript`, `WireScript` and `ClockScript`; `MioSource` and `MioWire`
-//! share one UDP socket.
+//! share one UDP socket; why they weren't opened is an `Unopened`, by evidence of what was refused (`SystemRefusal`,
+//! `MemoryRefused`), and the line that the program prints of it a `BindFault`.
 //!
 //! Calls: open the routes (`srt_mailbox::open_route`), hide those that open later (`srt_lobby::Names::hide`), bind or
 //! make the devices, then `pump` once for n rounds; or `pump_under` with a `PollerTask`, until the order is to end. Routes
@@ -19,10 +20,9 @@
 //! their changes in `tables.rt`, openings in `openings.rt`. The other steps are in `poller.rt`
 //! (the reply that is kept), which outboxes a round has drained in `visits.rt`, the inputs in `context.rt`,
 //! the memory of copies in `buffers.rt`, evidence that memory was refused in `memory.rt`, the calls in `pumping.rt` and
-//! `changing_rounds.rt`, the counts in `report.rt`, the greatest timestamp in `latest.rt`, the calls that devices in memory
-//! record in `journal.rt`, a socket's source and wire in `sockets.rt`, the calls of the system that they note in
-//! `sockets/system.rt`, and make in `sockets/called.rt`, how a source waits in `pace.rt` and `density.rt`, tuned constants in `tuning.rt`, laws of the
-//! definitions in `laws.rt`.
+//! `changing_rounds.rt`, the counts in `report.rt`, the greatest timestamp in `latest.rt`, a socket's source and wire in
+//! `sockets.rt`, the calls of the system that they note in `sockets/system.rt`, and make in `sockets/called.rt`, how a
+//! source waits in `pace.rt` and `density.rt`, tuned constants in `tuning.rt`, laws of the definitions in `laws.rt`.
 //! `specs/History.antt` has the events of a poller, `specs/Plans.antt` what becomes of schedules
 //! while routes are added and removed, `specs/Takings.antt` which changes are taken, `specs/Told.antt` what an observer is told.
 #![tactic(auto)]
@@ -34,7 +34,6 @@ mod context;
 mod density;
 mod devices;
 mod ends;
-mod journal;
 mod latest;
 pub mod laws;
 mod memory;
@@ -56,13 +55,14 @@ pub use changing_rounds::pump_changing;
 pub use context::PollerTask;
 pub use devices::{Clock, Polled, Read, Sent, Source, Wire};
 pub use ends::Ends;
+pub use memory::MemoryRefused;
 pub use openings::{AddedRoute, Openings, Unchanged};
 pub use pumping::{Pumping, pump, pump_under};
 pub use scripts::{
     ClockScript, ScriptDatagram, SentDatagram, SourceScript, SourceStep, WireScript,
 };
 pub use signals::{Hints, InlineService, Orders, PollerObserver, Signals, Unsignalled};
-pub use sockets::{BindFault, MioSource, MioWire};
+pub use sockets::{BindFault, MioSource, MioWire, SystemRefusal, Unopened};
 pub use srt_mailbox::{Gate, Ungated};
 pub use srt_supervision::{Order, Report};
 

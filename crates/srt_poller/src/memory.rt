@@ -2,13 +2,16 @@
 
 ghost use Rattle.std.specs.Prelude.{◌≡◌, ◌<◌, ◌+◌, ◌++◌, ◌∷◌, [], IfOk, OnOk, OnErr, length};
 ghost use Rattle.std.specs.Vec.{vec_capacity};
+ghost use Rattle.std.specs.Arc.{arc_value};
 
-use crate::journal::Journal;
+use mio::Events;
+use srt_journal::Journal;
 use std::alloc::Global;
+use std::sync::Arc;
 
-/// Evidence that an allocation was refused.
+/// Evidence that an allocation was refused. Nothing else makes any.
 #[derive(Drop)]
-pub(crate) struct MemoryRefused {
+pub struct MemoryRefused {
     // private, so that nothing else makes any
     marker: (),
 }
@@ -42,6 +45,30 @@ pub(crate) fn copied(alloc: Global, bytes: &[u8]) -> Result<Vec<u8>, MemoryRefus
 {
     match Vec::from_slice(alloc, bytes) {
         Ok(copy) => Ok(copy),
+        Err(_) => Err(MemoryRefused { marker: () }),
+    }
+}
+
+/// Returns an empty list of events with room for this many.
+pub(crate) fn events_with_room(
+    alloc: Global,
+    room: usize,
+) -> Result<Events<Global>, MemoryRefused> {
+    match Events::with_capacity(alloc, room) {
+        Ok(events) => Ok(events),
+        Err(_) => Err(MemoryRefused { marker: () }),
+    }
+}
+
+/// Returns two handles of a value.
+pub(crate) fn shared<T: Drop>(alloc: Global, value: T) -> Result<(Arc<T>, Arc<T>), MemoryRefused>
+    ensures { IfOk result (λ r. (arc_value r.0 ≡ value) × (arc_value r.1 ≡ value)) }
+{
+    let Ok(ours) = Arc::new(alloc, value) else {
+        return Err(MemoryRefused { marker: () });
+    };
+    match Arc::try_clone(&ours) {
+        Ok(theirs) => Ok((ours, theirs)),
         Err(_) => Err(MemoryRefused { marker: () }),
     }
 }

@@ -71,7 +71,7 @@ pub trait Openings {
 pub struct Unchanged;
 
 impl Openings for Unchanged {
-    ghost use Rattle.std.specs.Prelude.{Some, [], false};
+    ghost use Rattle.std.specs.Prelude.{Some, None, [], false};
 
     ghost added = { λ o. Some [] };
 
@@ -83,11 +83,15 @@ impl Openings for Unchanged {
         false
     }
 
-    fn next(&mut self) -> Option<AddedRoute> {
+    fn next(&mut self) -> Option<AddedRoute>
+        ensures { result ≡ None }
+    {
         None
     }
 
-    fn next_close(&mut self, _routes: usize) -> Option<usize> {
+    fn next_close(&mut self, _routes: usize) -> Option<usize>
+        ensures { result ≡ None }
+    {
         None
     }
 }

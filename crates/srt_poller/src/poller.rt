@@ -8,7 +8,7 @@ ghost use Rattle.srt_poller.specs.History.{Sorting};
 ghost use Rattle.srt_poller.specs.Told.{setting_of, IsHandshake, IsToldSend};
 
 use crate::buffers::Buffers;
-use crate::context::{Classifier, RoundContext};
+use crate::context::{Classifier, LookAhead, RoundContext};
 use crate::devices::{Polled, Read, Sent, Source, Wire};
 use crate::ends::{Ends, Offered};
 use crate::latest::Latest;
@@ -412,7 +412,7 @@ impl Poller {
 
     /// Reads the outboxes of all routes with a hint. Those of many routes are mostly out of the caches, and here the
     /// processor fetches several at the same time, before the drain uses them.
-    fn prefetch<R, G: Hints>(context: &RoundContext<R, G>, ends: &mut [Ends])
+    fn prefetch<G: Hints>(ahead: &LookAhead<G>, ends: &mut [Ends])
         ensures { ends.new ≡ ends.old }
     {
         if ends.len() < 2 {
@@ -420,7 +420,7 @@ impl Poller {
         }
         let mut route = 0;
         while route < ends.len() {
-            let at = context.next_hinted(route);
+            let at = ahead.next_hinted(route);
             if at >= ends.len() {
                 return;
             }
@@ -448,7 +448,7 @@ impl Poller {
         ensures all { result.all ≡ all }
         ensures read { self.new.report.read ≡ self.old.report.read }
     {
-        Poller::prefetch(context, ends);
+        Poller::prefetch(&context.look_ahead(), ends);
         let mut visits = Visits::new(all);
         let mut route = 0;
         while route < ends.len() {

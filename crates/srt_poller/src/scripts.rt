@@ -5,8 +5,8 @@ ghost use Rattle.std.specs.Prelude.{OnOk, OnErr, option_copied, length, map, min
 ghost use Rattle.srt_poller.specs.Notes.{outcome};
 
 use crate::devices::{Clock, Polled, Read, Sent, Source, Wire};
-use crate::journal::Journal;
 use crate::memory::{MemoryRefused, Refusals, copied, push};
+use srt_journal::Journal;
 use srt_types::Peer;
 use srt_types::protocol_limits::READ_ROOM;
 use std::alloc::Global;
@@ -103,6 +103,7 @@ impl Source for SourceScript {
     ghost use Rattle.std.specs.Prelude.{Some, [], ◌∷◌, map, take};
     ghost use Rattle.srt_mailbox.specs.Counts.{Grew};
     ghost use Rattle.srt_poller.specs.Devices.{ReadsWell, given_by_read, call_of_wait, call_of_read, joined};
+    ghost use Rattle.srt_journal.specs.Notes.{oldest_first};
     ghost use Rattle.srt_poller.specs.Notes.{call_of};
     ghost use Rattle.srt_poller.specs.Failures.{failures_after_wait, failures_after_read};
     ghost use Rattle.srt_poller.specs.declared.devices.Polled.TheVariants.{Failed as PollFailed};
@@ -112,7 +113,7 @@ impl Source for SourceScript {
 
     ghost gave = { λ s. Some (given_in (take s.at s.steps.items)) };
 
-    ghost calls = { λ s. Some (map call_of s.journal.notes) };
+    ghost calls = { λ s. Some (map call_of (oldest_first s.journal.notes)) };
 
     fn wait(&mut self) -> Polled
         ensures failed { result ≡ PollFailed → Grew self.old.failures self.new.failures }
@@ -321,6 +322,7 @@ impl Wire for WireScript {
     ghost use Rattle.std.specs.Prelude.{Some, [], ◌∷◌, map};
     ghost use Rattle.srt_mailbox.specs.Counts.{Grew};
     ghost use Rattle.srt_poller.specs.Devices.{datagram, handed_by_send, attempt, joined};
+    ghost use Rattle.srt_journal.specs.Notes.{oldest_first};
     ghost use Rattle.srt_poller.specs.Notes.{attempt_of};
     ghost use Rattle.srt_poller.specs.declared.devices.Sent.TheVariants.{Later, Failed as SendFailed};
     ghost use Rattle.srt_poller.specs.Scripts.{sent_as, next_answer, answers_of, answers_given, given_after, refusals_of};
@@ -330,7 +332,7 @@ impl Wire for WireScript {
 
     ghost handed = { λ w. Some (map sent_as w.handed.items) };
 
-    ghost attempts = { λ w. Some (map attempt_of w.journal.notes) };
+    ghost attempts = { λ w. Some (map attempt_of (oldest_first w.journal.notes)) };
 
     fn send(&mut self, to: Peer, bytes: &[u8]) -> Sent
         ensures failed { result ≡ SendFailed → Grew self.old.failures self.new.failures }

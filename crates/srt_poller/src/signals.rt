@@ -107,13 +107,17 @@ pub trait Signals: Orders + Hints + PollerObserver + InlineService {}
 pub struct Unsignalled;
 
 impl Orders for Unsignalled {
+    ghost use Rattle.srt_supervision.specs.declared.order.Order.TheVariants.{GoOn};
+
     ghost goes = { λ s. Unit {0} };
 
     ghost closes = { λ s. ⊥ };
 
     ghost stops = { λ s. ⊥ };
 
-    fn order(&self) -> Order {
+    fn order(&self) -> Order
+        ensures { result ≡ GoOn }
+    {
         Order::GoOn
     }
 }

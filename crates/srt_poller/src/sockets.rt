@@ -1,6 +1,6 @@
 //! A source and a wire over one UDP socket: of IPv4, or of IPv6 and then with the callers over IPv4 too.
 
-ghost use Rattle.std.specs.Prelude.{◌≡◌, ◌++◌, ◌∷◌, ◌==◌, [], ℕ, IfOk, OnOk, IfSome, IfNone, length};
+ghost use Rattle.std.specs.Prelude.{◌≡◌, ◌++◌, ◌∷◌, ◌==◌, [], ℕ, IfOk, IfErr, OnOk, IfSome, IfNone, length};
 ghost use Rattle.std.specs.Prelude.{option_map};
 ghost use Rattle.std.specs.Duration.{as_nanos};
 ghost use Rattle.std.specs.Net.Addr.{ipv4_octets};
@@ -10,15 +10,17 @@ ghost use Rattle.srt_poller.specs.declared.sockets.Family.TheVariants.{V4 as OfI
 ghost use Rattle.srt_poller.specs.Addresses.{mapped, family_of, HasAddress, HasIpv4, HasIpv6, IsTarget};
 ghost use Rattle.srt_poller.specs.Pauses.{limit};
 ghost use Rattle.srt_poller.specs.SystemCalls.{notes_of, binding_notes, opening_notes};
+ghost use Rattle.srt_poller.specs.Sockets.{fault_of};
 
 use crate::devices::{Clock, Polled, Read, Sent, Source, Wire};
+use crate::memory::{MemoryRefused, events_with_room, shared};
 use crate::pace::{Pace, Pause};
 use crate::tuning::RECEIVE_BUFFER;
-use called::{Marks, Socket, SocketPoll};
+use called::{Marks, RegisteredPoll, Socket, SocketPoll};
 use mio::Events;
 use srt_types::Peer;
 use srt_types::protocol_limits::READ_ROOM;
-use std::alloc::{AllocError, Global};
+use std::alloc::Global;
 use std::net::{IpAddr, Ipv4Addr, Ipv6Addr, Net, SocketAddr, SocketAddrV4, SocketAddrV6};
 use std::sync::Arc;
 use std::time::Duration;
@@ -30,6 +32,17 @@ mod ipv6;
 #[cfg(test)]
 mod refused;
 mod system;
+
+pub use called::SystemRefusal;
+
+/// Why a source wasn't opened, by evidence. Nothing is kept then.
+#[derive(Drop)]
+pub enum Unopened {
+    /// The system refused a socket at this address, or refused to poll it.
+    Refused(SystemRefusal),
+    /// An allocation was refused.
+    OutOfMemory(MemoryRefused),
+}
 
 /// Why a socket could not be bound. Nothing is kept then. Its text is the line that the program prints.
 #[derive(Clone, Copy, Debug, Error, PartialEq, Eq)]
@@ -61,7 +74,7 @@ struct Shared {
 /// A source over a UDP socket. It doesn't record its datagrams and calls, so `gave` and `calls` are `None`.
 #[derive(Drop)]
 pub struct MioSource<C: Clock> {
-    poll: SocketPoll,
+    poll: RegisteredPoll,
     events: Events<Global>,
     shared: Arc<Shared>,
     clock: C,
@@ -163,21 +176,32 @@ fn is_whole(taken: usize, bytes: &[u8]) -> bool
     taken == bytes.len()
 }
 
+impl Unopened {
+    /// The fault without its evidence, whose text is the line that the program prints.
+    pub fn fault(&self) -> BindFault
+        ensures { result ≡ fault_of self.now }
+    {
+        match self {
+            Unopened::Refused(refusal) => BindFault::Socket(refusal.number()),
+            Unopened::OutOfMemory(_) => BindFault::OutOfMemory,
+        }
+    }
+}
+
 impl Shared {
     ghost use Rattle.std.specs.Arc.{arc_value};
 
-    fn share(alloc: Global, socket: Socket) -> Result<(Arc<Shared>, Arc<Shared>), AllocError>
-        ensures { IfOk result (λ r. ((arc_value r.0).socket ≡ socket) × ((arc_value r.1).socket ≡ socket)) }
+    // What a source and a wire over this socket share, and the source's room for events.
+    fn share(
+        alloc: Global,
+        socket: Socket,
+    ) -> Result<(Events<Global>, Arc<Shared>, Arc<Shared>), MemoryRefused>
+        ensures { IfOk result (λ r. ((arc_value r.1).socket ≡ socket) × ((arc_value r.2).socket ≡ socket)) }
     {
-        let ours = Arc::new(
-            alloc,
-            Shared {
-                socket,
-                marks: Marks::new(),
-            },
-        )?;
-        let theirs = Arc::try_clone(&ours)?;
-        Ok((ours, theirs))
+        let events = events_with_room(alloc, 4)?;
+        let marks = Marks::new();
+        let (ours, theirs) = shared(alloc, Shared { socket, marks })?;
+        Ok((events, ours, theirs))
     }
 }
 
@@ -196,16 +220,27 @@ fn socket_at<N: Net>(
     calls: &mut SystemCalls,
     net: &N,
     addr: SocketAddr,
-) -> Result<Socket, BindFault>
+) -> Result<Socket, SystemRefusal>
     ensures { OnOk result (notes_of calls.new ≡ notes_of calls.old ++ binding_notes addr) }
 {
     match addr {
-        SocketAddr::V4(_) => calls.bind(net, addr).map_err(BindFault::Socket),
-        SocketAddr::V6(addr) => match ipv6::bind(calls, addr) {
-            Ok(socket) => Ok(socket),
-            Err(number) => Err(BindFault::Socket(Some(number))),
-        },
+        SocketAddr::V4(_) => calls.bind(net, addr),
+        SocketAddr::V6(addr) => ipv6::bind(calls, addr),
     }
+}
+
+/// Binds a UDP socket at this address, asks for its receive buffer, and has it polled.
+fn polled_at<N: Net>(
+    calls: &mut SystemCalls,
+    net: &N,
+    addr: SocketAddr,
+) -> Result<(RegisteredPoll, Socket), SystemRefusal>
+    ensures { OnOk result (notes_of calls.new ≡ notes_of calls.old ++ opening_notes addr) }
+{
+    let mut socket = socket_at(calls, net, addr)?;
+    calls.ask_for_room(&socket, RECEIVE_BUFFER);
+    let poll = calls.register(SocketPoll::new(net)?, &mut socket)?;
+    Ok((poll, socket))
 }
 
 /// How long a wait lasts at most. `None` for a nap.
@@ -228,13 +263,14 @@ impl<C: Clock> MioSource<C> {
     /// Binds a UDP socket at this address and returns a source and a wire over it. With port 0 the system chooses the
     /// port. A socket at `::` also has callers over IPv4, whose addresses are `::ffff:a.b.c.d`, whatever the system's
     /// default is; of an IPv6 address the port and the 16 bytes alone count. The clock gives the moment of each datagram
-    /// as it is read. The system is asked for a receive buffer of 4 MiB; whether it gives that isn't checked. Allocates.
-    pub fn bind<N: Net>(
+    /// as it is read. The system is asked for a receive buffer of 4 MiB; what it gave is `receive_buffer`. Allocates. The error
+    /// is evidence of what the system, or the allocator, refused.
+    pub fn open<N: Net>(
         net: &N,
         alloc: Global,
         addr: SocketAddr,
         clock: C,
-    ) -> Result<(MioSource<C>, MioWire), BindFault>
+    ) -> Result<(MioSource<C>, MioWire), Unopened>
     where
         C: Drop,
         ensures source { IfOk result (λ r. ⟦<MioSource<C> as Source>⟧.failures r.0 ≡ 0) }
@@ -245,20 +281,13 @@ impl<C: Clock> MioSource<C> {
         ensures pace { IfOk result (λ r. r.0.pace ≡ at_first) }
     {
         let mut calls = SystemCalls::new(alloc);
-        let mut socket = socket_at(&mut calls, net, addr)?;
-        calls.ask_for_room(&socket, RECEIVE_BUFFER);
-        let poll = match SocketPoll::new(net) {
-            Ok(poll) => poll,
-            Err(error) => return Err(BindFault::Socket(error.raw_os_error())),
+        let (poll, socket) = match polled_at(&mut calls, net, addr) {
+            Ok(polled) => polled,
+            Err(refusal) => return Err(Unopened::Refused(refusal)),
         };
-        if let Err(error) = calls.register(&poll, &mut socket) {
-            return Err(BindFault::Socket(error.raw_os_error()));
-        }
-        let Ok(events) = Events::with_capacity(alloc, 4) else {
-            return Err(BindFault::OutOfMemory);
-        };
-        let Ok((ours, theirs)) = Shared::share(alloc, socket) else {
-            return Err(BindFault::OutOfMemory);
+        let (events, ours, theirs) = match Shared::share(alloc, socket) {
+            Ok(shared) => shared,
+            Err(refused) => return Err(Unopened::OutOfMemory(refused)),
         };
         let source = MioSource {
             poll,
@@ -278,7 +307,37 @@ impl<C: Clock> MioSource<C> {
         Ok((source, wire))
     }
 
-    /// The socket's own address, with the port that the system chose. `None` if the system doesn't give it.
+    /// As `open`. The error is the fault without its evidence.
+    pub fn bind<N: Net>(
+        net: &N,
+        alloc: Global,
+        addr: SocketAddr,
+        clock: C,
+    ) -> Result<(MioSource<C>, MioWire), BindFault>
+    where
+        C: Drop,
+        ensures source { IfOk result (λ r. ⟦<MioSource<C> as Source>⟧.failures r.0 ≡ 0) }
+        ensures wire { IfOk result (λ r. ⟦<MioWire as Wire>⟧.failures r.1 ≡ 0) }
+        ensures bound { IfOk result (λ r. bound_at r.1 ≡ addr) }
+        ensures opened { IfOk result (λ r. (notes_of r.0.calls ≡ opening_notes addr) × (notes_of r.1.calls ≡ [])) }
+        ensures same { IfOk result (λ r. (arc_value r.0.shared).socket ≡ (arc_value r.1.shared).socket) }
+        ensures pace { IfOk result (λ r. r.0.pace ≡ at_first) }
+    {
+        match MioSource::open(net, alloc, addr, clock) {
+            Ok(devices) => Ok(devices),
+            Err(unopened) => Err(unopened.fault()),
+        }
+    }
+
+    /// The size in bytes of the receive buffer that the system gave the socket, as it counts it (SO_RCVBUF; on Linux twice
+    /// what was requested, where no limit is below that). `None` if the system doesn't give it. No clause states the size,
+    /// since the library states nothing of what the system returns.
+    pub fn receive_buffer(&self) -> Option<u32> {
+        self.shared.socket.room()
+    }
+
+    /// The socket's own address, with the port that the system chose. `None` if the system doesn't give it. No clause
+    /// states it, since the library states nothing of what the system returns.
     pub fn address(&self) -> Option<SocketAddr> {
         self.shared.socket.address()
     }

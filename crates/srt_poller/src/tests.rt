@@ -24,8 +24,8 @@ use crate::tests::datagrams::{
 };
 use crate::{
     BindFault, ClockScript, Ends, MioSource, MioWire, Polled, PollerTask, Pumping, Read, Report,
-    ScriptDatagram, Sent, Signals, Source, SourceScript, SourceStep, Wire, WireScript, pump,
-    pump_under,
+    ScriptDatagram, Sent, Signals, Source, SourceScript, SourceStep, Unopened, Wire, WireScript,
+    pump, pump_under,
 };
 use mio::net::UdpSocket;
 use srt_cookie::Secret;
@@ -778,4 +778,31 @@ fn a_port_that_is_taken_is_refused(rt: HostRuntime) -> Result<(), Fail> {
             Ok(())
         }
     }
+}
+
+#[test]
+fn what_the_system_refused_has_its_number(rt: HostRuntime) -> Result<(), Fail> {
+    let alloc = rt.alloc();
+    let (source, _wire) = bound(&rt, alloc, 0)?;
+    let taken = local(address(&source)?.port());
+    let clock = ClockScript::new(Vec::new(alloc));
+    match MioSource::open(&rt, alloc, taken, clock) {
+        Err(Unopened::Refused(refusal)) => {
+            // EADDRINUSE
+            assert_eq!(&rt; refusal.number(), Some(98));
+            Ok(())
+        }
+        _ => Err(Fail::from("the port is refused")),
+    }
+}
+
+/// The system gives at least the 2048 bytes of its least receive buffer.
+#[test]
+fn a_socket_has_a_receive_buffer(rt: HostRuntime) -> Result<(), Fail> {
+    let (source, _wire) = bound(&rt, rt.alloc(), 0)?;
+    match source.receive_buffer() {
+        Some(size) => assert!(&rt; size >= 2048),
+        None => return Err(Fail::from("the system gives the size")),
+    }
+    Ok(())
 }

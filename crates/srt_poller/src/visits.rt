@@ -59,7 +59,7 @@ impl Visits {
         if self.all {
             return self.next;
         }
-        let next = context.next_hinted(self.next);
+        let next = context.look_ahead().next_hinted(self.next);
         self.next = next;
         next
     }

@@ -1,4 +1,5 @@
 pub mod Splits
 pub mod Turns
 pub mod Digits
+pub mod LastParts
 pub mod Fronts

@@ -3,7 +3,7 @@ use Rattle.std.specs.Prelude.{◌≡◌, ◌⊎◌, ℕ, ◌+◌, ◌-◌, ◌/�
 use Rattle.std.specs.Str.{bytes_eq}
 use Rattle.srt_types.specs.Access.{is_mapped}
 use Rattle.srt_procfs.specs.Parts.{parts_of, word_at}
-use Rattle.srt_procfs.specs.Numbers.{number_in}
+use Rattle.srt_procfs.specs.Numbers.{number_of}
 use Rattle.srt_procfs.specs.Readings.{FileReading, IsTable, IsUnread}
 
 -- the upper-case digit of a number below 16
@@ -42,11 +42,6 @@ is_word word (Some other) = bytes_eq other word
 -- a line whose second word is the local address
 unfoldable pub is_at : (local line : List ℕ) → Bool
 is_at local line = is_word local (word_at 1 (parts_of 32 line))
-
--- the number in a word, if there is one
-abbrev pub number_of : Option (List ℕ) → Option ℕ
-number_of None = None
-number_of (Some word) = number_in 10 word
 
 -- a line's thirteenth word, the last one
 unfoldable pub drops_of : (line : List ℕ) → Option ℕ

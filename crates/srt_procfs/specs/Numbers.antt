@@ -27,3 +27,18 @@ digits_from base (Some number) (b ∷ bytes) = digits_from base (with_digit base
 abbrev pub number_in : (base : ℕ) → List ℕ → Option ℕ
 number_in base [] = None
 number_in base (b ∷ bytes) = digits_from base (Some 0) (b ∷ bytes)
+
+-- the number in a word, if there is one
+abbrev pub number_of : Option (List ℕ) → Option ℕ
+number_of None = None
+number_of (Some word) = number_in 10 word
+
+-- a number times another one, and a sum, if they are below 2^64
+abbrev pub times_of : (factor : ℕ) → Option ℕ → Option ℕ
+times_of factor None = None
+times_of factor (Some n) = if nat_lt (n * factor) (2 ^ 64) then Some (n * factor) else None
+
+abbrev pub sum_of : Option ℕ → Option ℕ → Option ℕ
+sum_of None n = None
+sum_of (Some m) None = None
+sum_of (Some m) (Some n) = if nat_lt (m + n) (2 ^ 64) then Some (m + n) else None

@@ -1,6 +1,6 @@
 -- What was read of the kernel's files, for contracts alone.
 use Rattle.std.specs.Prelude.{◌≡◌, ◌⊎◌, ℕ, ◌==◌, ◌&&◌, nat_lt, Bool, true, false, List, [], ◌∷◌, ◌++◌, length, take, Option, None, Some, if◌then◌else◌}
-use Rattle.srt_procfs.specs.Notes.{Note}
+use Rattle.srt_journal.specs.Notes.{Note}
 
 -- the path of a file that was opened, all bytes that were read of it, and whether the last read found its end, or any failed
 pub record FileReading : Type 0 where

@@ -1,7 +1,7 @@
 //! The front of a file, read into a place that is lent, and a file that is read whole.
 
 ghost use Rattle.std.specs.Prelude.{◌≡◌, ◌≤◌, ◌⊎◌, ◌++◌, length, take, true, false, IfSome, IfNone};
-ghost use Rattle.srt_procfs.specs.Readings.{FileReading, IsOver, IsFront, IsTable, IsUnread};
+ghost use Rattle.srt_procfs.specs.Readings.{FileReading, IsOver, IsFront, IsTable, IsUnread, opened};
 
 use crate::files::KernelFiles;
 
@@ -68,16 +68,34 @@ fn gather<F: KernelFiles>(files: &F, file: &mut F::File, text: &mut Vec<u8>) -> 
     true
 }
 
+/// Reads a file that was just opened to its end, at most 4 MiB of it, and allocates room for that. `None` if it can't be read.
+fn read_opened<F: KernelFiles + AllocGlobal>(files: &F, mut file: F::File) -> Option<Vec<u8>>
+    requires begun { F.reading file ≡ opened (F.reading file).path }
+    ensures read { IfSome result (λ text. IsTable F.reading (F.reading file).path 4_194_304 text.items) }
+    ensures unread { IfNone result (IsUnread F.reading F.was_refused F.was_full (F.reading file).path) }
+{
+    let mut text = Vec::new(files.alloc());
+    if gather(files, &mut file, &mut text) {
+        Some(text)
+    } else {
+        None
+    }
+}
+
 /// Reads a table to its end, at most 4 MiB of it, and allocates room for that. `None` if it can't be read.
 pub(crate) fn read_table<F: KernelFiles + AllocGlobal>(files: &F, path: &str) -> Option<Vec<u8>>
     ensures read { IfSome result (λ table. IsTable F.reading path.now 4_194_304 table.items) }
     ensures unread { IfNone result (IsUnread F.reading F.was_refused F.was_full path.now) }
 {
-    let mut table = files.open(path)?;
-    let mut text = Vec::new(files.alloc());
-    if gather(files, &mut table, &mut text) {
-        Some(text)
-    } else {
-        None
-    }
+    let table = files.open(path)?;
+    read_opened(files, table)
+}
+
+/// Reads the names in a folder, each ended by a NUL, as `read_table` reads a table.
+pub(crate) fn read_folder<F: KernelFiles + AllocGlobal>(files: &F, path: &str) -> Option<Vec<u8>>
+    ensures read { IfSome result (λ names. IsTable F.reading path.now 4_194_304 names.items) }
+    ensures unread { IfNone result (IsUnread F.reading F.was_refused F.was_full path.now) }
+{
+    let folder = files.open_folder(path)?;
+    read_opened(files, folder)
 }

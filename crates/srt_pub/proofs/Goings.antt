@@ -187,7 +187,7 @@ missing_more false b c e f = let k = not-false _ e in rw k (by c)
     by true = refl
     by false = refl
 
-still_received : (a : Arrival) (xs : List Arrival) (n : ℕ) → is_some (arrival_of xs n) ≡ true → is_some (arrival_of (a ∷ xs) n) ≡ true
+pub still_received : (a : Arrival) (xs : List Arrival) (n : ℕ) → is_some (arrival_of xs n) ≡ true → is_some (arrival_of (a ∷ xs) n) ≡ true
 still_received a xs n e = by (a.number == n)
   where
     by : (b : Bool) → is_some (cond b (Some a) (arrival_of xs n)) ≡ true

@@ -43,7 +43,7 @@ impl Counts {
     ghost use Rattle.srt_pub.specs.Counting.{counts_of, with_one, with_put, with_steps, with_nak, with_full_window};
 
     /// Returns the counters of a session that has just begun.
-    pub(crate) fn none() -> Counts
+    pub fn none() -> Counts
         ensures { result ≡ counts_of [] 0 0 [] }
     {
         Counts {

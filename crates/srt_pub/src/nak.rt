@@ -11,16 +11,13 @@ ghost use Rattle.srt_pub.specs.Counting.{capped, numbers_between, numbers_in_pai
 ghost use Rattle.srt_pub.specs.Publishing.{naks, is_nak_due, nak_report};
 ghost use Rattle.srt_pub.specs.Calls.{listed};
 ghost use Rattle.srt_pub.specs.Publishing.Note.{Sent};
-ghost use Rattle.srt_timing.specs.RoundTrip.{nak_interval as interval_of, round_trip_of};
 
 use crate::log::Log;
 use crate::session::{Publisher, steps};
 use arrayvec::ArrayVec;
 use srt_loss::write;
 use srt_packet::{Body, EncodedPacket};
-use srt_timing::Rtt;
 use srt_types::Seq31;
-use srt_types::protocol_limits::MIN_NAK_INTERVAL_US;
 
 impl Publisher {
     ghost use Rattle.srt_pub.specs.Stands.{opening_of};
@@ -81,7 +78,7 @@ impl Log {
     pub fn is_nak_due(&self, time: u64) -> bool
         ensures { LogHoldsOf self.now (λ terms notes. result ≡ is_nak_due terms.callers time notes) }
     {
-        time.saturating_sub(self.nak) >= nak_interval(&self.rtt.values())
+        time.saturating_sub(self.nak) >= self.rtt.values().nak_interval()
     }
 
     /// Records that a NAK is sent, of all gaps or of new ones only.
@@ -91,14 +88,6 @@ impl Log {
         self.nak = later_if(all, time, self.nak);
         self.sent = time;
     }
-}
-
-/// Returns the interval between two periodic NAKs, which report all gaps, in microseconds: half the sum of the round-trip
-/// time and four times the variance, rounded down, and at least 20 ms (section 4.8.2).
-fn nak_interval(times: &Rtt) -> u64
-    ensures { result ≡ interval_of (round_trip_of times.now) }
-{
-    ((u64::from(times.rtt()) + 4 * u64::from(times.variance())) / 2).max(MIN_NAK_INTERVAL_US)
 }
 
 /// Returns the number of numbers from `first` to `last`, inclusive.

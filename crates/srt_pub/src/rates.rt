@@ -10,6 +10,7 @@ ghost use Rattle.srt_pub.specs.Publishing.{up_to_median};
 
 use srt_packet::Rates;
 use srt_recvbuf::Put;
+use srt_types::protocol_limits::MAX_PAYLOAD;
 use std::alloc::{AllocError, Global};
 
 /// Number of stored times: of the latest new packet and of the 16 before it.
@@ -210,6 +211,6 @@ fn rates_with(rate: u32) -> Rates
     Rates {
         packets: rate,
         capacity: rate.max(MIN_LINK_CAPACITY),
-        bytes: rate * 1456,
+        bytes: rate * MAX_PAYLOAD as u32,
     }
 }

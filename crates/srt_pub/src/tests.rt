@@ -558,20 +558,7 @@ fn what_a_session_counts(rt: HostRuntime) -> Result<(), Fail> {
 
 /// Returns a session of callers that use libsrt, with 32 places and the initial number 7.
 fn libsrt_session(alloc: Global, mode: Mode) -> Result<Publisher, Fail> {
-    let Some(initial) = Seq31::new(7) else {
-        return Err(Fail::from("a word with its top bit set"));
-    };
-    let mut publisher = Publisher::open(alloc, 32)?;
-    publisher.start(Opening {
-        now: OPENING,
-        stamp: Stamp32::new(0),
-        initial,
-        caller: 1,
-        mode,
-        delay: 1_000_000,
-        callers: Callers::Libsrt,
-    });
-    Ok(publisher)
+    session_with(alloc, 32, 7, mode, 1_000_000, Callers::Libsrt)
 }
 
 /// Passes this number of packets, from number 7 on, with this number of microseconds between them.

@@ -6,7 +6,7 @@ use srt_types::protocol_limits::MAX_PAYLOAD;
 
 #[derive(Drop)]
 struct PayloadArray {
-    bytes: [u8; 1456],
+    bytes: [u8; MAX_PAYLOAD],
 }
 
 impl PayloadArray {

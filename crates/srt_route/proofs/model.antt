@@ -20,6 +20,7 @@ pub mod Activity
 pub mod Queues
 pub mod Following
 pub mod Secured
+pub mod Renewals
 pub mod Decrypting
 pub mod Sound
 pub mod Sendables

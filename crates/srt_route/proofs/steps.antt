@@ -15,6 +15,7 @@ pub mod Delivered
 pub mod Besides
 pub mod Saying
 pub mod Serving
+pub mod Refreshing
 pub mod Securing
 pub mod Stepping
 pub mod Closing

@@ -5,7 +5,9 @@ pub mod Sessions
 pub mod RouteKeys
 pub mod Shifted
 pub mod Decryption
+pub mod KeyRefresh
 pub mod Route
+pub mod KeyLaws
 pub mod Rests
 pub mod ShiftLaws
 pub mod Relabel

@@ -11,6 +11,10 @@ use Rattle.srt_types.specs.declared.shared.Callers.TheVariants.{Draft, Libsrt}
 use Rattle.srt_types.specs.declared.shared.Role.{Role}
 use Rattle.srt_types.specs.Terms.{Terms}
 use Rattle.srt_types.specs.Items.{Datagram, Item, Received, Tick, Close, moment_of}
+use Rattle.srt_packet.specs.KeyPacket.{key_packet_text}
+use Rattle.srt_packet.specs.declared.key_packet.KeyPacketKind.TheVariants as messages
+use Rattle.srt_session_keys.specs.Publisher.{response_to}
+use Rattle.srt_session_keys.specs.declared.publisher.KeyAnswer.{KeyAnswer}
 use Rattle.srt_packet.specs.declared.reading.PacketFault.{PacketFault}
 use Rattle.srt_packet.specs.declared.writing.Body.TheVariants as out
 use Rattle.srt_packet.specs.Grammar.{Packet, Body, Handshake}
@@ -29,9 +33,11 @@ use Rattle.srt_route.specs.declared.slot_keys.KeyOpening.{KeyOpening}
 use Rattle.srt_route.specs.declared.slot_keys.KeyVerdict.{KeyVerdict}
 use Rattle.srt_route.specs.declared.slot_keys.KeyVerdict.TheVariants.{TooMany, WrongSecret, Opened}
 use Rattle.srt_route.specs.RouteKeys.{Brought, KeysOpened, RouteKeys, SlotKeys, Clear, brought_in, cookie_in, first_keys, has_secured_role, opening}
+use Rattle.srt_route.specs.RouteKeys.{with_slot}
 use Rattle.srt_route.specs.RouteKeys.{passphrase_of}
 use Rattle.srt_route.specs.RouteKeys.{request_of}
 use Rattle.srt_route.specs.Decryption.{clear_bytes}
+use Rattle.srt_route.specs.KeyRefresh.{answer_by, refreshed, request_in}
 use Rattle.srt_route.specs.Past.{Report, report_text, past_of, least_with, loses_window, publisher_end, has_all, has_left, is_shutdown}
 use Rattle.srt_route.specs.Sessions.{Session, is_open_in, is_same_peer, id_of, session_id, answer_of, publishes, is_subscriber, open_publishers}
 use Rattle.srt_route.specs.Sessions.{active, is_active, by_slot, free_slot, free_slots, sessions_from, generation_of, time_in, is_idle, terms_of}
@@ -50,13 +56,14 @@ abbrev pub opened : Route
 opened = record { clock = 0; sessions = []; is_closed = false; keys = first_keys }
 
 -- what is sent to the socket with ID `caller`: the answer to its handshake, the same with the contents of a KMREQ block,
--- a report of a session with this initial number, or the SHUTDOWN that ends a session; `time` is in microseconds since
--- the session's opening
+-- a report of a session with this initial number, the SHUTDOWN that ends a session, or a KMRSP with these contents; `time`
+-- is in microseconds since the session's opening
 pub data Output : Type 0 where
   Answers : (caller : ℕ) (answer : HsAnswer) → Output
   AnswersWithKeys : (caller : ℕ) (request : List ℕ) (answer : HsAnswer) → Output
   Says : (caller initial time : ℕ) (report : Report) → Output
   Ends : (caller time : ℕ) → Output
+  Responds : (caller time : ℕ) (contents : List ℕ) → Output
 
 pub record Reply : Type 0 where
   pub peer : Peer
@@ -69,6 +76,8 @@ output_text (AnswersWithKeys caller request answer) =
     text (record { stamp = 0; dest = caller; body = out.Handshake (record { items = answer_with (Some request) answer }) })
 output_text (Says caller initial time report) = report_text caller initial time report
 output_text (Ends caller time) = text (record { stamp = time % 2 ^ 32; dest = caller; body = out.Shutdown })
+output_text (Responds caller time contents) =
+    key_packet_text (record { stamp = time % 2 ^ 32; dest = caller; kind = messages.Response; info = contents })
 
 abbrev pub sent : Reply → Datagram
 sent r = record { peer = r.peer; bytes = output_text r.packet }
@@ -296,6 +305,8 @@ pub data Verdict : Type 0 where
   Repeats : (request : Option (List ℕ)) → Verdict
   -- the session that it is for processes these bytes in its place
   Decrypted : (bytes : List ℕ) → Verdict
+  -- it is answered by this reply: a KMREQ, which no session answers by itself
+  Answered : (answer : Reply) → Verdict
 
 -- the same, with the route's keys after it
 pub record Judged : Type 0 where
@@ -350,18 +361,41 @@ abbrev pub info_of : Body → List ℕ
 info_of (Handshake info) = info
 info_of _ = []
 
--- a packet for a session, whose bytes are these
-abbrev pub session_judged : Packet → (bytes : List ℕ) → RouteKeys → Option Session → Judged
-session_judged packet bytes keys None = as_before keys
-session_judged packet bytes keys (Some s) = record { verdict = Decrypted (clear_bytes (keys.held s.slot) packet bytes); keys = keys }
+-- a KMRSP to a session's peer (section 3.2.2)
+abbrev pub responded : (clock : ℕ) → Session → (contents : List ℕ) → Reply
+responded clock s contents = record { peer = s.peer; packet = Responds s.conclusion.caller (time_in s clock) contents }
 
-abbrev pub packet_judged : Terms → (index clock : ℕ) → Peer → Packet → (bytes : List ℕ) → List Session → RouteKeys → Judged
-packet_judged e index clock peer packet bytes sessions keys =
+-- a packet for a session, whose bytes are these
+abbrev pub decrypted_judged : Packet → (bytes : List ℕ) → RouteKeys → Session → Judged
+decrypted_judged packet bytes keys s = record { verdict = Decrypted (clear_bytes (keys.held s.slot) packet bytes); keys = keys }
+
+-- a KMREQ with these contents for a session, which answers it so
+abbrev pub answered_judged : Option KeyAnswer → (contents : List ℕ) → (clock : ℕ) → Packet → (bytes : List ℕ) → RouteKeys → Session → Judged
+answered_judged None contents clock packet bytes keys s = decrypted_judged packet bytes keys s
+answered_judged (Some answer) contents clock packet bytes keys s =
+    record {
+      verdict = Answered (responded clock s (response_to answer contents));
+      keys = with_slot s.slot (refreshed contents (keys.held s.slot)) keys;
+    }
+
+-- a packet for a session: a KMREQ, if it has contents
+abbrev pub destined_judged : (request : Option (List ℕ)) → (clock : ℕ) → Packet → (bytes : List ℕ) → RouteKeys → Session → Judged
+destined_judged None clock packet bytes keys s = decrypted_judged packet bytes keys s
+destined_judged (Some contents) clock packet bytes keys s =
+    answered_judged (answer_by contents (keys.held s.slot)) contents clock packet bytes keys s
+
+abbrev pub session_judged : (request : Option (List ℕ)) → (clock : ℕ) → Packet → (bytes : List ℕ) → RouteKeys → Option Session → Judged
+session_judged request clock packet bytes keys None = as_before keys
+session_judged request clock packet bytes keys (Some s) = destined_judged request clock packet bytes keys s
+
+abbrev pub packet_judged : Terms → (index clock : ℕ) → Peer → (request : Option (List ℕ)) → Packet → (bytes : List ℕ) → List Session → RouteKeys
+    → Judged
+packet_judged e index clock peer request packet bytes sessions keys =
     if packet.dest == 0 then info_judged e index clock peer (info_of packet.body) sessions keys (concludes packet.body)
-    else session_judged packet bytes keys (find (is_for index peer packet.dest) sessions)
+    else session_judged request clock packet bytes keys (find (is_for index peer packet.dest) sessions)
 
 abbrev pub read_judged : Terms → (index clock : ℕ) → Peer → Result Packet PacketFault → (bytes : List ℕ) → List Session → RouteKeys → Judged
-read_judged e index clock peer (Ok packet) bytes sessions keys = packet_judged e index clock peer packet bytes sessions keys
+read_judged e index clock peer (Ok packet) bytes sessions keys = packet_judged e index clock peer (request_in bytes) packet bytes sessions keys
 read_judged e index clock peer (Err fault) bytes sessions keys = as_before keys
 
 abbrev pub item_judged : Terms → (index clock : ℕ) → Item → List Session → RouteKeys → Judged
@@ -398,6 +432,7 @@ heard_as Ignored item = Tick (moment_of item)
 heard_as (Refused peer c) item = Tick (moment_of item)
 heard_as (Repeats request) item = item
 heard_as (Decrypted bytes) item = with_bytes bytes item
+heard_as (Answered answer) item = item
 
 -- an answer that repeats the contents of a KMREQ block (section 3.2.2)
 abbrev pub output_with : (request : List ℕ) → Output → Output
@@ -405,6 +440,7 @@ output_with request (Answers caller answer) = AnswersWithKeys caller request ans
 output_with request (AnswersWithKeys caller other answer) = AnswersWithKeys caller other answer
 output_with request (Says caller initial time report) = Says caller initial time report
 output_with request (Ends caller time) = Ends caller time
+output_with request (Responds caller time contents) = Responds caller time contents
 
 abbrev pub reply_with : (request : List ℕ) → Reply → Reply
 reply_with request r = record { peer = r.peer; packet = output_with request r.packet }
@@ -417,6 +453,7 @@ answers_as (Refused peer c) answers = answered peer c.caller (refusal c codes.Ba
 answers_as (Repeats None) answers = answers
 answers_as (Repeats (Some request)) answers = map (reply_with request) answers
 answers_as (Decrypted bytes) answers = answers
+answers_as (Answered answer) answers = answer ∷ []
 
 abbrev pub taken_as : Verdict → Taken → Taken
 taken_as verdict t = record { sessions = t.sessions; answers = answers_as verdict t.answers }

@@ -16,7 +16,7 @@ use Rattle.srt_route.specs.declared.route.Route.{Route as TheRoute}
 use Rattle.srt_route.specs.declared.table.Table.{Table}
 use Rattle.srt_route.specs.Admission.{admitted}
 use Rattle.srt_route.specs.Sessions.{Session, advanced}
-use Rattle.srt_route.specs.Route.{Route, Verdict, Passes, Ignored, Refused, Repeats, Decrypted, clock_after, concludes, heard_by, is_of, judgement}
+use Rattle.srt_route.specs.Route.{Route, Verdict, Passes, Ignored, Refused, Repeats, Decrypted, Answered, clock_after, concludes, heard_by, is_of, judgement}
 use Rattle.srt_route.specs.Tables.{IsTable}
 use Rattle.srt_route.specs.Ledgers.{more, refusals_with}
 
@@ -66,6 +66,7 @@ verdict_tally Ignored t = t
 verdict_tally (Refused peer c) t = record t { refusals = refusals_with causes.Secret t.refusals }
 verdict_tally (Repeats request) t = t
 verdict_tally (Decrypted bytes) t = t
+verdict_tally (Answered answer) t = t
 
 -- the counts after an item, where `route` is the route before it; after a route was closed nothing is counted
 abbrev pub tally_after : Terms → (index : ℕ) → Item → Route → Tally → Tally

@@ -1,28 +1,28 @@
-//! Step 3 of an event, a conclusion at its route (sections 3.2.1 and 4.3.1.2): every refusal in its order, and the
-//! opening of a session.
+//! Step 3 of an event, a conclusion of a caller without a session at its route (sections 3.2.1 and 4.3.1.2): every refusal
+//! in its order, and the opening of a session. `repeated_conclusion.rt` has one of a caller with a session.
 
-ghost use Rattle.std.specs.Prelude.{◌≡◌, ◌<◌, ◌^◌, ◌∷◌, [], Some, count_by, length, IfOk};
-ghost use Rattle.srt_types.specs.Given.{given};
+ghost use Rattle.std.specs.Prelude.{◌≡◌, ◌<◌, ◌^◌, ◌∷◌, [], count_by, length, IfOk};
 ghost use Rattle.srt_route.specs.Route.{is_buffer, is_crowded, is_reserved, refused};
 ghost use Rattle.srt_route.specs.Written.{written};
-ghost use Rattle.srt_route.specs.Tables.{has_address, written_of};
+ghost use Rattle.srt_route.specs.Tables.{has_address};
 ghost use Rattle.srt_route.specs.Admission.{admitted};
-ghost use Rattle.srt_route.specs.Tallies.{Tallies, admitted_tally, conclusion_tally};
-ghost use Rattle.srt_route.specs.inside.Calls.{Admits, OpensSession, TakesConclusion, TakesFirst};
+ghost use Rattle.srt_route.specs.Tallies.{Tallies, admitted_tally};
+ghost use Rattle.srt_route.specs.inside.Calls.{Admits, OpensSession, TakesFirst};
 
 use crate::agreement::{Agreement, agree};
-use crate::answer::{accepted, answer_to, refusal};
+use crate::answer_writing::{accepted, answer_to, refusal};
 use crate::arrival::Arrival;
 use crate::conclusion_reading::Conclusion;
 use crate::ledger::Ledger;
 use crate::part::Part;
 use crate::refusals::RefusalCause;
 use crate::replies::Reply;
-use crate::seat::{Seat, Session, count_from, count_publishers, count_vacant, free_slot, slot_of};
+use crate::seat::{Seat, Session, count_from, count_publishers, count_vacant, free_slot};
 use crate::socket_ids::id_at;
 use crate::standby::{leading_after, unused_buffers};
 use crate::start::start_buffers;
 use crate::table::Table;
+use srt_types::product_limits::MAX_PUBLISHERS;
 use srt_types::protocol_limits::{MAX_MTU, MIN_MTU};
 use srt_types::{Mode, Peer, Role};
 
@@ -54,7 +54,7 @@ fn refused(mode: Mode, publishers: usize, c: &Conclusion) -> Option<RefusalCause
     if c.mtu < MIN_MTU || c.window == 0 || (!publishes && is_buffer(mode) && c.mtu < MAX_MTU) {
         return Some(RefusalCause::Rogue);
     }
-    if publishes && publishers >= 2 {
+    if publishes && publishers >= MAX_PUBLISHERS {
         return Some(RefusalCause::Peer);
     }
     None
@@ -151,7 +151,7 @@ fn open_session(
 }
 
 /// Admits or refuses a conclusion of a caller without a session, and writes the answer into `reply`.
-fn consider(
+pub fn consider(
     table: &mut Table,
     ledger: &mut Ledger,
     arrival: Arrival,
@@ -178,25 +178,4 @@ fn consider(
             );
         }
     }
-}
-
-/// Processes a conclusion. A caller with an open session is sent its first answer again; any other is admitted or
-/// refused. Returns true if `reply` has an answer.
-pub fn conclude(
-    table: &mut Table,
-    ledger: &mut Ledger,
-    arrival: Arrival,
-    c: Conclusion,
-    reply: &mut Reply,
-) -> bool
-    requires { c.initial < 2 ^ 31 }
-    ensures taken { TakesConclusion arrival c table.old table.new (written_of (given result reply.new)) }
-    ensures ended { (ledger.new.ended ≡ ledger.old.ended) × (ledger.new.totals ≡ ledger.old.totals) }
-    ensures tally { Tallies arrival.clock (λ e sessions. conclusion_tally e arrival.peer sessions (Some c)) table.old ledger.old ledger.new }
-{
-    if let Some(at) = slot_of(&table.seats, arrival.peer, c.caller) {
-        return table.seats[at].again(arrival.clock, arrival.peer, reply);
-    }
-    consider(table, ledger, arrival, c, reply);
-    true
 }

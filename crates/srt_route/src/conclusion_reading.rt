@@ -6,6 +6,7 @@ ghost use Rattle.srt_route.specs.Conclusions.{conclusion_in, conclusion_of, is_c
 
 use srt_hs::{CongestionText, HsKind, HsRef, congestion, read, stream_id};
 use srt_types::Role;
+use srt_types::protocol_limits::MAX_STREAM_ID;
 
 /// The values that a route reads from a conclusion.
 #[derive(Drop)]
@@ -42,7 +43,7 @@ fn is_conclusion(kind: HsKind) -> bool
 fn role_requested(hs: &HsRef<'_>) -> Option<Role>
     ensures { result ≡ role_requested (handshake_of hs.now).blocks.stream_id }
 {
-    let mut text = [0u8; 512];
+    let mut text = [0u8; MAX_STREAM_ID];
     let len = stream_id(hs, &mut text)?;
     match srt_streamid::read(&text[..len]) {
         Ok(ask) => Some(ask.role),

@@ -17,13 +17,13 @@ ghost use Rattle.srt_route.specs.Totals.{SumsGrow};
 ghost use Rattle.srt_route.specs.Tallies.{Tallies, item_tally, packet_tally, read_tally};
 ghost use Rattle.srt_route.specs.inside.Calls.{AnswersItem, AnswersPacket, TakenBySession, TakesDatagram, TakesItem, TakesPacket};
 
-use crate::admission::conclude;
 use crate::arrival::{Arrival, Receipt};
 use crate::closing::{close_seats, tell_lost};
 use crate::conclusion_reading::conclusion_in;
 use crate::draining::{drains_after, end_unless};
 use crate::files::{note_end, of_libsrt, shutdown_end};
 use crate::ledger::{Ledger, cause_of, shutdown_cause};
+use crate::repeated_conclusion::conclude;
 use crate::replies::Reply;
 use crate::reply_queue::ReplyQueue;
 use crate::seat::{Seat, recounted};

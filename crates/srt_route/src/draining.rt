@@ -19,12 +19,12 @@ use crate::files::note_end;
 use crate::ledger::{Ledger, drained_cause};
 use crate::part::Part;
 use crate::seat::{Seat, count_draining, recounted};
+use crate::silence::DRAIN_TIMEOUT_US;
 use crate::standby::{active_buffers, is_active_by};
 use crate::table::Table;
 use crate::view::latency_in;
 use srt_packet::Kind;
 use srt_pub::PubEnd;
-use srt_types::protocol_limits::PEER_IDLE_TIMEOUT_US;
 use srt_types::{Callers, Mode, Role};
 
 /// Returns the time until which the publisher's session of this slot drains after a packet, in microseconds; None if it
@@ -60,7 +60,7 @@ fn drains_from(table: &Table, at: usize, kind: &Kind<'_>, clock: u64) -> Option<
                 return None;
             }
             let delay = u64::from(latency_in(Role::Publish, &session.answer)) * 1000;
-            Some(clock + delay + PEER_IDLE_TIMEOUT_US)
+            Some(clock + delay + DRAIN_TIMEOUT_US)
         }
         None => None,
     }
@@ -134,7 +134,7 @@ fn renewed(mode: Mode, delivered: bool, clock: u64, until: u64) -> u64
         Mode::Live => until,
         Mode::Buffer => {
             if delivered {
-                clock + PEER_IDLE_TIMEOUT_US
+                clock + DRAIN_TIMEOUT_US
             } else {
                 until
             }

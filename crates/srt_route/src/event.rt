@@ -6,11 +6,11 @@ ghost use Rattle.srt_route.specs.Totals.{SumsGrow};
 ghost use Rattle.srt_route.specs.inside.Event.{Counts, Ends, KeysPass, Passes, Replies};
 
 use crate::draining::deliver_and_settle;
-use crate::idle::advance;
 use crate::ledger::Ledger;
 use crate::reply_queue::{ReplyQueue, ScratchBoxes};
 use crate::route_keys::RouteKeys;
 use crate::secured::dispatch_secured;
+use crate::silence::advance;
 use crate::table::Table;
 use crate::transmit::{transmit_publishers, transmit_subscribers};
 use srt_types::Item;

@@ -1,7 +1,7 @@
 //! The keys of a route's sessions. The key material messages were made by another implementation of RFC 3394 and RFC 8018
 //! from the passphrases here.
 
-use crate::brought_keys::{brought_in, cookie_in};
+use crate::key_request_reading::{brought_in, cookie_in};
 use crate::route_keys::RouteKeys;
 use crate::slot_keys::{KeyOpening, KeyVerdict, SlotKeys};
 use crate::tests::{FIRST, PUBLISHES, entry, peer};
@@ -27,6 +27,9 @@ const OTHER_CIPHER: &str =
 /// A KMREQ block with a key of 24 bytes, wrapped under the passphrase of subscribers.
 const LONG_KEYS: &str =
     "0003001012202901000000000200020000000406ffeeddccbbaa9988776655443322110055d5c0a04098090aa97287b4eba8443d46d8ba88121ed8187cffdf8e770d9860";
+
+/// The wrapped key of the session that this subscriber opens after that.
+const NEXT_WRAP: &str = "a27600475b0623a41cfb111dcfcdfbb5716f43e4cfea2828abc51598a57453c0";
 
 /// The message of the first key that the gateway makes for that subscriber.
 const OWN_MESSAGE: &str =
@@ -127,15 +130,16 @@ fn a_publisher_opens_with_its_own_keys(rt: HostRuntime) -> Result<(), Fail> {
     if keys.slots.len() < 5 || wanted.len() < 4 {
         return Err(Fail::from("five slots, and a block"));
     }
-    match &keys.slots[1] {
+    assert!(rt; keys.slots[1].is_held);
+    match &keys.slots[1].keys {
         SlotKeys::Publisher { request, .. } => assert!(rt;
             request.bytes.as_slice() == &wanted[4..]
         ),
         _ => return Err(Fail::from("the keys of a publisher")),
     }
-    assert!(rt; matches!(keys.slots[0], SlotKeys::Clear));
+    assert!(rt; !keys.slots[0].is_held);
     keys.clear(1);
-    assert!(rt; keys.slots.len() == 5);
+    assert!(rt; keys.slots.len() == 5 && !keys.slots[1].is_held);
     Ok(())
 }
 
@@ -148,10 +152,32 @@ fn a_subscriber_opens_with_keys_of_the_gateway(rt: HostRuntime) -> Result<(), Fa
     if keys.slots.len() < 5 {
         return Err(Fail::from("five slots"));
     }
-    match &mut keys.slots[1] {
+    match &mut keys.slots[1].keys {
         SlotKeys::Subscriber { keys, .. } => {
             assert!(rt; keys.announce(0, 1_010_000));
             assert!(rt; keys.message() == &hex::decode(rt.alloc(), OWN_MESSAGE)?[..]);
+        }
+        _ => return Err(Fail::from("the keys of a subscriber")),
+    }
+    Ok(())
+}
+
+#[test]
+fn a_subscriber_that_opens_again_has_another_key(rt: HostRuntime) -> Result<(), Fail> {
+    let mut keys = secured(rt.alloc(), HORSE, LINE)?;
+    let mut at = opening(1_010_000, peer(5001), Role::Request);
+    assert_eq!(rt; opened(&rt, &mut keys, at, LONG_KEYS)?, 2);
+    at.id = 0x10_0101;
+    assert_eq!(rt; opened(&rt, &mut keys, at, LONG_KEYS)?, 2);
+    if keys.slots.len() < 5 {
+        return Err(Fail::from("five slots"));
+    }
+    match &mut keys.slots[1].keys {
+        SlotKeys::Subscriber { keys, .. } => {
+            assert!(rt; keys.announce(0, 1_015_000));
+            let message = keys.message();
+            assert!(rt; message.len() == 64);
+            assert!(rt; &message[32..] == &hex::decode(rt.alloc(), NEXT_WRAP)?[..]);
         }
         _ => return Err(Fail::from("the keys of a subscriber")),
     }

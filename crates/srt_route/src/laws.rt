@@ -6,12 +6,13 @@ ghost use Rattle.srt_route.specs.Bounds.{TwoPublish, NoMoreThanSlots, OneInASlot
 ghost use Rattle.srt_route.specs.Closed.{ClosesOnce, ClosedHasNoSession, ClosedIsQuiet};
 ghost use Rattle.srt_route.specs.Deadlines.{DeadlinesAreNear};
 ghost use Rattle.srt_route.specs.Drafts.{ClocksAreTrusted, NoneDrains, ResendAtEachTimeout};
+ghost use Rattle.srt_route.specs.KeyLaws.{RenewalsAreFree};
 ghost use Rattle.srt_route.specs.Limits.{FewOfAnAddress, KeepsSlots, NoneIsKeptFromPublishers, PublishersHaveSlots};
 ghost use Rattle.srt_route.specs.Queues.{QueuesGoOn};
 ghost use Rattle.srt_route.specs.Relabel.{Renumbers, Restamps, Moves};
 ghost use Rattle.srt_route.specs.Resends.{ResendsAllOnce, ResendsFew, SilentAreSentNothing};
 ghost use Rattle.srt_route.specs.Route.{RepliesHavePlaces};
-ghost use Rattle.srt_route.specs.Sendable.{PublishersSendPackets, SubscribersSendPackets, AnswersArePackets, RepliesArePackets};
+ghost use Rattle.srt_route.specs.Sendable.{PublishersSendPackets, SubscribersSendPackets, AnswersArePackets, RepliesArePackets, ClearRepliesArePackets};
 ghost use Rattle.srt_route.specs.ShiftLaws.{ShiftGoesRound, FourBytesAreTheWord, PacketsShift, LengthsStay, LossesShift, HandshakesShift};
 ghost use Rattle.srt_route.specs.ShiftLaws.{ConclusionsShift, PacketsRestamp, CountsStay, StampsStay, PublishersHearTheSame};
 ghost use Rattle.srt_route.specs.ShiftLaws.{SubscribersHearTheSame, PublishersSayOthers, SubscribersSayOthers, AnswersSayOthers};
@@ -51,6 +52,7 @@ pub fn replies_have_places()
 /// what a publisher's session sends, for what a subscriber's session sends, and for each answer to a handshake.
 pub fn replies_are_packets()
     ensures replies { RepliesArePackets }
+    ensures clear { ClearRepliesArePackets }
     ensures publishers { PublishersSendPackets }
     ensures subscribers { SubscribersSendPackets }
     ensures answers { AnswersArePackets }
@@ -97,6 +99,12 @@ pub fn acknowledged()
     ensures fed { FeedsAll }
     ensures at_once { EndsAtOnce }
     ensures drained { EndsDrained }
+{}
+
+/// A KMREQ that is answered during a session derives no key and makes none: the moments of the limit on derivations and the
+/// pool of subscribers' keys stay. The sessions process it as it came (our choice).
+pub fn key_renewals()
+    ensures { RenewalsAreFree }
 {}
 
 /// A route keeps its limits, whatever its items are. The free slots and the open publishers are together at least as

@@ -19,26 +19,27 @@
 //! `step` in `route.rt` processes an event in six steps, all but the first in `event.rt`:
 //!
 //! - 1: the clock.
-//! - 2: `idle.rt` ends idle sessions, drops what is too late, and lets the standby take over.
+//! - 2: `silence.rt` ends idle sessions, drops what is too late, and lets the standby take over.
 //! - 3: `dispatch.rt` processes a packet of a session, a conclusion or a Close (`closing.rt`). For conclusions,
-//!   `conclusion_reading.rt` reads them, `admission.rt` checks for each refusal, `refusals.rt` has the causes, `agreement.rt`
-//!   the negotiated values and `answer.rt` the answer. If a role has a passphrase, `secured.rt` judges a conclusion before.
+//!   `conclusion_reading.rt` reads them, `repeated_conclusion.rt` answers a repeated one, `admission.rt` checks for each
+//!   refusal, `refusals.rt` has the causes, `agreement.rt` the negotiated values and `answer_writing.rt` the answer. If a
+//!   role has a passphrase, `secured.rt` judges a conclusion before.
 //! - 4: `delivery.rt` delivers payloads, and `draining.rt` ends sessions that have drained.
 //! - 5 and 6: `transmit.rt` sends the publishers' packets and then the subscribers'.
 //!
 //! Other modules: `resting.rt` opens a route that continues where another one rests; `files.rt` has the end of a file,
 //! and which subscribers have all of it; `standby.rt`, which of two publishers is active; `socket_ids.rt`, the socket
 //! IDs; `reply_queue.rt`, the waiting replies; `ledger.rt` and `totals.rt`, what is kept of ended sessions;
-//! `route_keys.rt`, `slot_keys.rt`, `brought_keys.rt` and `key_text.rt`, the keys of sessions. The definition of a route
-//! is in `specs/Route.antt`, those of ends and counts in `specs/Ends.antt` and `specs/Tallies.antt`, and those of keys in
-//! `specs/RouteKeys.antt`.
+//! `key_refresh.rt`, the messages that renew a publisher's keys; `route_keys.rt`, `slot_keys.rt`, `key_request_reading.rt` and
+//! `key_text.rt`, the keys of sessions. The definition of a
+//! route is in `specs/Route.antt`, those of ends and counts in `specs/Ends.antt` and `specs/Tallies.antt`, and those of keys
+//! in `specs/RouteKeys.antt`.
 #![tactic(auto)]
 
 mod admission;
 mod agreement;
-mod answer;
+mod answer_writing;
 mod arrival;
-mod brought_keys;
 mod closing;
 mod conclusion_reading;
 mod delivery;
@@ -46,7 +47,8 @@ mod dispatch;
 mod draining;
 mod event;
 mod files;
-mod idle;
+mod key_refresh;
+mod key_request_reading;
 mod key_text;
 pub mod laws;
 mod ledger;
@@ -54,6 +56,7 @@ mod opening;
 mod part;
 mod publisher_buffers;
 mod refusals;
+mod repeated_conclusion;
 mod replies;
 mod reply_queue;
 mod resting;
@@ -61,6 +64,7 @@ mod route;
 mod route_keys;
 mod seat;
 mod secured;
+mod silence;
 mod slot_keys;
 mod socket_ids;
 mod stage;

@@ -25,10 +25,10 @@ use std::alloc::Global;
 impl Route {
     /// Opens a route that continues where another route with the same entry and index rests: with its clock, in
     /// microseconds, and with the number of sessions, modulo 2^16, that were ever opened in each of its slots
-    /// (`clock` and `generation`). It replies as that one would, and keeps none of its ended sessions and counts.
-    /// Allocates as `open` does. Errors: `Names` if the name has a wrong form, else `Limits` if the index or a number is
-    /// outside its limits, the number of generations isn't the number of sessions, or the clock is 2^62 or more, else
-    /// `OutOfMemory`.
+    /// (`clock` and `generation`). It replies as that one would, and keeps none of its ended sessions and counts. Keys
+    /// aren't handed over, so an entry with a passphrase is refused. Allocates as `open` does. Errors: `Names` if the name
+    /// has a wrong form, else `Limits` if the index or a number is outside its limits, the entry has a passphrase, the
+    /// number of generations isn't the number of sessions, or the clock is 2^62 or more, else `OutOfMemory`.
     pub fn open_resting(
         alloc: Global,
         entry: &Entry,

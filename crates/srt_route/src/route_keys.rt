@@ -5,9 +5,11 @@ ghost use Rattle.srt_session_keys.specs.Limiter.{moments_of};
 ghost use Rattle.srt_session_keys.specs.Source.{pool_of};
 
 use crate::key_text::BroughtRef;
-use crate::slot_keys::{KeyOpening, KeyVerdict, SlotKeys, clear_slots, session_keys};
+use crate::opening::has_secured_role;
+use crate::slot_keys::{KeyOpening, KeyPlace, KeyVerdict, clear_slots, session_keys};
 use srt_packet::PacketRef;
-use srt_session_keys::{DerivationLimiter, KeyPool, WrappingKey};
+use srt_session_keys::{DerivationLimiter, DerivationPermit, KeyAnswer, KeyPool, WrappingKey};
+use srt_types::protocol_limits::MAX_PAYLOAD;
 use srt_types::{Entry, Role};
 use std::alloc::{AllocError, Global};
 
@@ -24,7 +26,7 @@ pub(crate) struct RouteKeys {
     /// What distinguishes the subscribers' sessions.
     pub pool: KeyPool,
     /// The keys of each slot's session; no slot if no role is secured.
-    pub slots: Vec<SlotKeys>,
+    pub slots: Vec<KeyPlace>,
     pub ghost few: { 50_000 * (pool_of pool).count ≤ (moments_of limiter).route },
 }
 
@@ -34,6 +36,7 @@ impl RouteKeys {
     ghost use Rattle.srt_types.specs.declared.shared.Role.TheVariants.{Publish, Request};
     ghost use Rattle.srt_packet.specs.View.{packet_of};
     ghost use Rattle.srt_route.specs.Decryption.{in_clear};
+    ghost use Rattle.srt_route.specs.KeyRefresh.{answer_by, refreshed};
     ghost use Rattle.srt_route.specs.SlotKeys.{brought_of};
     ghost use Rattle.srt_types.specs.Terms.{Terms, terms_of};
     ghost use Rattle.srt_route.specs.RouteKeys.{RouteKeys as Keys, Clear, first_keys, has_secured_role, kek_for, opening as the_opening};
@@ -54,8 +57,7 @@ impl RouteKeys {
     pub fn open(alloc: Global, entry: &Entry) -> Result<RouteKeys, AllocError>
         ensures { IfOk result (λ keys. AreKeys (terms_of entry.now) keys first_keys) }
     {
-        let is_secured = entry.access.publish.is_secured() || entry.access.request.is_secured();
-        let places = if is_secured {
+        let places = if has_secured_role(entry) {
             entry.sessions as usize
         } else {
             0
@@ -115,7 +117,7 @@ impl RouteKeys {
         &mut self,
         slot: usize,
         packet: PacketRef<'a>,
-        place: &'a mut [u8; 1456],
+        place: &'a mut [u8; MAX_PAYLOAD],
     ) -> PacketRef<'a>
         requires { slot < length self.old.slots.items }
         ensures packet { (e : Terms) (keys : Keys) → AreKeys e self.old keys → has_secured_role e ≡ true → slot < e.sessions
@@ -127,8 +129,26 @@ impl RouteKeys {
         self.slots[slot].decrypt(packet, place)
     }
 
+    /// Processes the contents of a KMREQ that arrives during the session of a slot: a publisher's takes its keys. Returns its
+    /// answer; None of another session.
+    pub fn refresh(&mut self, slot: usize, contents: &[u8]) -> Option<KeyAnswer>
+        requires { slot < length self.old.slots.items }
+        ensures answer { (e : Terms) (keys : Keys) → AreKeys e self.old keys → has_secured_role e ≡ true → slot < e.sessions
+            → result ≡ answer_by contents.now (keys.held slot) }
+        ensures keys { (e : Terms) (keys : Keys) → AreKeys e self.old keys → has_secured_role e ≡ true → slot < e.sessions
+            → AreKeys e self.new (with_slot slot (refreshed contents.now (keys.held slot)) keys) }
+        ensures places { length self.new.slots.items ≡ length self.old.slots.items }
+    {
+        self.slots[slot].refresh(contents)
+    }
+
     /// Derives the key encrypting key from the passphrase of a role. None if the role isn't secured.
-    fn derive(&self, role: Role, brought: &BroughtRef<'_>) -> Option<WrappingKey>
+    fn derive(
+        &self,
+        permit: DerivationPermit,
+        role: Role,
+        brought: &BroughtRef<'_>,
+    ) -> Option<WrappingKey>
         ensures value { (e : Terms) (passphrase : List ℕ) → option_map string_bytes self.now.publish ≡ passphrase_of e Publish
             → option_map string_bytes self.now.request ≡ passphrase_of e Request → passphrase_of e role ≡ Some passphrase
             → option_map kek_of result ≡ Some (kek_for passphrase (brought_of brought.now).message) }
@@ -138,7 +158,7 @@ impl RouteKeys {
             Role::Publish => self.publish.as_ref()?,
             Role::Request => self.request.as_ref()?,
         };
-        Some(WrappingKey::derive(passphrase.as_bytes(), &brought.message))
+        Some(WrappingKey::derive(permit, passphrase.as_bytes(), &brought.message))
     }
 
     /// Opens a session with the keys that its caller brings, if no more keys were derived lately than the limit allows
@@ -150,15 +170,18 @@ impl RouteKeys {
             → IsOpened e self.new result (the_opening passphrase (brought_of brought.now) opening keys) }
         ensures places { length self.new.slots.items ≡ length self.old.slots.items }
     {
-        if !self.limiter.admits(opening.clock, opening.peer.ip[15]) {
+        let Some(permit) = self.limiter.admits(opening.clock, opening.peer.ip[15]) else {
             return KeyVerdict::TooMany;
-        }
-        let Some(kek) = self.derive(opening.role, brought) else {
+        };
+        let Some(kek) = self.derive(permit, opening.role, brought) else {
             return KeyVerdict::TooMany;
         };
         match session_keys(kek, opening, brought, &mut self.pool) {
             Some(keys) => {
-                self.slots[opening.slot] = keys;
+                self.slots[opening.slot] = KeyPlace {
+                    is_held: true,
+                    keys,
+                };
                 KeyVerdict::Opened
             }
             None => KeyVerdict::WrongSecret,

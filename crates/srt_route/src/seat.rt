@@ -1,19 +1,16 @@
 //! Seats: each slot's session and buffers.
 
-ghost use Rattle.std.specs.Prelude.{◌≡◌, ℕ, ◌+◌, ◌*◌, ◌%◌, ◌^◌, ◌<◌, ◌≤◌, true, false, None, Some, position, length, option_map, count_by, if◌then◌else◌};
+ghost use Rattle.std.specs.Prelude.{◌≡◌, ℕ, ◌+◌, ◌*◌, ◌%◌, ◌^◌, ◌<◌, ◌≤◌, true, false, None, Some, position, length, count_by, if◌then◌else◌};
 ghost use Rattle.std.specs.List.{list_all, list_any};
-ghost use Rattle.srt_types.specs.Given.{given};
 ghost use Rattle.srt_route.specs.Sessions.{is_same_peer};
 ghost use Rattle.srt_route.specs.Tables.{is_session_of, holds, has_address, has_subscriber, used_buffers, publishes_from};
 ghost use Rattle.srt_route.specs.Seats.{has_publisher, session_passes};
 ghost use Rattle.srt_types.specs.Capped.{one_if};
-ghost use Rattle.srt_route.specs.Tables.{has_draining, has_expired, has_speaker, is_of_sort, is_vacant, heard_at, again_of, is_stored_for};
-ghost use Rattle.srt_route.specs.Tables.{stored_after, with_stored, written_of};
+ghost use Rattle.srt_route.specs.Tables.{has_draining, has_expired, has_speaker, is_of_sort, is_vacant, is_stored_for};
+ghost use Rattle.srt_route.specs.Tables.{stored_after, with_stored};
 
-use crate::answer::answer_to;
 use crate::part::Part;
 use crate::publisher_buffers::PublisherBuffers;
-use crate::replies::Reply;
 use srt_hs::HsAnswer;
 use srt_sub::Subscriber;
 use srt_types::{Peer, is_same_site};
@@ -158,22 +155,6 @@ impl Seat {
     {
         self.generation = self.generation.wrapping_add(1);
         self.session = Some(session);
-    }
-
-    /// Handles a repeated conclusion: updates the time at which the peer was last heard, and writes the first answer
-    /// again into `reply`. Returns false if no session is open here.
-    pub fn again(&mut self, clock: u64, peer: Peer, reply: &mut Reply) -> bool
-        ensures seat { self.new ≡ with_stored (option_map (heard_at clock) self.old.session) self.old }
-        ensures answer { written_of (given result reply.new) ≡ again_of peer self.old.session }
-    {
-        match &mut self.session {
-            Some(session) => {
-                session.heard = clock;
-                answer_to(reply, peer, session.caller, &session.answer);
-                true
-            }
-            None => false,
-        }
     }
 
     /// Whether a packet from this peer to this socket ID belongs to the session that is open here.

@@ -1,41 +1,45 @@
 //! Step 3 of an event on a route with a secured role: the keys of sessions (section 3.2.2; what the draft leaves
 //! open is our choice). Everything else is as without keys: see `dispatch.rt` and `admission.rt`.
 
-ghost use Rattle.std.specs.Prelude.{◌≡◌, ◌<◌, ◌^◌, ◌++◌, length};
+ghost use Rattle.std.specs.Prelude.{◌≡◌, ◌<◌, ◌≤◌, ◌^◌, ◌++◌, Some, length};
 ghost use Rattle.srt_types.specs.Given.{given};
 ghost use Rattle.srt_types.specs.Items.{input_of};
 ghost use Rattle.srt_types.specs.Terms.{Terms};
 ghost use Rattle.srt_packet.specs.View.{packet_of};
 ghost use Rattle.srt_route.specs.RouteKeys.{RouteKeys as Keys, request_of, with_slot};
 ghost use Rattle.srt_route.specs.Route.{Answers, sent};
-ghost use Rattle.srt_route.specs.SlotKeys.{brought_of, slot_keys_of};
+ghost use Rattle.srt_route.specs.SlotKeys.{brought_of, place_keys_of};
 ghost use Rattle.srt_route.specs.StoredKeys.{AreKeys};
 ghost use Rattle.srt_route.specs.Tables.{written_of};
 ghost use Rattle.srt_route.specs.Totals.{SumsGrow};
 ghost use Rattle.srt_route.specs.Written.{written};
 ghost use Rattle.srt_route.specs.inside.Secured.{ConcludesAs, CountsAs, Dispatches, DispatchesWithKeys, IsInside, JudgesConclusion, JudgesFirst};
 ghost use Rattle.srt_route.specs.inside.Secured.{JudgesSecured, KeepsOpen, RepeatsFirst};
+ghost use Rattle.srt_route.specs.inside.Secured.{SecuresRequest};
 ghost use Rattle.srt_route.specs.inside.Secured.{RepeatsOf, RepeatsRequest, SecuresDatagram, SecuresPacket, kept_stored, repeated, verdict_with};
 
-use crate::admission::{admit, conclude};
-use crate::answer::{answer_to, answer_with_keys_to, refusal};
+use crate::admission::admit;
+use crate::answer_writing::{answer_to, answer_with_keys_to, refusal};
 use crate::arrival::Arrival;
-use crate::brought_keys::{brought_in, cookie_in};
 use crate::conclusion_reading::{Conclusion, conclusion_in};
 use crate::dispatch::{dispatch, to_destination};
 use crate::event::Event;
+use crate::key_refresh::{KeyRequestRef, answer_request, request_in};
+use crate::key_request_reading::{brought_in, cookie_in};
 use crate::key_text::BroughtRef;
 use crate::ledger::Ledger;
 use crate::refusals::RefusalCause;
+use crate::repeated_conclusion::conclude;
 use crate::replies::Reply;
 use crate::reply_queue::ReplyQueue;
 use crate::route_keys::RouteKeys;
 use crate::seat::{Seat, slot_of};
-use crate::slot_keys::{KeyOpening, KeyVerdict, SlotKeys};
+use crate::slot_keys::{KeyOpening, KeyPlace, KeyVerdict, SlotKeys};
 use crate::socket_ids::{id_at, slot_in};
 use crate::table::Table;
 use srt_hs::{HsAnswer, RefusalCode};
 use srt_packet::{Kind, PacketRef, decode_parts};
+use srt_types::protocol_limits::MAX_PAYLOAD;
 use srt_types::{Item, Peer};
 
 /// What keys change about a conclusion.
@@ -176,11 +180,14 @@ fn conclude_as(
 }
 
 /// Writes the answer again with the contents of the KMREQ block, if the session has keys.
-fn repeat(keys: &SlotKeys, peer: Peer, caller: u32, answer: &HsAnswer, reply: &mut Reply)
+fn repeat(place: &KeyPlace, peer: Peer, caller: u32, answer: &HsAnswer, reply: &mut Reply)
     ensures { written reply.old ≡ sent (record { peer = peer; packet = Answers caller answer.now })
-        → written reply.new ≡ sent (repeated (request_of (slot_keys_of keys.now)) (record { peer = peer; packet = Answers caller answer.now })) }
+        → written reply.new ≡ sent (repeated (request_of (place_keys_of place.now)) (record { peer = peer; packet = Answers caller answer.now })) }
 {
-    match keys {
+    if !place.is_held {
+        return;
+    }
+    match &place.keys {
         SlotKeys::Clear => {}
         SlotKeys::Publisher { request, .. } => {
             answer_with_keys_to(reply, peer, caller, answer, request)
@@ -236,7 +243,7 @@ fn to_secured_session(
     if !table.seats[at].is_for(arrival.peer, packet.dest) {
         return to_destination(table, ledger, arrival, packet, reply);
     }
-    let mut place = [0u8; 1456];
+    let mut place = [0u8; MAX_PAYLOAD];
     let clear = keys.decrypt(at, *packet, &mut place);
     to_destination(table, ledger, arrival, &clear, reply)
 }
@@ -272,6 +279,33 @@ fn to_secured_destination(
         repeat_request(table, keys, slot, arrival.peer, reply);
     }
     answered
+}
+
+/// Processes a KMREQ. Returns true if `reply` has an answer.
+fn take_request(
+    table: &mut Table,
+    keys: &mut RouteKeys,
+    ledger: &mut Ledger,
+    arrival: Arrival,
+    request: &KeyRequestRef<'_>,
+    reply: &mut Reply,
+) -> bool
+    requires stamp { arrival.stamp ≡ request.now.packet.stamp }
+    requires early { arrival.clock < 2 ^ 62 }
+    requires fits { length request.now.contents.now ≤ 1456 }
+    requires places { length keys.old.slots.items ≡ length table.old.seats.items }
+    ensures secured { SecuresRequest arrival (Some request.now.contents.now) (packet_of request.now.packet) table.old table.new keys.old keys.new
+        (written_of (given result reply.new)) ledger.old ledger.new }
+    ensures sums { SumsGrow ledger.old.totals ledger.new.totals }
+{
+    match answer_request(table, keys, arrival, request) {
+        Some(response) => {
+            to_destination(table, ledger, arrival, &request.packet, reply);
+            response.write(request.contents, reply);
+            true
+        }
+        None => to_secured_destination(table, keys, ledger, arrival, &request.packet, reply),
+    }
 }
 
 /// Removes the keys of a slot whose session has ended.
@@ -329,7 +363,13 @@ fn take_secured(
                 peer: datagram.peer,
                 stamp: packet.stamp,
             };
-            to_secured_destination(table, keys, ledger, arrival, &packet, hand)
+            match request_in(datagram.head, datagram.body) {
+                Some(contents) => {
+                    let request = KeyRequestRef { packet, contents };
+                    take_request(table, keys, ledger, arrival, &request, hand)
+                }
+                None => to_secured_destination(table, keys, ledger, arrival, &packet, hand),
+            }
         }
         Err(_) => false,
     }

@@ -71,6 +71,41 @@ const SUBSCRIBER_ANSWER_AGAIN: [&str; 3] = [
 /// The SHUTDOWN to the first session of slot 1.
 const SHUTDOWN: [&str; 1] = ["80050000000000000000000000100001"];
 
+/// The KMREQ of the publisher in slot 0, 2 ms after its opening: its even key again, and an odd one.
+const REFRESH: [&str; 2] = [
+    "ffff000300000000000007d000100000122029030000000002000200000004040011223344556677",
+    "8899aabbccddeeff6fb33170e306ec34db4169bf930e9d2a98363146c9251e1c99a1280cf62712c3d456b5bddf92cde2",
+];
+
+/// The same, whose last byte is another.
+const OTHER_REFRESH: [&str; 2] = [
+    "ffff000300000000000007d000100000122029030000000002000200000004040011223344556677",
+    "8899aabbccddeeff6fb33170e306ec34db4169bf930e9d2a98363146c9251e1c99a1280cf62712c3d456b5bddf92cde3",
+];
+
+/// The same with the subscriber's salt.
+const OTHER_SALT: [&str; 2] = [
+    "ffff000300000000000007d00010000012202903000000000200020000000404ffeeddccbbaa9988",
+    "77665544332211006fb33170e306ec34db4169bf930e9d2a98363146c9251e1c99a1280cf62712c3d456b5bddf92cde2",
+];
+
+/// That of the publisher in slot 1.
+const STANDBY_REFRESH: [&str; 2] = [
+    "ffff000300000000000007d000100001122029030000000002000200000004040011223344556677",
+    "8899aabbccddeeff6fb33170e306ec34db4169bf930e9d2a98363146c9251e1c99a1280cf62712c3d456b5bddf92cde2",
+];
+
+/// The KMRSP to the first one.
+const REFRESHED: [&str; 2] = [
+    "ffff000400000000000007d000000001122029030000000002000200000004040011223344556677",
+    "8899aabbccddeeff6fb33170e306ec34db4169bf930e9d2a98363146c9251e1c99a1280cf62712c3d456b5bddf92cde2",
+];
+
+/// The KMRSP BADSECRET, and NOSECRET.
+const BAD_SECRET: [&str; 1] = ["ffff000400000000000007d00000000104000000"];
+
+const NO_SECRET: [&str; 1] = ["ffff000400000000000007d00000000103000000"];
+
 /// A live route whose publishers and subscribers have these passphrases.
 fn secured(alloc: Global, publish: Option<&str>, request: Option<&str>) -> Result<Route, Fail> {
     let mut studio = entry(alloc, "studio", Mode::Live)?;
@@ -396,26 +431,35 @@ const CLEAR_SUBSCRIBER_ANSWER: [&str; 2] = [
     "00020003000105000000003f00780078",
 ];
 
-#[test]
-fn a_packet_of_a_publisher_is_decrypted(rt: HostRuntime) -> Result<(), Fail> {
+/// Opens the publisher's session, lets it renew its keys if it has a KMREQ, and asserts that this packet of it is sent to
+/// a subscriber in clear.
+fn assert_played(
+    rt: &(impl AllocGlobal + Abort),
+    renewal: Option<&[&str]>,
+    packet: &str,
+) -> Result<(), Fail> {
     let alloc = rt.alloc();
     let mut route = secured(alloc, HORSE, None)?;
     let first = keyed(alloc, FIRST, &PUBLISHES, &KEYS)?;
     let second = keyed(alloc, SECOND, &REQUESTS, &[])?;
-    let data = bytes_of(alloc, &["00000005e8000001000003e800100000ad56"])?;
+    let data = bytes_of(alloc, &[packet])?;
     assert_replied(
-        &rt,
+        rt,
         &mut route,
         peer(5000),
         1_000_000,
         &first,
         &PUBLISHER_ANSWER,
     )?;
-    assert_replied(&rt, &mut route, peer(5000), 1_002_000, &data, &[])?;
-    offer(&rt, &mut route, peer(5001), 1_010_000, &second)?;
-    assert_next(&rt, &mut route, peer(5001), &CLEAR_SUBSCRIBER_ANSWER)?;
+    if let Some(text) = renewal {
+        let request = bytes_of(alloc, text)?;
+        assert_replied(rt, &mut route, peer(5000), 1_002_000, &request, &REFRESHED)?;
+    }
+    assert_replied(rt, &mut route, peer(5000), 1_002_000, &data, &[])?;
+    offer(rt, &mut route, peer(5001), 1_010_000, &second)?;
+    assert_next(rt, &mut route, peer(5001), &CLEAR_SUBSCRIBER_ANSWER)?;
     assert_next(
-        &rt,
+        rt,
         &mut route,
         peer(5000),
         &[
@@ -426,7 +470,7 @@ fn a_packet_of_a_publisher_is_decrypted(rt: HostRuntime) -> Result<(), Fail> {
     assert!(rt; !route.waits());
     route.step(&Item::Tick { moment: 1_121_000 });
     assert_next(
-        &rt,
+        rt,
         &mut route,
         peer(5000),
         &[
@@ -435,12 +479,67 @@ fn a_packet_of_a_publisher_is_decrypted(rt: HostRuntime) -> Result<(), Fail> {
         ],
     )?;
     assert_next(
-        &rt,
+        rt,
         &mut route,
         peer(5001),
         &["00000009e00000010001b198000000026869"],
     )?;
     assert!(rt; !route.waits());
+    Ok(())
+}
+
+#[test]
+fn a_packet_of_a_publisher_is_decrypted(rt: HostRuntime) -> Result<(), Fail> {
+    assert_played(&rt, None, "00000005e8000001000003e800100000ad56")
+}
+
+#[test]
+fn a_packet_under_a_renewed_key_is_decrypted(rt: HostRuntime) -> Result<(), Fail> {
+    assert_played(&rt, Some(&REFRESH), "00000005f0000001000003e8001000002d65")?;
+    // The even key stays.
+    assert_played(&rt, Some(&REFRESH), "00000005e8000001000003e800100000ad56")
+}
+
+#[test]
+fn a_renewal_is_of_the_senders_own_session(rt: HostRuntime) -> Result<(), Fail> {
+    let alloc = rt.alloc();
+    let mut route = secured(alloc, HORSE, None)?;
+    let first = keyed(alloc, FIRST, &PUBLISHES, &KEYS)?;
+    let renewal = bytes_of(alloc, &REFRESH)?;
+    let standby_renewal = bytes_of(alloc, &STANDBY_REFRESH)?;
+    let data = bytes_of(alloc, &["00000005f0000001000003e8001000002d65"])?;
+    let mut elsewhere = peer(5000);
+    elsewhere.ip[15] = 2;
+    let now = 1_002_000;
+    for (from, wanted) in [
+        (peer(5000), &PUBLISHER_ANSWER),
+        (peer(5001), &STANDBY_ANSWER),
+    ] {
+        assert_replied(&rt, &mut route, from, 1_000_000, &first, wanted)?;
+    }
+    // To the session of another port, of another host, and in another slot.
+    assert_replied(&rt, &mut route, peer(5001), now, &renewal, &[])?;
+    assert_replied(&rt, &mut route, elsewhere, now, &renewal, &[])?;
+    assert_replied(&rt, &mut route, peer(5000), now, &standby_renewal, &[])?;
+    assert_replied(
+        &rt,
+        &mut route,
+        peer(5001),
+        now,
+        &standby_renewal,
+        &REFRESHED,
+    )?;
+    // The first session has no odd key yet.
+    assert_replied(&rt, &mut route, peer(5000), now, &data, &[])?;
+    offer(
+        &rt,
+        &mut route,
+        peer(5000),
+        1_010_000,
+        &bytes_of(alloc, &["80010000000000000000271000100000"])?,
+    )?;
+    let mut place = Box::new(alloc, Reply::blank())?;
+    assert!(rt; !route.next_reply(&mut place));
     Ok(())
 }
 
@@ -481,4 +580,31 @@ fn what_cannot_be_decrypted_is_not_received(rt: HostRuntime) -> Result<(), Fail>
         }
     }
     Ok(())
+}
+
+#[test]
+fn a_publisher_renews_its_keys_during_its_session(rt: HostRuntime) -> Result<(), Fail> {
+    let alloc = rt.alloc();
+    let mut route = secured(alloc, HORSE, LINE)?;
+    let first = keyed(alloc, FIRST, &PUBLISHES, &KEYS)?;
+    let renewal = bytes_of(alloc, &REFRESH)?;
+    let other = bytes_of(alloc, &OTHER_REFRESH)?;
+    let salt = bytes_of(alloc, &OTHER_SALT)?;
+    let now = 1_002_000;
+    // Nobody has a session yet.
+    assert_replied(&rt, &mut route, peer(5000), 1_000_000, &renewal, &[])?;
+    assert_replied(
+        &rt,
+        &mut route,
+        peer(5000),
+        1_000_000,
+        &first,
+        &PUBLISHER_ANSWER,
+    )?;
+    assert_replied(&rt, &mut route, peer(5000), now, &renewal, &REFRESHED)?;
+    assert_replied(&rt, &mut route, peer(5000), now, &renewal, &REFRESHED)?;
+    assert_replied(&rt, &mut route, peer(5000), now, &other, &BAD_SECRET)?;
+    assert_replied(&rt, &mut route, peer(5000), now, &salt, &NO_SECRET)?;
+    // It isn't the session's peer that asks.
+    assert_replied(&rt, &mut route, peer(5001), now, &renewal, &[])
 }

@@ -7,14 +7,16 @@ ghost use Rattle.srt_session_keys.specs.Wrapping.{kek_of, salt_of};
 ghost use Rattle.srt_route.specs.RouteKeys.{Clear, keys_opened, pool_opened};
 ghost use Rattle.srt_packet.specs.View.{packet_of};
 ghost use Rattle.srt_route.specs.Decryption.{in_clear};
-ghost use Rattle.srt_route.specs.SlotKeys.{brought_of, slot_keys_of};
+ghost use Rattle.srt_route.specs.KeyRefresh.{answer_by, refreshed};
+ghost use Rattle.srt_route.specs.SlotKeys.{IsErased, brought_of, place_keys_of, role_stored, slot_keys_of};
 ghost use Rattle.srt_route.specs.declared.slot_keys.KeyOpening.{KeyOpening as TheOpening};
-ghost use Rattle.srt_route.specs.declared.slot_keys.SlotKeys.{SlotKeys as TheKeys};
+ghost use Rattle.srt_route.specs.declared.slot_keys.KeyPlace.{KeyPlace as ThePlace};
 
-use crate::brought_keys::text_of;
+use crate::key_request_reading::text_of;
 use crate::key_text::{BroughtRef, KeyText};
 use srt_packet::PacketRef;
-use srt_session_keys::{KeyPool, PublisherKeys, SubscriberKeys, WrappingKey};
+use srt_session_keys::{KeyAnswer, KeyPool, PublisherKeys, SubscriberKeys, WrappingKey};
+use srt_types::protocol_limits::MAX_PAYLOAD;
 use srt_types::{Peer, Role};
 use std::alloc::{AllocError, Global};
 
@@ -49,7 +51,7 @@ pub(crate) enum KeyVerdict {
 /// The keys of a slot's session, with the contents of its conclusion's KMREQ block.
 #[derive(Drop)]
 pub(crate) enum SlotKeys {
-    /// It has none, or no session is open.
+    /// None.
     Clear,
     /// Those that a publisher brought.
     Publisher {
@@ -69,7 +71,11 @@ pub(crate) enum SlotKeys {
 
 impl SlotKeys {
     /// Returns a packet for the session as that processes it: a publisher's in clear, decrypted at the front of `place`.
-    pub fn decrypt<'a>(&mut self, packet: PacketRef<'a>, place: &'a mut [u8; 1456]) -> PacketRef<'a>
+    pub fn decrypt<'a>(
+        &mut self,
+        packet: PacketRef<'a>,
+        place: &'a mut [u8; MAX_PAYLOAD],
+    ) -> PacketRef<'a>
         ensures packet { packet_of result ≡ in_clear (slot_keys_of self.old) (packet_of packet.entry) }
         ensures keys { slot_keys_of self.new ≡ slot_keys_of self.old }
     {
@@ -80,16 +86,78 @@ impl SlotKeys {
         }
     }
 
-    /// Removes the keys, after they were overwritten with zeros.
-    pub fn clear(&mut self)
-        ensures { slot_keys_of self.new ≡ Clear }
+    /// Processes the contents of a KMREQ that arrives during the session: a publisher's takes its keys. Returns its answer;
+    /// None of another session.
+    pub fn refresh(&mut self, contents: &[u8]) -> Option<KeyAnswer>
+        ensures answer { result ≡ answer_by contents.now (slot_keys_of self.old) }
+        ensures keys { slot_keys_of self.new ≡ refreshed contents.now (slot_keys_of self.old) }
+    {
+        match self {
+            SlotKeys::Clear => None,
+            SlotKeys::Publisher { keys, .. } => Some(keys.refresh(contents)),
+            SlotKeys::Subscriber { .. } => None,
+        }
+    }
+
+    /// Overwrites the keys with zeros, where they are stored.
+    fn forget(&mut self)
+        ensures erased { IsErased self.new }
+        ensures stored { role_stored self.new ≡ role_stored self.old }
     {
         match self {
             SlotKeys::Clear => {}
             SlotKeys::Publisher { keys, .. } => keys.forget(),
             SlotKeys::Subscriber { keys, .. } => keys.forget(),
         }
-        *self = SlotKeys::Clear;
+    }
+}
+
+/// What a slot stores of keys. Where its session has ended, they were overwritten with zeros, and stay so until the next
+/// session with keys opens in the slot.
+#[derive(Drop)]
+pub(crate) struct KeyPlace {
+    /// Whether the keys are those of an open session.
+    pub is_held: bool,
+    /// The keys.
+    pub keys: SlotKeys,
+}
+
+impl KeyPlace {
+    /// Returns a packet for the session as that processes it: a publisher's in clear, decrypted at the front of `place`.
+    pub fn decrypt<'a>(
+        &mut self,
+        packet: PacketRef<'a>,
+        place: &'a mut [u8; MAX_PAYLOAD],
+    ) -> PacketRef<'a>
+        ensures packet { packet_of result ≡ in_clear (place_keys_of self.old) (packet_of packet.entry) }
+        ensures keys { place_keys_of self.new ≡ place_keys_of self.old }
+    {
+        if !self.is_held {
+            return packet;
+        }
+        self.keys.decrypt(packet, place)
+    }
+
+    /// Processes the contents of a KMREQ that arrives during the session: a publisher's takes its keys. Returns its answer;
+    /// None of another session.
+    pub fn refresh(&mut self, contents: &[u8]) -> Option<KeyAnswer>
+        ensures answer { result ≡ answer_by contents.now (place_keys_of self.old) }
+        ensures keys { place_keys_of self.new ≡ refreshed contents.now (place_keys_of self.old) }
+    {
+        if !self.is_held {
+            return None;
+        }
+        self.keys.refresh(contents)
+    }
+
+    /// Removes the keys: overwrites them with zeros where they are stored.
+    pub fn clear(&mut self)
+        ensures keys { place_keys_of self.new ≡ Clear }
+        ensures erased { IsErased self.new.keys }
+        ensures stored { role_stored self.new.keys ≡ role_stored self.old.keys }
+    {
+        self.keys.forget();
+        self.is_held = false;
     }
 }
 
@@ -152,13 +220,16 @@ pub(crate) fn session_keys(
 }
 
 /// Allocates this number of slots without keys.
-pub(crate) fn clear_slots(alloc: Global, count: usize) -> Result<Vec<SlotKeys>, AllocError>
+pub(crate) fn clear_slots(alloc: Global, count: usize) -> Result<Vec<KeyPlace>, AllocError>
     ensures count { IfOk result (λ slots. length slots.items ≡ count) }
-    ensures clear { IfOk result (λ slots. (slot : ℕ) (d : TheKeys) → slot < count → slot_keys_of (slice_index_or slots.items slot d) ≡ Clear) }
+    ensures clear { IfOk result (λ slots. (slot : ℕ) (d : ThePlace) → slot < count → place_keys_of (slice_index_or slots.items slot d) ≡ Clear) }
 {
     let mut slots = Vec::with_capacity(alloc, count)?;
     while slots.len() < count {
-        slots.push(SlotKeys::Clear)?;
+        slots.push(KeyPlace {
+            is_held: false,
+            keys: SlotKeys::Clear,
+        })?;
     }
     Ok(slots)
 }

@@ -59,6 +59,14 @@ induction_words c = 4 ∷ 2 ∷ c.initial ∷ c.mtu ∷ c.window ∷ 1 ∷ c.id 
 abbrev pub conclusion_words : Caller → List ℕ
 conclusion_words c = 5 ∷ 5 ∷ c.initial ∷ c.mtu ∷ c.window ∷ 0xffff_ffff ∷ c.id ∷ c.cookie ∷ 0x0100_007f ∷ 0 ∷ 0 ∷ 0 ∷ []
 
+-- the words of a listener's answer to a conclusion, before the extension blocks: its window, and the session's socket ID (section 4.3.1.2)
+abbrev pub answer_words : (initial window session : ℕ) → List ℕ
+answer_words initial window session = 5 ∷ 1 ∷ initial ∷ 1500 ∷ window ∷ 0xffff_ffff ∷ session ∷ 0 ∷ 0 ∷ 0 ∷ 0 ∷ 0 ∷ []
+
+-- the words of a listener's refusal of a conclusion, with its code (section 4.3)
+abbrev pub refusal_words : (initial code : ℕ) → List ℕ
+refusal_words initial code = 5 ∷ 0 ∷ initial ∷ 1500 ∷ 8192 ∷ code ∷ 1 ∷ 0 ∷ 0 ∷ 0 ∷ 0 ∷ 0 ∷ []
+
 -- HSREQ or HSRSP, with its type and its length in words (section 3.2.1.1)
 abbrev pub offer_words : ℕ → Offer → List ℕ
 offer_words kind o = (kind * 0x1_0000 + 3) ∷ o.version ∷ o.flags ∷ (o.receiver_ms * 0x1_0000 + o.sender_ms) ∷ []

@@ -3,6 +3,7 @@
 ghost use Rattle.std.specs.Prelude.{◌≡◌, [], ◌∷◌, ◌++◌};
 ghost use Rattle.std.specs.List.{flat_map};
 ghost use Rattle.srt_samples.specs.Samples.{bytes_of, packet, handshake_bytes, block_bytes, induction_words, conclusion_words, words};
+ghost use Rattle.srt_samples.specs.Samples.{answer_words, refusal_words};
 
 use crate::samples::{Sample, handshake_of};
 
@@ -81,6 +82,30 @@ pub enum Block<'a> {
     Congestion(&'a str),
 }
 
+/// The HSREQ of a live caller of SRT 1.5.0 with delays of 120 ms. Its flags are all but STREAM (section 3.2.1.1.1).
+pub const HSREQ: Block<'static> = Block::Request(Offer {
+    version: 0x1_0500,
+    flags: 0xbf,
+    receiver_ms: 120,
+    sender_ms: 120,
+});
+
+/// The same with the flag STREAM.
+pub const HSREQ_WITH_STREAM: Block<'static> = Block::Request(Offer {
+    version: 0x1_0500,
+    flags: 0xff,
+    receiver_ms: 120,
+    sender_ms: 120,
+});
+
+/// The HSRSP of a listener of SRT 1.5.0 in live mode, with delays of 120 ms.
+pub const HSRSP: Block<'static> = Block::Response(Offer {
+    version: 0x1_0500,
+    flags: 0x3f,
+    receiver_ms: 120,
+    sender_ms: 120,
+});
+
 /// Returns a handshake with these words and blocks.
 pub fn handshake_packet<'a>(handshake: Handshake, blocks: &'a [Block<'a>]) -> Sample<'a>
     ensures { bytes_of result ≡ packet 0x8000_0000 0 0 0 (handshake_bytes handshake ++ flat_map block_bytes blocks.now) [] }
@@ -126,5 +151,51 @@ pub fn conclusion<'a>(caller: Caller, blocks: &'a [Block<'a>]) -> Sample<'a>
             address: 0x0100_007f,
         },
         blocks,
+    )
+}
+
+/// Returns a listener's answer to a conclusion, with these blocks: the caller's initial number, the listener's window in
+/// packets, and the session's socket ID. Its extension field has the flag HSREQ, whatever the blocks are (section 4.3.1.2).
+pub fn conclusion_answer<'a>(
+    initial: u32,
+    window: u32,
+    session: u32,
+    blocks: &'a [Block<'a>],
+) -> Sample<'a>
+    ensures { bytes_of result ≡ packet 0x8000_0000 0 0 0 (words (answer_words initial window session) ++ flat_map block_bytes blocks.now) [] }
+{
+    handshake_packet(
+        Handshake {
+            version: 5,
+            fields: 1,
+            initial,
+            mtu: 1500,
+            window,
+            phase: Phase::Conclusion,
+            id: session,
+            cookie: 0,
+            address: 0,
+        },
+        blocks,
+    )
+}
+
+/// Returns a listener's refusal of a conclusion with this initial number, with this code (section 4.3).
+pub fn refusal<'a>(initial: u32, code: u32) -> Sample<'a>
+    ensures { bytes_of result ≡ packet 0x8000_0000 0 0 0 (words (refusal_words initial code) ++ []) [] }
+{
+    handshake_packet(
+        Handshake {
+            version: 5,
+            fields: 0,
+            initial,
+            mtu: 1500,
+            window: 8192,
+            phase: Phase::Refused(code),
+            id: 1,
+            cookie: 0,
+            address: 0,
+        },
+        &[],
     )
 }

@@ -22,7 +22,8 @@ mod writing;
 pub use dice::Dice;
 pub use differences::{Difference, Field, Kind, Outline, first_difference};
 pub use handshakes::{
-    Block, Caller, Handshake, Offer, Phase, conclusion, handshake_packet, induction,
+    Block, Caller, HSREQ, HSREQ_WITH_STREAM, HSRSP, Handshake, Offer, Phase, conclusion,
+    conclusion_answer, handshake_packet, induction, refusal,
 };
 pub use samples::{
     Acknowledged, Body, Loss, Sample, ack, ack_ack, data_packet, drop_request, full_ack,

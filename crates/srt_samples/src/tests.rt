@@ -2,9 +2,9 @@
 //! The others were computed by Python's struct.pack, field by field from the diagrams of the draft (section 3).
 
 use crate::{
-    Acknowledged, Block, Caller, Dice, Difference, Field, Handshake, Kind, Loss, Offer, Outline,
-    Phase, Sample, ack, ack_ack, conclusion, data_packet, drop_request, first_difference, full_ack,
-    handshake_packet, induction, keep_alive, light_ack, nak, shutdown,
+    Acknowledged, Block, Caller, Dice, Difference, Field, Kind, Loss, Offer, Outline, Sample, ack,
+    ack_ack, conclusion, conclusion_answer, data_packet, drop_request, first_difference, full_ack,
+    induction, keep_alive, light_ack, nak, refusal, shutdown,
 };
 use std::process::Abort;
 use std::test::Fail;
@@ -150,17 +150,6 @@ fn a_conclusion_in_buffer_mode(rt: HostRuntime) -> Result<(), Fail> {
 
 #[test]
 fn handshakes_of_a_listener(rt: HostRuntime) -> Result<(), Fail> {
-    let agreed = Handshake {
-        version: 5,
-        fields: 1,
-        initial: 5,
-        mtu: 1500,
-        window: 1024,
-        phase: Phase::Conclusion,
-        id: 0x10_0000,
-        cookie: 0,
-        address: 0,
-    };
     let response = Block::Response(Offer {
         version: 0x1_0501,
         flags: 0x3f,
@@ -169,20 +158,13 @@ fn handshakes_of_a_listener(rt: HostRuntime) -> Result<(), Fail> {
     });
     assert_bytes(
         &rt,
-        handshake_packet(agreed, &[response]).to(1),
+        conclusion_answer(5, 1024, 0x10_0000, &[response]).to(1),
         "80000000000000000000000000000001000000050000000100000005000005dc00000400ffffffff00100000000000000000000000000000000000000000000000020003\
         000105010000003f007800c8",
     )?;
-    let refused = Handshake {
-        fields: 0,
-        window: 8192,
-        phase: Phase::Refused(1002),
-        id: 1,
-        ..agreed
-    };
     assert_bytes(
         &rt,
-        handshake_packet(refused, &[]).to(1),
+        refusal(5, 1002).to(1),
         "80000000000000000000000000000001000000050000000000000005000005dc00002000000003ea000000010000000000000000000000000000000000000000",
     )
 }

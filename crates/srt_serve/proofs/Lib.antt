@@ -18,3 +18,4 @@ pub mod Marks
 pub mod LeftAlone
 pub mod OpenRoutes
 pub mod Looks
+pub mod WorkersJoined

@@ -3,7 +3,7 @@ use denote.RattleType.{RattleType}
 use denote.Ref.{NamedLft}
 use denote.Param.Send.{IsSend, IsSync, struct_send, recorded_send}
 use denote.Struct.Declared.{shape}
-use Rattle.srt_mailbox.specs.contracts.places.Place as place
+use Rattle.srt_mailbox.specs.contracts.added_seats.Place as place
 use Rattle.srt_mailbox.specs.declared.seats.Attachment.{Ghosts}
 use Rattle.srt_serve.specs.contracts.arrivals.NameAttachment as name
 use Rattle.srt_serve.specs.contracts.arrivals.ClockArrivals as arrivals

@@ -14,3 +14,6 @@ pub mod Quiet
 pub mod UpTo
 pub mod Looking
 pub mod Taken
+pub mod Outcomes
+pub mod Ended
+pub mod Did

@@ -11,9 +11,11 @@ ghost use Rattle.srt_supervision.specs.Answers.{Closes};
 
 use crate::answers::{Beginning, ClosesRoute};
 use crate::evidence::{
-    CloseRequest, FlagRaised, Marked, MarkedBefore, NoNotice, NoneAdded, NoneMarked, NoneStated,
-    WordWritten, mark, next_poller, raise_flag, request_in, take_flag, take_mark, write_word,
+    CloseRequest, FlagRaised, MarkedAfter, MarkedBefore, NoNotice, NoneAdded, NoneMarked,
+    NoneStated, mark, mark_after, next_poller, raise_flag, request_in, take_flag, take_mark,
+    write_word,
 };
+use crate::hosting::SeatsHosted;
 use crate::ticking::TickEnds;
 use srt_lobby::NewName;
 use srt_mailbox::{
@@ -104,7 +106,7 @@ impl<A: Answers + Beginning> TickEnds<ClockEnd> for ClockArrivals<'_, A> {
 /// Where the watching thread leaves what the polling one is to know of a change. What is known once a call has returned may
 /// be nothing, but only by the call can code that is generic over this trait show it.
 pub trait ChangeNotices: Answers {
-    ghost use Rattle.std.specs.Prelude.{ℕ};
+    ghost use Rattle.std.specs.Prelude.{ℕ, ◌<◌};
     ghost use Rattle.srt_supervision.specs.Answers.{Closes};
 
     /// What is known once a route was requested to close.
@@ -116,13 +118,15 @@ pub trait ChangeNotices: Answers {
     /// What became of a request to close a route.
     type Notice: Drop;
 
-    /// Requests that this route be closed, once `notify` is called. The watcher requested it.
-    fn close(&self, route: usize) -> Self::Notice
-        requires { Self.answered (Closes route) }
+    /// Requests that this route be closed, once `notify` is called. The watcher requested it, and the route was there before
+    /// those were put into their places that the change opens.
+    fn close(&self, route: usize, hosted: &SeatsHosted) -> Self::Notice
+        requires answered { Self.answered (Closes route) }
+        requires before { route < hosted.now.first }
         ensures { requested self.now route };
 
     /// Notifies the polling thread, which checks before its next round. For the watching thread, at the end of a change.
-    fn notify(&self) -> FlagRaised
+    fn notify(&self, hosted: &SeatsHosted) -> FlagRaised
         ensures { notified self.now };
 }
 
@@ -143,7 +147,7 @@ pub struct RouteNotices<A: Answers> {
 #[derive(Drop)]
 pub enum CloseNotice<A: Answers> {
     /// Its word states it, and it is marked among those that are to close, by this call or before.
-    Left(WordWritten<ClosesRoute<A>>, Result<Marked, MarkedBefore>),
+    Left(MarkedAfter<ClosesRoute<A>>),
     /// It was requested before.
     Repeated(MarkedBefore),
     /// There is no such route.
@@ -224,8 +228,9 @@ impl<A: Answers> ChangeNotices for RouteNotices<A> {
     type Notice = CloseNotice<A>;
 
     // A second request for a route is ignored.
-    fn close(&self, route: usize) -> CloseNotice<A>
-        requires { A.answered (Closes route) }
+    fn close(&self, route: usize, _hosted: &SeatsHosted) -> CloseNotice<A>
+        requires answered { A.answered (Closes route) }
+        requires before { route < _hosted.now.first }
         ensures { IsNoticed self.now route result }
     {
         let Some(word) = self.words.get(route) else {
@@ -234,13 +239,13 @@ impl<A: Answers> ChangeNotices for RouteNotices<A> {
         match mark(&self.requested, route) {
             Ok(_) => {
                 let written = write_word(word, (route as u64).wrapping_add(1));
-                CloseNotice::Left(written, mark(&self.closings, route))
+                CloseNotice::Left(mark_after(&self.closings, route, written))
             }
             Err(before) => CloseNotice::Repeated(before),
         }
     }
 
-    fn notify(&self) -> FlagRaised {
+    fn notify(&self, _hosted: &SeatsHosted) -> FlagRaised {
         raise_flag(&self.is_pending)
     }
 }

@@ -1,7 +1,8 @@
 //! Evidence of what a thread found in a value that other threads change at any time: of a plain atomic no clause states
 //! what it has. Only the functions of this file make any, each where it found that.
 
-ghost use Rattle.std.specs.Prelude.{◌≡◌, ◌≢◌, ◌<◌, ◌++◌, ◌∷◌, [], Some, IfSome, IfOk, IfErr, length, slice_get};
+ghost use Rattle.std.specs.Prelude.{◌≡◌, ◌≢◌, ◌<◌, ◌≤◌, ℕ, ◌++◌, ◌∷◌, [], Some, IfSome, IfNone, IfOk, IfErr, length, slice_get};
+ghost use Rattle.crossbeam_queue.specs.Passes.{queue_capacity};
 ghost use Rattle.srt_mailbox.specs.Cells.{CellIdentity};
 ghost use Rattle.srt_mailbox.specs.Places.{arrived, places_of};
 ghost use Rattle.srt_mailbox.specs.Seats.{IsNewPoller};
@@ -9,8 +10,11 @@ ghost use Rattle.srt_supervision.specs.Answers.{AllClose, Closes, RunEnds, IsOrd
 ghost use Rattle.srt_serve.specs.inside.Orders.{order_in};
 
 use crate::answers::{ClosesAll, ClosesRoute, EndsRun};
+use crate::route_marks::RouteMarks;
+use crate::running::RunFault;
 use crossbeam_queue::ArrayQueue;
 use srt_mailbox::{Attachment, NoneSeated, Place, PollerEnds, Seat, SeatReader};
+use srt_poller::Pumping;
 use srt_supervision::{Answers, Order, Refusal, Watch};
 use srt_wakeups::{AtomicBitSet, Wakeups};
 use std::alloc::{AllocError, Global};
@@ -32,23 +36,60 @@ pub fn run_over(wakeups: &Wakeups) -> Option<RunOver> {
     }
 }
 
+/// Evidence that all threads of a run had arrived.
+#[derive(Drop)]
+pub struct AllArrived(());
+
 /// Evidence that some threads of a run hadn't arrived.
 #[derive(Drop)]
 pub struct ThreadsMissing(());
 
-/// As `Wakeups::gather`. The error is evidence that it returned false.
-pub fn gather<R: Wait>(rt: &R, wakeups: &Wakeups) -> Result<(), ThreadsMissing> {
+/// As `Wakeups::gather`. The result is evidence that it returned true, and the error that it returned false.
+pub fn gather<R: Wait>(rt: &R, wakeups: &Wakeups) -> Result<AllArrived, ThreadsMissing> {
     if wakeups.gather(rt) {
-        Ok(())
+        Ok(AllArrived(()))
     } else {
         Err(ThreadsMissing(()))
     }
 }
 
+/// Evidence that a run was ended, and after what.
+#[derive(Drop)]
+pub struct RunEnded {
+    /// The outcome of the poller's rounds; none if it made none.
+    pub pumping: Option<Pumping>,
+    ended: (),
+}
+
+/// Ends a run after the rounds of its poller, if it made any: as `Wakeups::finish`.
+pub fn end_after(wakeups: &Wakeups, pumping: Option<Pumping>) -> RunEnded
+    ensures { result.pumping ≡ pumping }
+{
+    wakeups.finish();
+    RunEnded { pumping, ended: () }
+}
+
+/// Evidence that not all workers of a run could be started, and that the run was ended for that.
+#[derive(Drop)]
+pub struct NotStarted {
+    /// A thread couldn't be started, or memory for the list of the workers was refused.
+    pub fault: RunFault,
+    // private, so that nothing else makes any
+    ended: (),
+}
+
+/// Ends a run of which not all workers could be started, with this fault.
+pub fn end_unstarted(wakeups: &Wakeups, fault: RunFault) -> NotStarted
+    ensures { result.fault ≡ fault }
+{
+    wakeups.finish();
+    NotStarted { fault, ended: () }
+}
+
 /// A route that the calling worker serves. It has no `Drop`: whoever entered a route has to leave it.
-pub struct Entered<'a, C> {
+pub struct Entered<'a, C, M> {
     /// The marks of the routes.
-    pub wakeups: &'a Wakeups,
+    pub marks: &'a M,
     /// The route's cell.
     pub cell: &'a C,
     /// The route.
@@ -58,18 +99,24 @@ pub struct Entered<'a, C> {
 
 /// Enters the route with this index, of these, as `Wakeups::enter` does. `None` if there is none, or if another worker
 /// serves it.
-pub fn enter<'a, C>(wakeups: &'a Wakeups, cells: &'a [C], route: usize) -> Option<Entered<'a, C>>
+pub fn enter<'a, C, M: RouteMarks>(
+    marks: &'a M,
+    cells: &'a [C],
+    route: usize,
+) -> Option<Entered<'a, C, M>>
     ensures route { IfSome result (λ e. e.route ≡ route) }
     ensures cell { IfSome result (λ e. slice_get cells.now route ≡ Some e.cell.now) }
+    ensures marks { IfSome result (λ e. e.marks.now ≡ marks.now) }
+    ensures none { IfNone result (route < length cells.now → M.passed marks.now route) }
 {
     let Some(cell) = cells.get(route) else {
         return None;
     };
-    if !wakeups.enter(route) {
+    if !marks.begin(route) {
         return None;
     }
     Some(Entered {
-        wakeups,
+        marks,
         cell,
         route,
         entered: (),
@@ -84,19 +131,131 @@ pub struct LeftRoute {
     left: (),
 }
 
-impl<C> Entered<'_, C> {
+impl<C, M: RouteMarks> Entered<'_, C, M> {
     /// Leaves the route, as `Wakeups::leave` does.
     pub fn leave(self, is_left: bool) -> LeftRoute
-        ensures { result.is_left ≡ is_left }
+        ensures left { result.is_left ≡ is_left }
+        ensures passed { M.passed self.entry.marks.now self.entry.route }
     {
         let Entered {
-            wakeups,
+            marks,
             cell: _,
             route,
             entered: _,
         } = self;
-        wakeups.leave(route, is_left);
+        marks.end(route, is_left);
         LeftRoute { is_left, left: () }
+    }
+}
+
+/// A route that the polling thread offered something to, and takes upon itself: its mark was cleared. It has no `Drop`:
+/// whoever cleared the mark has to leave the route.
+pub struct PolledRoute<'a, C, M> {
+    /// The marks of the routes.
+    pub marks: &'a M,
+    /// The route's cell.
+    pub cell: &'a C,
+    /// The route.
+    pub route: usize,
+    polled: (),
+}
+
+/// Evidence that no further route was found to have that mark.
+#[derive(Drop)]
+pub struct NonePolled(());
+
+/// Clears the mark of the next route that has one, from this one on. The error is evidence that none was found.
+pub fn take_polled<'a, C, M: RouteMarks>(
+    marks: &'a M,
+    cells: &'a [C],
+    from: usize,
+) -> Result<PolledRoute<'a, C, M>, NonePolled>
+    ensures cell { IfOk result (λ p. slice_get cells.now p.route ≡ Some p.cell.now) }
+    ensures marks { IfOk result (λ p. p.marks.now ≡ marks.now) }
+    ensures before { IfOk result (λ p. (r : ℕ) → from ≤ r → r < p.route → M.attended marks.now r) }
+    ensures none { IfErr result (λ _. (r : ℕ) → from ≤ r → r < length cells.now → M.attended marks.now r) }
+{
+    let route = marks.next_offered(from);
+    let Some(polled) = cells.get(route) else {
+        return Err(NonePolled(()));
+    };
+    marks.clear_offered(route);
+    Ok(PolledRoute {
+        marks,
+        cell: polled,
+        route,
+        polled: (),
+    })
+}
+
+impl<C, M: RouteMarks> PolledRoute<'_, C, M> {
+    /// Leaves the route, to a worker if there is more to do.
+    pub fn leave(self, is_left: bool) -> LeftRoute
+        ensures left { result.is_left ≡ is_left }
+        ensures attended { M.attended self.entry.marks.now self.entry.route }
+    {
+        let PolledRoute {
+            marks,
+            cell: _,
+            route,
+            polled: _,
+        } = self;
+        marks.end_offered(route, is_left);
+        LeftRoute { is_left, left: () }
+    }
+}
+
+/// Evidence that all routes that the polling thread offered something to were left to the workers.
+#[derive(Drop)]
+pub struct HandedOver {
+    // the number of those whose inbox was marked as ready by that
+    begun: u64,
+}
+
+/// As `Wakeups::hand_over`.
+pub fn hand_over<M: RouteMarks>(marks: &M) -> HandedOver
+    ensures { M.handed marks.now }
+{
+    HandedOver {
+        begun: marks.hand_over_offered(),
+    }
+}
+
+/// Evidence that the workers were told of a read of the polling thread.
+#[derive(Drop)]
+pub struct ReadTold {
+    /// The number of datagrams that were read.
+    pub datagrams: u32,
+    handed: HandedOver,
+}
+
+/// As `Wakeups::read_ended`, after what was offered was left to the workers.
+pub fn tell_read<M: RouteMarks>(marks: &M, datagrams: u32, handed: HandedOver) -> ReadTold
+    ensures datagrams { result.datagrams ≡ datagrams }
+    ensures notified { M.notified marks.now datagrams }
+{
+    marks.notify_of_read(datagrams, handed.begun);
+    ReadTold { datagrams, handed }
+}
+
+/// Ticks that were offered to the first routes, of which the workers weren't told yet. It has no `Drop`: whoever offered them
+/// has to tell.
+pub struct TicksOffered {
+    routes: usize,
+}
+
+/// After a tick was offered to each of these ends.
+pub fn offered_to<E>(ends: &Vec<E>) -> TicksOffered
+    ensures { result.routes ≡ length ends.now.items }
+{
+    TicksOffered { routes: ends.len() }
+}
+
+impl TicksOffered {
+    /// As `Wakeups::ticked`.
+    pub fn tell(self, wakeups: &Wakeups) {
+        let TicksOffered { routes } = self;
+        wakeups.ticked(routes);
     }
 }
 
@@ -307,6 +466,29 @@ pub fn write_word<K: Rule>(word: &AtomicIn<K>, number: u64) -> WordWritten<K>
     }
 }
 
+/// A mark of a route that was set once the route's word was written.
+#[derive(Drop)]
+pub struct MarkedAfter<K> {
+    /// The word.
+    pub word: WordWritten<K>,
+    /// Evidence that the mark was set by this call, or had been.
+    pub marked: Result<Marked, MarkedBefore>,
+    after: (),
+}
+
+/// Marks a route, once its word was written.
+pub fn mark_after<K>(marks: &AtomicBitSet, route: usize, word: WordWritten<K>) -> MarkedAfter<K>
+    ensures word { result.word ≡ word }
+    ensures marked { IfOk result.marked (λ m. m.route ≡ route) }
+    ensures before { IfErr result.marked (λ m. m.route ≡ route) }
+{
+    MarkedAfter {
+        word,
+        marked: mark(marks, route),
+        after: (),
+    }
+}
+
 /// Evidence that a queue had no place.
 #[derive(Drop)]
 pub struct NoPlace(());
@@ -322,6 +504,14 @@ impl<T> Drop for WasPut<T> {
     }
 }
 
+// Takes the value that has waited longest. It may be of any type, so that no value is dropped.
+fn pop_one<R: Wait, T>(rt: &R, queue: &ArrayQueue<T>) -> Result<T, NothingWaits> {
+    match queue.pop(rt) {
+        Some(value) => Ok(value),
+        None => Err(NothingWaits(())),
+    }
+}
+
 /// The refusals that wait for a watcher. What is taken out has to be reported to one.
 #[derive(Drop)]
 pub struct RefusalQueue {
@@ -332,6 +522,7 @@ impl RefusalQueue {
     /// Allocates room for this many; an error means out of memory.
     pub fn open(alloc: Global, places: usize) -> Result<RefusalQueue, AllocError>
         requires { 0 < places }
+        ensures { IfOk result (λ refusals. queue_capacity refusals.queue ≡ places) }
     {
         Ok(RefusalQueue {
             queue: ArrayQueue::new(alloc, places)?,
@@ -360,10 +551,8 @@ impl RefusalQueue {
 
     /// Takes the refusal that has waited longest. The error is evidence that none waits.
     pub fn take<R: Wait>(&self, rt: &R) -> Result<TakenRefusal, NothingWaits> {
-        match self.queue.pop(rt) {
-            Some(refusal) => Ok(TakenRefusal { refusal }),
-            None => Err(NothingWaits(())),
-        }
+        let refusal = pop_one(rt, &self.queue)?;
+        Ok(TakenRefusal { refusal })
     }
 }
 

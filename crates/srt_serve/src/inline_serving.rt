@@ -2,20 +2,26 @@
 //! just read, if both are few. What it passes to a route and takes from it then stays in the caches of one processor, and
 //! no worker has to be woken.
 
-ghost use Rattle.std.specs.Prelude.{◌≡◌, ◌⊎◌, IfSome, IfNone, Some, None};
+ghost use Rattle.std.specs.Prelude.{◌≡◌, ◌≢◌, ◌<◌, ◌≤◌, ◌⊎◌, true, false, IfSome, IfNone, Some, None, length};
+ghost use Rattle.srt_mailbox.specs.declared.gates.Served.TheVariants.{Turned as TurnedAs, GateRefused};
+ghost use Rattle.srt_types.specs.declared.shared.Turned.TheVariants.{Idle};
 ghost use Rattle.srt_lobby.specs.Names.{names_of};
 ghost use Rattle.srt_serve.specs.Refusals.{refusal_in as refusal_of};
-ghost use Rattle.srt_serve.specs.inside.Inline.{serves_itself, ToldOfLobby, ToldOfRoute};
+ghost use Rattle.srt_serve.specs.inside.Inline.{serves_itself, AreServed, IsServedInline, ToldOfLobby, ToldOfRoute};
+ghost use Rattle.srt_serve.specs.inside.Outcomes.{IsInlineOutcome};
 
-use crate::refusals::{lobby_refusal, refusal_in, route_refusal};
+use crate::evidence::{
+    HandedOver, NonePolled, PolledRoute, ReadTold, hand_over, take_polled, tell_read,
+};
+use crate::refusal_reports::{lobby_refusal, refusal_in, route_refusal};
+use crate::route_marks::RouteMarks;
 use crate::watcher_channel::PollerChannel;
-use crate::working::{is_left, serve_route};
+use crate::working::{Stay, is_left, serve_route};
 use srt_lobby::Names;
 use srt_mailbox::{Gate, Serve};
 use srt_poller::{Hints, InlineService, Orders, PollerObserver, Signals};
 use srt_supervision::{Order, Report};
 use srt_types::Peer;
-use srt_wakeups::Wakeups;
 use srt_wakeups::pacing::{FEW_ROUTES, MANY_DATAGRAMS, POLLER_TURNS};
 use std::cell::Cell;
 use std::sync::Wait;
@@ -64,12 +70,52 @@ fn tell_route_refusal<R: Wait, H: PollerChannel>(
     }
 }
 
+// How the polling thread's own service of a round ended.
+#[derive(Drop)]
+enum InlineEnd {
+    // no route had anything more that it had been offered
+    NonePolled(NonePolled),
+    // those that it didn't come to were left to the workers
+    HandedOver(HandedOver),
+}
+
+// What became of the datagrams of a round.
+#[derive(Drop)]
+enum InlineOutcome {
+    // the polling thread served their routes itself
+    Served(InlineEnd),
+    // they were left to the workers, which were told
+    Left(ReadTold),
+}
+
+// Serves a route that the polling thread took upon itself, for at most `most` turns, and leaves it.
+fn serve_polled<R: Wait, C: Serve, G: Gate, M: RouteMarks>(
+    rt: &R,
+    polled: PolledRoute<'_, C, M>,
+    gate: &mut G,
+    most: u32,
+) -> Stay
+    ensures most { result.visit.turns ≤ most }
+    ensures all { result.visit.end ≡ None → result.visit.turns ≡ most }
+    ensures idle { result.visit.end ≡ Some (TurnedAs Idle) → result.left.is_left ≡ false }
+    ensures held { result.visit.end ≡ Some GateRefused → result.left.is_left ≡ false }
+    ensures left { result.visit.end ≢ Some (TurnedAs Idle) → result.visit.end ≢ Some GateRefused → result.left.is_left ≡ true }
+    ensures replied { 0 < result.visit.moved → M.replied polled.entry.marks.now polled.entry.route }
+    ensures attended { M.attended polled.entry.marks.now polled.entry.route }
+{
+    let visit = serve_route(rt, polled.cell, polled.route, gate, polled.marks, most);
+    Stay {
+        visit,
+        left: polled.leave(is_left(visit)),
+    }
+}
+
 /// The poller's hints, and its work for the routes.
 #[derive(Drop)]
 pub struct InlineServer<'a, R, C, G: Drop, H: PollerChannel> {
     rt: &'a R,
     cells: &'a [C],
-    wakeups: &'a Wakeups,
+    marks: &'a H::Marks,
     // none if the run isn't watched
     channel: Option<&'a H>,
     // none if the workers alone serve routes, and while it is in use
@@ -82,7 +128,7 @@ impl<'a, R: Wait, C: Serve, G: Gate + Drop, H: PollerChannel> InlineServer<'a, R
     pub fn new(
         rt: &'a R,
         cells: &'a [C],
-        wakeups: &'a Wakeups,
+        marks: &'a H::Marks,
         channel: Option<&'a H>,
         gate: Option<G>,
     ) -> InlineServer<'a, R, C, G, H>
@@ -91,7 +137,7 @@ impl<'a, R: Wait, C: Serve, G: Gate + Drop, H: PollerChannel> InlineServer<'a, R
         InlineServer {
             rt,
             cells,
-            wakeups,
+            marks,
             channel,
             gate: Cell::new(gate),
         }
@@ -112,35 +158,59 @@ impl<'a, R: Wait, C: Serve, G: Gate + Drop, H: PollerChannel> InlineServer<'a, R
         Some((channel, code))
     }
 
-    // Serves each route that is marked as `polled`, and leaves to the workers what it doesn't finish.
-    fn serve(&self, gate: &mut G) {
+    // Serves each route that something was offered to, and leaves to the workers what it doesn't finish.
+    fn serve(&self, gate: &mut G) -> InlineEnd
+        ensures { AreServed (H.Marks.attended self.now.marks.now) (H.Marks.handed self.now.marks.now) (length self.now.cells.now) }
+    {
         let mut left = POLLER_TURNS;
         let mut is_done = true;
-        let mut route = 0;
+        let mut from = 0usize;
         // no route is visited twice
         for _ in 0..self.cells.len() {
-            route = self.wakeups.next_polled(route);
-            let Some(cell) = self.cells.get(route) else {
-                break;
-            };
             if left == 0 {
                 break;
             }
-            self.wakeups.clear_polled(route);
-            let visit = serve_route(self.rt, cell, route, gate, self.wakeups, left);
-            left = left.saturating_sub(visit.turns);
-            if is_left(visit) {
-                self.wakeups.set_inbox_ready(route);
-                is_done = false;
-            }
-            route = route.wrapping_add(1);
+            let polled = match take_polled(self.marks, self.cells, from) {
+                Ok(polled) => polled,
+                Err(none) => {
+                    self.wake_for(is_done);
+                    return InlineEnd::NonePolled(none);
+                }
+            };
+            from = polled.route.wrapping_add(1);
+            let stay = serve_polled(self.rt, polled, gate, left);
+            left = left.saturating_sub(stay.visit.turns);
+            is_done &= !stay.left.is_left;
         }
-        if left == 0 {
-            self.wakeups.hand_over();
-            is_done = false;
-        }
+        let handed = hand_over(self.marks);
+        self.wake_for(is_done & (left > 0));
+        InlineEnd::HandedOver(handed)
+    }
+
+    // Wakes a worker that rests, unless all was done.
+    fn wake_for(&self, is_done: bool) {
         if !is_done {
-            self.wakeups.wake_resting();
+            self.marks.wake_one();
+        }
+    }
+
+    // Serves the routes of this many datagrams, or leaves them to the workers.
+    fn serve_or_leave(&self, datagrams: u32) -> InlineOutcome
+        ensures outcome { IsInlineOutcome datagrams result }
+        ensures served { IsServedInline (H.Marks.attended self.now.marks.now) (H.Marks.counted self.now.marks.now)
+            (H.Marks.handed self.now.marks.now) (H.Marks.notified self.now.marks.now) (length self.now.cells.now) datagrams }
+    {
+        match self.gate.replace(None) {
+            Some(mut gate) if serves_itself(datagrams, self.marks.count_offered()) => {
+                let end = self.serve(&mut gate);
+                self.gate.set(Some(gate));
+                InlineOutcome::Served(end)
+            }
+            gate => {
+                self.gate.set(gate);
+                let handed = hand_over(self.marks);
+                InlineOutcome::Left(tell_read(self.marks, datagrams, handed))
+            }
         }
     }
 }
@@ -169,16 +239,20 @@ impl<R: Wait, C: Serve, G: Gate + Drop, H: PollerChannel> Orders for InlineServe
 }
 
 impl<R: Wait, C: Serve, G: Gate + Drop, H: PollerChannel> Hints for InlineServer<'_, R, C, G, H> {
+    ghost rests = { λ s route. H.Marks.rests s.marks.now route };
+
+    ghost noticed = { λ s route. H.Marks.offered s.marks.now route };
+
     fn polled(&self, route: usize) {
-        self.wakeups.set_polled(route);
+        self.marks.mark_offered(route);
     }
 
     fn take_outbox_ready(&self, route: usize) -> bool {
-        self.wakeups.take_outbox_ready(route)
+        self.marks.take_outbox(route)
     }
 
     fn next_outbox_ready(&self, route: usize) -> usize {
-        self.wakeups.next_outbox_ready(route)
+        self.marks.next_outbox(route)
     }
 }
 
@@ -221,18 +295,11 @@ impl<R: Wait, C: Serve, G: Gate + Drop, H: PollerChannel> PollerObserver
 
 impl<R: Wait, C: Serve, G: Gate + Drop, H: PollerChannel> InlineService
     for InlineServer<'_, R, C, G, H> {
+    ghost served = { λ s datagrams. IsServedInline (H.Marks.attended s.marks.now) (H.Marks.counted s.marks.now) (H.Marks.handed s.marks.now)
+        (H.Marks.notified s.marks.now) (length s.cells.now) datagrams };
+
     fn serve_inline(&self, datagrams: u32) {
-        match self.gate.replace(None) {
-            Some(mut gate) if serves_itself(datagrams, self.wakeups.count_polled()) => {
-                self.serve(&mut gate);
-                self.gate.set(Some(gate));
-            }
-            gate => {
-                self.gate.set(gate);
-                let begun = self.wakeups.hand_over();
-                self.wakeups.read_ended(datagrams, begun);
-            }
-        }
+        let _ = self.serve_or_leave(datagrams);
     }
 }
 

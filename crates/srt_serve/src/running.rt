@@ -1,6 +1,7 @@
 //! A run of the gateway, from the opening of its routes to their accounts.
 
-ghost use Rattle.std.specs.Prelude.{◌≡◌, ◌↔◌, ◌⊎◌, ◌<◌, ◌≤◌, ◌^◌, true, false, None, Err, List, [], ◌++◌, IfOk, IfErr, OnOk, IsSome, map, length, take};
+ghost use Rattle.std.specs.Prelude.{◌≡◌, ◌↔◌, ◌⊎◌, ◌<◌, ◌≤◌, ◌^◌, true, false, None, Err, List, [], ◌++◌, map, length, take};
+ghost use Rattle.std.specs.Prelude.{IfOk, IfErr, IfSome, IfNone, OnOk, IsSome};
 ghost use Rattle.std.specs.Vec.{vec_len, vec_capacity};
 ghost use Rattle.srt_types.specs.Terms.{terms_of};
 ghost use Rattle.srt_cookie.specs.Cookie.{secret_bytes};
@@ -16,17 +17,20 @@ ghost use Rattle.srt_poller.specs.Devices.{heard, carried};
 ghost use Rattle.srt_poller.specs.Openings.{NewRoute, names_in, ends_in, route_reports, route_reports_more};
 ghost use Rattle.srt_serve.specs.NamesAtStart.{later_hidden, first_names};
 ghost use Rattle.srt_wakeups.specs.Marks.{IsFor};
+ghost use Rattle.srt_serve.specs.inside.Did.{Did};
+ghost use Rattle.srt_serve.specs.inside.Looking.{AreReported};
 ghost use Rattle.srt_serve.specs.inside.Notices.{AreFor};
 ghost use Rattle.srt_serve.specs.inside.Polled.{AreReady};
 ghost use Rattle.srt_serve.specs.Opened.{AreOpened, terms_in, new_clocks};
 ghost use Rattle.srt_serve.specs.Settled.{AreLastShown};
-ghost use Rattle.srt_supervision.specs.Answers.{AllClose, RunEnds};
-ghost use Rattle.srt_serve.specs.Ran.{recorded_by, RanChanging, RanUnder, Ran as TheRan};
+ghost use Rattle.srt_supervision.specs.Answers.{RunEnds};
+ghost use Rattle.srt_serve.specs.Ran.{recorded_by, RanChanging, Ran as TheRan};
 
 use crate::answers::{AnswersOf, Beginning};
 use crate::arrivals::{ClockArrivals, NameAttachment, PollerArrivals, RouteNotices, open_places};
+use crate::evidence::NothingWaits;
 use crate::opening::{Opened, open_routes};
-use crate::serving::{OtherThreads, PollerState, RunContext, serve_routes};
+use crate::serving::{OtherThreads, PollerState, RunContext, ThreadsEnded, serve_routes};
 use crate::settling::{Busy, began_with, reached_all, settle_routes};
 use crate::ticking::{Clocks, Ticker, take_new};
 use crate::watcher_channel::WatcherChannel;
@@ -95,6 +99,8 @@ pub struct Watched<K: Drop, T: Drop> {
     pub ticker: K,
     /// The watcher that it was given, after it saw each route once more.
     pub watch: T,
+    // evidence that no refusal waited any more; none if many did
+    reported: Option<NothingWaits>,
 }
 
 /// What a watched run is to do.
@@ -298,6 +304,33 @@ fn come_to_all<'a, K: Drop, A: Answers + Beginning>(
     reached_all(routes, &clocks.arrivals.reader)
 }
 
+// Reports the refusals that still wait, if the run is watched. `None` if many did.
+fn report_last<R: Wait, A: Answers, T: Watch>(
+    rt: &R,
+    channel: Option<&WatcherChannel<A>>,
+    watch: &mut T,
+) -> Option<NothingWaits>
+    ensures { IsSome channel.entry → IfNone result (AreReported T.told 1024) }
+{
+    match channel {
+        Some(channel) => report_refusals(rt, channel, watch),
+        None => None,
+    }
+}
+
+// Why a run whose threads weren't all running has ended: what hindered its workers, or else another thread.
+fn start_fault(ended: &Option<ThreadsEnded>) -> RunFault
+    ensures { IfSome ended.now (λ e. IfErr e.crew.workers (λ unstarted. result ≡ unstarted.fault)) }
+{
+    let Some(threads) = ended else {
+        return RunFault::Thread;
+    };
+    match &threads.crew.workers {
+        Ok(_) => RunFault::Thread,
+        Err(unstarted) => unstarted.fault,
+    }
+}
+
 // As `run_over`, over the routes with which the run begins.
 #[tactic(auto, unfolding(crate::specs::inside::Polled::AreUntouched))]
 fn run_opened<'a, R, S: Source, W: Wire, K, G, T, B>(
@@ -319,6 +352,7 @@ where
     requires few { context.now.rounds ≤ 2 ^ 48 }
     requires routes { length (terms_in (arrived polling.openings.reader)) ≤ 511 }
     requires first { length (arrived polling.openings.reader) ≡ B.first }
+    requires begins { context.now.routes ≡ B.first }
     requires names { names_of polling.names ≡ first_names context.now.schedules.now (terms_in (arrived polling.openings.reader)) }
     requires opened { AreOpened (arrived polling.openings.reader) polling.ends.items }
     requires clocks { others.clocks.ends.items ≡ new_clocks (arrived others.clocks.arrivals.reader) }
@@ -326,22 +360,17 @@ where
     requires put { (map (λ t. t.of) ending.put.items ≡ take (length ending.put.items) (locks_of polling.openings.reader))
         × (map (λ t. identity_in t.value.cell) ending.put.items ≡ arrived polling.openings.reader) }
     requires accounts { (ending.accounts.items ≡ []) × (511 ≤ vec_capacity ending.accounts) }
-    ensures fixed { (IsSome context.now.channel → ⊥) → IfOk result (λ r. RanUnder (T.answered AllClose)
-        (class_of (secret_bytes context.now.secret.now)) context.now.schedules.now (terms_in (arrived polling.entry.openings.reader)) r.rounds
+    ensures ran { Did (IsSome context.now.channel) T.answered (class_of (secret_bytes context.now.secret.now))
+        context.now.schedules.now (terms_in (arrived polling.entry.openings.reader))
         (recorded_by (heard (S.gave source.old) (S.calls source.old)) (carried (W.handed wire.old) (W.attempts wire.old)) (K.gave others.entry.clocks.ticker))
-        (recorded_by (heard (S.gave source.new) (S.calls source.new)) (carried (W.handed wire.new) (W.attempts wire.new)) (K.gave r.ticker))
-        r.report r.accounts.items) }
-    ensures changing { IsSome context.now.channel → IfOk result (λ r. RanChanging T.answered
-        (class_of (secret_bytes context.now.secret.now)) context.now.schedules.now (terms_in (arrived polling.entry.openings.reader)) r.rounds
-        (recorded_by (heard (S.gave source.old) (S.calls source.old)) (carried (W.handed wire.old) (W.attempts wire.old)) (K.gave others.entry.clocks.ticker))
-        (recorded_by (heard (S.gave source.new) (S.calls source.new)) (carried (W.handed wire.new) (W.attempts wire.new)) (K.gave r.ticker))
-        r.report r.accounts.items) }
+        (λ ticker. recorded_by (heard (S.gave source.new) (S.calls source.new)) (carried (W.handed wire.new) (W.attempts wire.new)) (K.gave ticker)) result }
     ensures rounds { IfOk result (λ r. (r.rounds ≤ context.now.rounds) × ((r.rounds ≡ context.now.rounds) ⊎ T.answered RunEnds)) }
     ensures shown { IsSome context.now.channel → IfOk result (λ r. AreLastShown T.shown 0 r.accounts.items) }
+    ensures reported { IsSome context.now.channel → IfOk result (λ r. IfNone r.reported (AreReported T.told 1024)) }
     ensures unread { (result ≡ Err RunFault.OutOfMemory) ⊎ (result ≡ Err RunFault.Thread) → (source.new ≡ source.old) × (wire.new ≡ wire.old) }
 {
     let Some(pumping) = serve_routes(context, source, wire, &mut polling, &mut others) else {
-        return Err(RunFault::Thread);
+        return Err(start_fault(&others.ended));
     };
     let PollerState {
         mut ends,
@@ -368,15 +397,14 @@ where
     let Ok(accounts) = settle_routes(rt, &routes, ends, clocks, ending.accounts, &mut viewer) else {
         return Err(RunFault::Busy);
     };
-    if let Some(channel) = context.channel {
-        let _ = report_refusals(rt, channel, &mut watch);
-    }
+    let reported = report_last(rt, context.channel, &mut watch);
     Ok(Watched {
         report: pumping.report,
         rounds: pumping.rounds,
         accounts,
         ticker,
         watch,
+        reported,
     })
 }
 
@@ -399,19 +427,14 @@ where
     requires schedules { length context.now.schedules.now ≡ length entries.now }
     requires few { context.now.rounds ≤ 2 ^ 48 }
     requires first { length entries.now ≡ B.first }
+    requires begins { context.now.routes ≡ B.first }
     requires names { names_of prepared.names ≡ first_names context.now.schedules.now (map terms_of entries.now) }
     requires accounts { (prepared.accounts.items ≡ []) × (511 ≤ vec_capacity prepared.accounts) }
     requires places { IsSome context.now.channel → length context.now.cells.now ≡ 511 }
-    ensures fixed { (IsSome context.now.channel → ⊥) → IfOk result (λ r. RanUnder (T.answered AllClose)
-        (class_of (secret_bytes context.now.secret.now)) context.now.schedules.now (map terms_of entries.now) r.rounds
+    ensures ran { Did (IsSome context.now.channel) T.answered (class_of (secret_bytes context.now.secret.now))
+        context.now.schedules.now (map terms_of entries.now)
         (recorded_by (heard (S.gave source.old) (S.calls source.old)) (carried (W.handed wire.old) (W.attempts wire.old)) (K.gave crew.ticker))
-        (recorded_by (heard (S.gave source.new) (S.calls source.new)) (carried (W.handed wire.new) (W.attempts wire.new)) (K.gave r.ticker))
-        r.report r.accounts.items) }
-    ensures changing { IsSome context.now.channel → IfOk result (λ r. RanChanging T.answered
-        (class_of (secret_bytes context.now.secret.now)) context.now.schedules.now (map terms_of entries.now) r.rounds
-        (recorded_by (heard (S.gave source.old) (S.calls source.old)) (carried (W.handed wire.old) (W.attempts wire.old)) (K.gave crew.ticker))
-        (recorded_by (heard (S.gave source.new) (S.calls source.new)) (carried (W.handed wire.new) (W.attempts wire.new)) (K.gave r.ticker))
-        r.report r.accounts.items) }
+        (λ ticker. recorded_by (heard (S.gave source.new) (S.calls source.new)) (carried (W.handed wire.new) (W.attempts wire.new)) (K.gave ticker)) result }
     ensures rounds { IfOk result (λ r. (r.rounds ≤ context.now.rounds) × ((r.rounds ≡ context.now.rounds) ⊎ T.answered RunEnds)) }
     ensures shown { IsSome context.now.channel → IfOk result (λ r. AreLastShown T.shown 0 r.accounts.items) }
     ensures unread { (result ≡ Err RunFault.OutOfMemory) ⊎ (result ≡ Err RunFault.Thread) → (source.new ≡ source.old) × (wire.new ≡ wire.old) }
@@ -447,7 +470,9 @@ where
         ends,
         openings,
         gate: poller,
+        arrived: None,
         missing: None,
+        ended: None,
     };
     let others = OtherThreads {
         clocks: Clocks {
@@ -457,6 +482,7 @@ where
         },
         gates: workers,
         watch,
+        ended: None,
     };
     let ending = Ending { put, accounts };
     run_opened(context, source, wire, polling, others, ending)
@@ -482,16 +508,10 @@ where
     requires workers { (1 ≤ vec_len crew.gates.workers) × (vec_len crew.gates.workers ≤ 16) }
     requires first { length task.entries.now ≡ B.first }
     requires few { task.rounds ≤ 2 ^ 48 }
-    ensures fixed { task.entry.is_watched ≡ false → IfOk result (λ r. RanUnder (T.answered AllClose)
-        (class_of (secret_bytes task.entry.secret.now)) task.entry.schedules.now (map terms_of task.entry.entries.now) r.rounds
+    ensures ran { Did (task.entry.is_watched ≡ true) T.answered (class_of (secret_bytes task.entry.secret.now))
+        task.entry.schedules.now (map terms_of task.entry.entries.now)
         (recorded_by (heard (S.gave source.old) (S.calls source.old)) (carried (W.handed wire.old) (W.attempts wire.old)) (K.gave crew.ticker))
-        (recorded_by (heard (S.gave source.new) (S.calls source.new)) (carried (W.handed wire.new) (W.attempts wire.new)) (K.gave r.ticker))
-        r.report r.accounts.items) }
-    ensures changing { task.entry.is_watched ≡ true → IfOk result (λ r. RanChanging T.answered
-        (class_of (secret_bytes task.entry.secret.now)) task.entry.schedules.now (map terms_of task.entry.entries.now) r.rounds
-        (recorded_by (heard (S.gave source.old) (S.calls source.old)) (carried (W.handed wire.old) (W.attempts wire.old)) (K.gave crew.ticker))
-        (recorded_by (heard (S.gave source.new) (S.calls source.new)) (carried (W.handed wire.new) (W.attempts wire.new)) (K.gave r.ticker))
-        r.report r.accounts.items) }
+        (λ ticker. recorded_by (heard (S.gave source.new) (S.calls source.new)) (carried (W.handed wire.new) (W.attempts wire.new)) (K.gave ticker)) result }
     ensures rounds { IfOk result (λ r. (r.rounds ≤ task.entry.rounds) × ((r.rounds ≡ task.entry.rounds) ⊎ T.answered RunEnds)) }
     ensures shown { task.entry.is_watched ≡ true → IfOk result (λ r. AreLastShown T.shown 0 r.accounts.items) }
     ensures unread { (result ≡ Err RunFault.OutOfMemory) ⊎ (result ≡ Err RunFault.Thread) → (source.new ≡ source.old) × (wire.new ≡ wire.old) }
@@ -584,10 +604,9 @@ where
         Ok(watched) => {
             let Watched {
                 report,
-                rounds: _,
                 accounts,
                 ticker,
-                watch: _,
+                ..
             } = watched;
             Ok(Ran {
                 report,

@@ -1,6 +1,6 @@
 //! Starts the threads of a run, and joins them.
 
-ghost use Rattle.std.specs.Prelude.{◌≡◌, ◌≤◌, ◌^◌, None, IfSome, IfNone, IsSome, length};
+ghost use Rattle.std.specs.Prelude.{◌≡◌, ◌≤◌, ◌^◌, None, [], IfOk, IfSome, IfNone, IsSome, length};
 ghost use Rattle.srt_cookie.specs.Cookie.{secret_bytes};
 ghost use Rattle.srt_lobby.specs.Lobby.{class_of};
 ghost use Rattle.srt_lobby.specs.Names.{names_of};
@@ -9,16 +9,22 @@ ghost use Rattle.std.specs.Vec.{vec_capacity};
 ghost use Rattle.srt_poller.specs.Openings.{route_reports};
 ghost use Rattle.srt_poller.specs.Pumped.{before, after};
 ghost use Rattle.srt_supervision.specs.Answers.{Answer, AllClose, RunEnds};
+ghost use Rattle.srt_serve.specs.inside.Ended.{AreNumbered, HaveEnded};
 ghost use Rattle.srt_serve.specs.inside.Polled.{AreReady, Polled, AreUntouched};
 
 use crate::answers::Beginning;
 use crate::arrivals::{NameAttachment, RouteNotices};
-use crate::evidence::{RouteHost, RunOver, ThreadsMissing, gather};
+use crate::evidence::{
+    AllArrived, NotStarted, RouteHost, RunEnded, RunOver, ThreadsMissing, end_after, end_unstarted,
+    gather,
+};
 use crate::inline_serving::InlineServer;
+use crate::known::Known;
+use crate::running::RunFault;
 use crate::ticking::Clockwork;
 use crate::watcher_channel::WatcherChannel;
 use crate::watching::{Changer, watch_routes};
-use crate::working::work;
+use crate::working::{WorkerEnded, work};
 use srt_cookie::Secret;
 use srt_lobby::Names;
 use srt_mailbox::{Gate, Seat, Serve};
@@ -29,7 +35,7 @@ use srt_wakeups::{ThreadName, Wakeups, name_thread};
 use std::alloc::Global;
 use std::marker::PhantomData;
 use std::sync::Wait;
-use std::thread::{Threads, join_mut};
+use std::thread::{Promise, PromisedHandle, Threads, join_mut};
 use std::{mem, thread};
 
 /// What the threads of a run use besides what each has for itself.
@@ -68,8 +74,12 @@ pub struct PollerState<G: Drop, O: Drop> {
     pub openings: O,
     /// The gate through which it serves routes, if it does. `serve_routes` takes it out.
     pub gate: Option<G>,
+    /// Evidence that all threads had arrived, once it has polled. `serve_routes` puts it there.
+    pub arrived: Option<AllArrived>,
     /// Evidence that some thread was missing, if one was. `serve_routes` puts it there.
     pub missing: Option<ThreadsMissing>,
+    /// Evidence that the run was ended, after the rounds if any were made. `serve_routes` puts it there.
+    pub ended: Option<RunEnded>,
 }
 
 /// What the threads besides the polling one have for themselves.
@@ -81,39 +91,95 @@ pub struct OtherThreads<D: Drop, G: Drop, T: Drop> {
     pub gates: Vec<G>,
     /// The watching thread's, if the run is watched.
     pub watch: T,
+    /// How these threads have ended. `serve_routes` puts it there.
+    pub ended: Option<ThreadsEnded>,
+}
+
+/// The number that a worker was started with.
+#[derive(Drop)]
+pub struct NumberOf {
+    number: usize,
+}
+
+impl Promise<WorkerEnded> for NumberOf {
+    ghost use Rattle.std.specs.Prelude.{◌≡◌};
+
+    ghost kept_by = { λ p w. w.number ≡ p.number };
+}
+
+// Waits until these workers have ended, whose numbers are those of their places.
+fn join_workers<R: Threads>(
+    rt: &R,
+    handles: Vec<PromisedHandle<WorkerEnded, NumberOf>>,
+    mut ended: Vec<WorkerEnded>,
+) -> Vec<WorkerEnded>
+    requires promised { AreNumbered (λ h. h.promise.number) handles.items }
+    requires room { (ended.items ≡ []) × (length handles.items ≤ vec_capacity ended) }
+    ensures { HaveEnded (length handles.items) result.items }
+{
+    let count = handles.len();
+    let mut handles = handles.into_iter();
+    for number in 0..count {
+        let Some(handle) = handles.next() else {
+            unreachable!();
+        };
+        let Ok(()) = ended.push(handle.join(rt)) else {
+            unreachable!();
+        };
+    }
+    ended
 }
 
 // Starts a worker for each gate, and waits until all have ended. If one can't be started, the run ends.
-fn start_workers<R, G, C, A>(context: &RunContext<R, C, A>, gates: &mut Vec<G>)
+fn start_workers<R, G, C, A>(
+    context: &RunContext<R, C, A>,
+    gates: &mut Vec<G>,
+) -> Result<Vec<WorkerEnded>, NotStarted>
 where
     R: Threads + Wait + Sync,
     G: Gate + Send + Drop,
     C: Serve + Sync,
     A: Answers + Sync,
+    ensures { IfOk result (λ ended. HaveEnded (length gates.old.items) ended.items) }
 {
     let RunContext {
         rt,
+        alloc,
         cells,
         wakeups,
         ..
     } = *context;
-    let gates = mem::replace(gates, Vec::new(context.alloc));
-    thread::scope(thread::scope_env(), rt, |scope| {
-        let mut first = 0usize;
-        for gate in gates {
-            if scope
-                .spawn(move || {
-                    name_thread(ThreadName::Worker(first));
-                    let _ = work(rt, cells, gate, first, wakeups);
-                })
-                .is_err()
-            {
-                wakeups.finish();
-                return;
+    let gates = mem::replace(gates, Vec::new(alloc));
+    let count = gates.len();
+    thread::scope(
+        thread::scope_env(),
+        rt,
+        |scope| -> Result<Vec<WorkerEnded>, NotStarted>
+            requires { count ≡ length gates.items }
+            ensures { IfOk result (λ ended. HaveEnded count ended.items) }
+        {
+            let Ok(ended) = Vec::with_capacity(alloc, count) else {
+                return Err(end_unstarted(wakeups, RunFault::OutOfMemory));
+            };
+            let mut handles = Vec::new(alloc);
+            let mut gates = gates.into_iter();
+            for number in 0..count {
+                let Some(gate) = gates.next() else {
+                    unreachable!();
+                };
+                let Ok(handle) = scope.spawn_with(NumberOf { number }, move || {
+                    name_thread(ThreadName::Worker(number));
+                    work(rt, cells, gate, number, wakeups)
+                }) else {
+                    return Err(end_unstarted(wakeups, RunFault::Thread));
+                };
+                let Ok(()) = handles.push(handle) else {
+                    return Err(end_unstarted(wakeups, RunFault::OutOfMemory));
+                };
             }
-            first = first.wrapping_add(1);
-        }
-    });
+            Ok(join_workers(rt, handles, ended))
+        },
+    )
 }
 
 // Watches until the run has ended, if the run is watched.
@@ -123,7 +189,8 @@ fn watch_over<R: Wait, A: Answers + Beginning, C, T: Watch>(
 ) -> Option<RunOver>
 where
     C: Serve + RouteHost<Seat = Seat<NameAttachment<A>>>,
-    requires { (a : Answer) → T.answered a → A.answered a }
+    requires answered { (a : Answer) → T.answered a → A.answered a }
+    requires first { context.now.routes ≡ A.first }
     ensures { IfNone result (context.now.channel ≡ None) }
 {
     name_thread(ThreadName::Watch);
@@ -137,33 +204,60 @@ where
         routes: context.routes,
         of: PhantomData,
     };
-    Some(watch_routes(context.rt, changer, context.wakeups, channel, watch))
+    let mut known = Known::new();
+    let over = watch_routes(
+        context.rt,
+        changer,
+        context.wakeups,
+        channel,
+        watch,
+        &mut known,
+    );
+    Some(known.end(over))
+}
+
+/// How the threads of a run have ended that serve routes, or watch.
+#[derive(Drop)]
+pub struct CrewEnded {
+    /// Of each worker, in the order of their numbers; or evidence that one couldn't be started.
+    pub workers: Result<Vec<WorkerEnded>, NotStarted>,
+    /// The watching thread, if the run is watched.
+    pub watching: Option<RunOver>,
 }
 
 // Starts the workers, and watches in a thread more if the run is watched. Returns when all have ended.
-fn start_all<R, G, A, C, T>(context: &RunContext<R, C, A>, gates: &mut Vec<G>, watch: &mut T)
+fn start_all<R, G, A, C, T>(
+    context: &RunContext<R, C, A>,
+    gates: &mut Vec<G>,
+    watch: &mut T,
+) -> CrewEnded
 where
     R: Threads + Wait + Sync,
     G: Gate + Send + Drop,
     A: Answers + Beginning + Sync,
     C: Serve + RouteHost<Seat = Seat<NameAttachment<A>>> + Sync,
     T: Watch + Send,
-    requires { (a : Answer) → T.answered a → A.answered a }
+    requires answered { (a : Answer) → T.answered a → A.answered a }
+    requires first { context.now.routes ≡ A.first }
+    ensures workers { IfOk result.workers (λ ended. HaveEnded (length gates.old.items) ended.items) }
+    ensures watching { IfNone result.watching (context.now.channel ≡ None) }
 {
     name_thread(ThreadName::Start);
     if context.channel.is_none() {
-        start_workers(context, gates);
-        return;
+        return CrewEnded {
+            workers: start_workers(context, gates),
+            watching: None,
+        };
     }
-    let _ = join_mut(
+    let (watching, workers) = join_mut(
         context.rt,
         &mut ||
-            requires { (a : Answer) → T.answered a → A.answered a }
-        {
-            let _ = watch_over(context, watch);
-        },
+            requires answered { (a : Answer) → T.answered a → A.answered a }
+            requires first { context.now.routes ≡ A.first }
+        { watch_over(context, watch) },
         &mut || start_workers(context, gates),
     );
+    CrewEnded { workers, watching }
 }
 
 // Waits until all threads have arrived, polls, and ends the run. `None` if they don't arrive; then nothing was read.
@@ -187,7 +281,9 @@ fn poll<R: Wait, S: Source, W: Wire, O: Openings + Drop, C: Serve, G: Gate + Dro
         (after (names_of polling.new.names) (heard (S.gave source.new) (S.calls source.new))
         (carried (W.handed wire.new) (W.attempts wire.new)) polling.new.ends.items pumping.report)) }
     ensures unread { IfNone result (AreUntouched source.old source.new wire.old wire.new) }
+    ensures arrived { IfSome result (λ _. IsSome polling.new.arrived) }
     ensures missing { IfNone result (IsSome polling.new.missing) }
+    ensures finished { IfSome polling.new.ended (λ e. e.pumping ≡ result) × IsSome polling.new.ended }
 {
     let RunContext {
         rt,
@@ -199,10 +295,13 @@ fn poll<R: Wait, S: Source, W: Wire, O: Openings + Drop, C: Serve, G: Gate + Dro
         channel,
         ..
     } = *context;
-    if let Err(missing) = gather(rt, wakeups) {
-        polling.missing = Some(missing);
-        wakeups.finish();
-        return None;
+    match gather(rt, wakeups) {
+        Ok(arrived) => polling.arrived = Some(arrived),
+        Err(missing) => {
+            polling.missing = Some(missing);
+            polling.ended = Some(end_after(wakeups, None));
+            return None;
+        }
     }
     let inline = InlineServer::new(rt, cells, wakeups, channel, polling.gate.take());
     let task = PollerTask {
@@ -222,8 +321,17 @@ fn poll<R: Wait, S: Source, W: Wire, O: Openings + Drop, C: Serve, G: Gate + Dro
             pump_changing(&task, names, ends, source, wire, openings)
         }
     };
-    wakeups.finish();
+    polling.ended = Some(end_after(wakeups, Some(pumping)));
     Some(pumping)
+}
+
+/// How the threads of a run besides the polling one have ended.
+#[derive(Drop)]
+pub struct ThreadsEnded {
+    /// The ticking thread.
+    pub ticking: RunOver,
+    /// The others.
+    pub crew: CrewEnded,
 }
 
 // Ticks in a new thread, and starts the workers and the watching thread in another one. Returns when all have ended.
@@ -232,7 +340,7 @@ fn tick_and_start<R, D, G, A, C, T>(
     clocks: &mut D,
     gates: &mut Vec<G>,
     watch: &mut T,
-)
+) -> ThreadsEnded
 where
     R: Threads + Wait + Sync,
     D: Clockwork + Send + Drop,
@@ -240,19 +348,24 @@ where
     A: Answers + Beginning + Sync,
     C: Serve + RouteHost<Seat = Seat<NameAttachment<A>>> + Sync,
     T: Watch + Send + Drop,
-    requires { (a : Answer) → T.answered a → A.answered a }
-    ensures { D.ticked clocks.old clocks.new }
+    requires answered { (a : Answer) → T.answered a → A.answered a }
+    requires first { context.now.routes ≡ A.first }
+    ensures ticked { D.ticked clocks.old clocks.new }
+    ensures workers { IfOk result.crew.workers (λ ended. HaveEnded (length gates.old.items) ended.items) }
+    ensures watching { IfNone result.crew.watching (context.now.channel ≡ None) }
 {
-    let _ = join_mut(
+    let (ticking, crew) = join_mut(
         context.rt,
         &mut || {
             name_thread(ThreadName::Tick);
-            let _ = clocks.tick(context.rt, context.wakeups);
+            clocks.tick(context.rt, context.wakeups)
         },
         &mut ||
-            requires { (a : Answer) → T.answered a → A.answered a }
+            requires answered { (a : Answer) → T.answered a → A.answered a }
+            requires first { context.now.routes ≡ A.first }
         { start_all(context, gates, watch) },
     );
+    ThreadsEnded { ticking, crew }
 }
 
 /// Starts the workers and the ticking thread, watches in one more if the run is watched, and then polls. All threads have
@@ -274,6 +387,7 @@ where
     C: Serve + RouteHost<Seat = Seat<NameAttachment<A>>> + Sync,
     T: Watch + Send + Drop,
     requires answered { (a : Answer) → T.answered a → A.answered a }
+    requires first { context.now.routes ≡ A.first }
     requires ready { AreReady context.now.schedules.now (names_of polling.old.names) polling.old.ends.items }
     requires room { IsSome context.now.channel → 511 ≤ vec_capacity polling.old.ends }
     requires few { context.now.rounds ≤ 2 ^ 48 }
@@ -287,17 +401,22 @@ where
         (after (names_of polling.new.names) (heard (S.gave source.new) (S.calls source.new))
         (carried (W.handed wire.new) (W.attempts wire.new)) polling.new.ends.items pumping.report)) }
     ensures ticked { D.ticked others.old.clocks others.new.clocks }
+    ensures ended { IfSome others.new.ended (λ e. IfOk e.crew.workers (λ ended. HaveEnded (length others.old.gates.items) ended.items)
+        × IfNone e.crew.watching (context.now.channel ≡ None)) × IsSome others.new.ended }
     ensures unread { IfNone result (AreUntouched source.old source.new wire.old wire.new) }
+    ensures arrived { IfSome result (λ _. IsSome polling.new.arrived) }
     ensures missing { IfNone result (IsSome polling.new.missing) }
+    ensures finished { IfSome polling.new.ended (λ e. e.pumping ≡ result) × IsSome polling.new.ended }
 {
     let clocks = &mut others.clocks;
     let gates = &mut others.gates;
     let watch = &mut others.watch;
     // The polling thread's gate has a separate type, `P`: what both closures capture may share no type parameter.
-    let (_, pumping) = join_mut(
+    let (ended, pumping) = join_mut(
         context.rt,
         &mut ||
-            requires { (a : Answer) → T.answered a → A.answered a }
+            requires answered { (a : Answer) → T.answered a → A.answered a }
+            requires first { context.now.routes ≡ A.first }
         { tick_and_start(context, clocks, gates, watch) },
         &mut ||
             requires ready { AreReady context.now.schedules.now (names_of polling.now.names) polling.now.ends.items }
@@ -305,5 +424,6 @@ where
             requires few { context.now.rounds ≤ 2 ^ 48 }
         { poll(context, source, wire, polling) },
     );
+    others.ended = Some(ended);
     pumping
 }

@@ -7,7 +7,7 @@ use crate::evidence::{
     COUNTS, CountsLeft, CountsTaken, CountsWritten, FlagClear, FlagSet, clear_after, raise_after,
     read_counts, read_flag, write_counts,
 };
-use crate::watching::Known;
+use crate::known::Known;
 use srt_supervision::Report;
 use std::sync::atomic::{AtomicBool, AtomicU64};
 
@@ -44,7 +44,7 @@ impl ReportRead {
         ensures { known.new ≡ known_with_report result.report known.old }
     {
         let ReportRead { report, taken } = self;
-        *known = known.with_report(report);
+        known.note(report);
         ReportNoted { report, taken }
     }
 }

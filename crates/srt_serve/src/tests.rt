@@ -12,7 +12,9 @@ use crate::ticking::{Clocks, TickEnds, tick};
 use crate::{Gates, Ran, RunFault, Ticker, run};
 use srt_cookie::Secret;
 use srt_lobby::Names;
-use srt_mailbox::{ClockEnd, Gate, RouteCell, Serve, Ungated, open_route};
+use srt_mailbox::{
+    ClockEnd, EmptyPlace, Gate, RouteCell, Serve, TakenElsewhere, Ungated, open_route,
+};
 use srt_poller::{Polled, Read, Report, Sent, Source, Wire};
 use srt_samples::{Difference, Sample, first_difference, shutdown};
 use srt_types::{Access, Entry, Mode, Peer, Rules, Schedule};
@@ -381,6 +383,10 @@ impl Gate for Member {
         true
     }
 
+    fn is_elsewhere(&self, _route: usize, _taken: TakenElsewhere) {}
+
+    fn seats_nobody(&self, _empty: EmptyPlace) {}
+
     fn held(&self) -> u64 {
         0
     }
@@ -408,6 +414,10 @@ impl Gate for Door {
         self.meeting.await_inside(WORKERS);
         true
     }
+
+    fn is_elsewhere(&self, _route: usize, _taken: TakenElsewhere) {}
+
+    fn seats_nobody(&self, _empty: EmptyPlace) {}
 
     fn held(&self) -> u64 {
         0

@@ -4,7 +4,7 @@ ghost use Rattle.std.specs.Prelude.{◌≡◌, ◌<◌, ◌≤◌, ◌^◌, List
 ghost use Rattle.std.specs.Vec.{vec_capacity};
 ghost use Rattle.srt_serve.specs.Ticks.{WereTicked, Ticked};
 
-use crate::evidence::{RunOver, run_over};
+use crate::evidence::{RunOver, TicksOffered, offered_to, run_over};
 use srt_mailbox::{ClockEnd, InboxFull};
 use srt_types::Item;
 use srt_wakeups::Wakeups;
@@ -172,20 +172,22 @@ fn tick_all<R: Wait, E: TickEnd>(rt: &R, ends: &mut [E], moment: u64)
     tick_each(rt, ends, moment);
 }
 
-// Takes the ends that were added, and offers a tick to every route, in the order of their indexes.
+// Takes the ends that were added, and offers a tick to every route, in the order of their indexes. The workers are to be told.
 fn tick_with_new<R: Wait, E: TickEnd + Drop, A: TickEnds<E>>(
     rt: &R,
     ends: &mut Vec<E>,
     arrivals: &mut A,
     moment: u64,
-)
+) -> TicksOffered
     requires { moment < 2 ^ 62 }
+    ensures offered { result.routes ≡ length ends.new.items }
     ensures ticked { (more : List E) × (A.added arrivals.new ≡ A.added arrivals.old ++ more)
         × WereTicked E.inbox E.tried (moment ∷ []) (ends.old.items ++ more) ends.new.items }
     ensures same { A.places arrivals.new ≡ A.places arrivals.old }
 {
     let _ = take_new(ends, arrivals);
     tick_all(rt, ends, moment);
+    offered_to(ends)
 }
 
 /// Offers a tick to every route at each time that the ticker returns, until the run has ended. No route is left out: one
@@ -206,8 +208,8 @@ pub fn tick<R: Wait, K: Ticker + Drop, E: TickEnd + Drop, A: TickEnds<E> + Drop>
             return over;
         }
         let moment = clocks.ticker.next();
-        tick_with_new(rt, &mut clocks.ends, &mut clocks.arrivals, moment);
-        wakeups.ticked(clocks.ends.len());
+        let offered = tick_with_new(rt, &mut clocks.ends, &mut clocks.arrivals, moment);
+        offered.tell(wakeups);
         thread::yield_now();
     }
     unreachable!()

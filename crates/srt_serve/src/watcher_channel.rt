@@ -6,7 +6,8 @@
 //! of different item types is also refused by the prover (docs/proving-traps.md, "Queues and threads"), so the counts are
 //! in atomics with a flag (`SharedReport`). Nothing here is touched for a packet of an open session.
 
-ghost use Rattle.std.specs.Prelude.{◌≡◌};
+ghost use Rattle.std.specs.Prelude.{◌≡◌, IfOk};
+ghost use Rattle.crossbeam_queue.specs.Passes.{queue_capacity};
 ghost use Rattle.srt_supervision.specs.Answers.{IsOrdered};
 
 use crate::answers::{ClosesAll, EndsRun};
@@ -14,8 +15,10 @@ use crate::counters::{Count, Counted, Counter, MissedRefusals, SocketFaults};
 use crate::evidence::{
     NoPlace, OrderRead, RefusalQueue, WasPut, WordWritten, read_order, write_word,
 };
+use crate::route_marks::RouteMarks;
 use crate::shared_report::{ReportLeft, SharedReport};
 use srt_supervision::{Answers, Order, Refusal, Report};
+use srt_wakeups::Wakeups;
 use std::alloc::{AllocError, Global};
 use std::sync::Wait;
 use std::sync::atomic::AtomicIn;
@@ -57,6 +60,9 @@ pub trait PollerChannel: Answers {
     ghost use Rattle.srt_supervision.specs.declared.refusal.Refusal.{Refusal as TheRefusal};
     ghost use Rattle.srt_supervision.specs.Answers.{IsOrdered};
     ghost use Rattle.srt_serve.specs.inside.Leaving.{IsLeft};
+
+    /// The marks of the routes of its run.
+    type Marks: RouteMarks;
 
     /// What is known of the order that it returned.
     ghost ordered: { Self → TheOrder → Type 0 };
@@ -118,7 +124,9 @@ impl<A: Answers> WatcherChannel<A> {
 
     /// The order is to go on, nothing was reported, and the first counts are wanted. Allocates room for 64 refusals; an
     /// error means out of memory.
-    pub fn open(alloc: Global) -> Result<WatcherChannel<A>, AllocError> {
+    pub fn open(alloc: Global) -> Result<WatcherChannel<A>, AllocError>
+        ensures { IfOk result (λ channel. queue_capacity channel.refusals.queue ≡ 64) }
+    {
         Ok(WatcherChannel {
             closes: AtomicIn::new(0),
             ends: AtomicIn::new(0),
@@ -165,6 +173,8 @@ impl<A: Answers> Answers for WatcherChannel<A> {
 }
 
 impl<A: Answers> PollerChannel for WatcherChannel<A> {
+    type Marks = Wakeups;
+
     ghost ordered = { λ _ _. Unit {0} };
 
     ghost counted = { λ _ _. Unit {0} };

@@ -1,16 +1,17 @@
 //! The watching thread of a run: it shows the routes to a watcher, reports refusals to it, passes its orders to the poller,
 //! and makes its changes of the routes.
 
-ghost use Rattle.std.specs.Prelude.{◌≡◌, ◌≢◌, ◌⊎◌, ◌≤◌, ◌+◌, ◌-◌, true, false, Some, IfOk, IfErr, IfNone, IsOk, IsErr, length, map, slice_get};
+ghost use Rattle.std.specs.Prelude.{◌≡◌, ◌≢◌, ◌⊎◌, ◌≤◌, ◌+◌, ◌-◌, true, false, List, Some, IfOk, IfErr, IfNone, IsOk, IsErr, length, map, slice_get};
 ghost use Rattle.srt_types.specs.Terms.{terms_of};
 ghost use Rattle.srt_serve.specs.Opened.{terms_in};
 ghost use Rattle.srt_mailbox.specs.Identities.{identity_in};
-ghost use Rattle.srt_serve.specs.inside.Changing.{IsChangeFault, IsClosedAt, HasIndexAt, IsHostedAt, IsOpenedAt};
+ghost use Rattle.srt_serve.specs.inside.Changing.{IsChangeFault, IsClosedAt, HasIndexAt, IsOpenedAt};
 ghost use Rattle.srt_serve.specs.inside.Looking.{IsShown, IsShownAt, IsQuiet, IsQuietAt, IsBusy, IsOneBusy, IsCheckOf, AreReported};
 ghost use Rattle.srt_serve.specs.inside.Orders.{IsSet};
 ghost use Rattle.srt_serve.specs.inside.Quiet.{HasNoSession, HasSession, is_check_quiet};
 ghost use Rattle.srt_serve.specs.inside.UpTo.{UpTo};
-ghost use Rattle.srt_serve.specs.inside.Watched.{known_first, known_with, known_with_report, known_checked, status_of};
+ghost use Rattle.srt_serve.specs.inside.Watched.{known_with, known_checked, status_of, AreTurns};
+ghost use Rattle.srt_serve.specs.declared.known.Known.{Known as TheKnown};
 ghost use Rattle.srt_serve.specs.inside.Taken.{taken_in};
 ghost use Rattle.srt_supervision.specs.Answers.{Answer, AreClosings, AreOpenings};
 ghost use Rattle.srt_supervision.specs.declared.order.Order.TheVariants.{GoOn};
@@ -22,6 +23,8 @@ use crate::evidence::{
     FlagSet, NothingWaits, OutboxHasHint, OutboxesRest, RouteHost, RunOver, look_at_outboxes,
     run_over,
 };
+use crate::hosting::SeatsHosted;
+use crate::known::Known;
 use crate::shared_report::ReportNoted;
 use crate::watcher_channel::{OrderSet, WatcherChannel};
 use srt_mailbox::{Observer, Seat, Serve};
@@ -40,10 +43,6 @@ use std::thread;
 // The most refusals that are reported to a watcher between two of its rests.
 const REFUSALS_PER_REST: u32 = 1024;
 
-// The number of checks in a row that find all quiet before that is reported. A hint is cleared before its outbox is
-// drained, so that one check alone may miss replies that are being sent.
-const QUIET_CHECKS: u32 = 2;
-
 /// Makes the changes that a watcher requests.
 #[derive(Drop)]
 pub struct Changer<'a, C, N, A> {
@@ -57,16 +56,6 @@ pub struct Changer<'a, C, N, A> {
     pub routes: usize,
     /// The watcher's answers.
     pub of: PhantomData<A>,
-}
-
-// Puts a route into the place with this index.
-fn host_at<C: RouteHost>(places: &[C], index: usize, seat: C::Seat)
-    ensures { (place : C) → slice_get places.now index ≡ Some place → C.has_route place ⊎ C.hosts place seat }
-{
-    let Some(place) = places.get(index) else {
-        return;
-    };
-    let _ = place.host(seat);
 }
 
 impl<A: Answers + Beginning, C: RouteHost<Seat = Seat<NameAttachment<A>>>, N> Changer<'_, C, N, A> {
@@ -97,24 +86,6 @@ impl<A: Answers + Beginning, C: RouteHost<Seat = Seat<NameAttachment<A>>>, N> Ch
         Ok(seats)
     }
 
-    // Puts the routes of a change into their places, which are taken then.
-    fn host_all(&mut self, seats: Vec<Seat<NameAttachment<A>>>)
-        requires { length seats.items ≤ length self.old.places.now - self.old.routes }
-        ensures routes { self.new.routes ≡ self.old.routes + length seats.items }
-        ensures hosted { UpTo (IsHostedAt C.hosts C.has_route self.old.places.now self.old.routes seats.items) (length seats.items) }
-        ensures others { (self.new.places ≡ self.old.places) × (self.new.notices ≡ self.old.notices) }
-    {
-        let count = seats.len();
-        let mut seats = seats.into_iter();
-        for offset in 0..count {
-            let Some(seat) = seats.next() else {
-                unreachable!();
-            };
-            host_at(self.places, self.routes + offset, seat);
-        }
-        self.routes = self.routes.wrapping_add(count);
-    }
-
     // The places that are taken.
     fn taken(&self) -> &[C]
         ensures { result.now ≡ taken_in self.now }
@@ -124,18 +95,19 @@ impl<A: Answers + Beginning, C: RouteHost<Seat = Seat<NameAttachment<A>>>, N> Ch
     }
 }
 
-// Requests that these routes be closed, of those that there were before a change, and notifies the polling thread.
-fn leave_notices<N: ChangeNotices>(notices: &N, closes: &[usize], first: usize)
+// Requests that these routes be closed, of those that there were before a change, and notifies the polling thread. The
+// routes that the change opens are in their places.
+fn leave_notices<N: ChangeNotices>(notices: &N, closes: &[usize], hosted: &SeatsHosted)
     requires { AreClosings N.answered closes.now }
-    ensures closed { UpTo (IsClosedAt (N.requested notices.now) first closes.now) (length closes.now) }
+    ensures closed { UpTo (IsClosedAt (N.requested notices.now) hosted.now.first closes.now) (length closes.now) }
     ensures notified { N.notified notices.now }
 {
     for route in closes {
-        if *route < first {
-            let _ = notices.close(*route);
+        if *route < hosted.first {
+            let _ = notices.close(*route, hosted);
         }
     }
-    let _ = notices.notify();
+    let _ = notices.notify(hosted);
 }
 
 impl<
@@ -160,8 +132,8 @@ impl<
     {
         let seats = self.open_all(&changes.opens)?;
         let first = self.routes;
-        self.host_all(seats);
-        leave_notices(self.notices, &changes.closes, first);
+        let hosted = self.host_all(seats);
+        leave_notices(self.notices, &changes.closes, &hosted);
         Ok(first)
     }
 }
@@ -333,69 +305,6 @@ pub fn report_refusals<R: Wait, A: Answers, T: Watch>(
     None
 }
 
-/// What is known between two rests of the watcher.
-#[derive(Clone, Copy)]
-pub struct Known {
-    // the counts that the poller reported last, and how often it reported any
-    counts: Report,
-    reports: u64,
-    // how many checks in a row found all quiet
-    quiet: u32,
-}
-
-impl Known {
-    /// Nothing was reported, and nothing checked.
-    pub const fn new() -> Known
-        ensures { result ≡ known_first }
-    {
-        Known {
-            counts: Report::NOTHING,
-            reports: 0,
-            quiet: 0,
-        }
-    }
-
-    /// The same with one report more.
-    pub fn with_report(self, report: Report) -> Known
-        ensures { result ≡ known_with_report report self }
-    {
-        Known {
-            counts: report,
-            reports: self.reports.saturating_add(1),
-            quiet: self.quiet,
-        }
-    }
-
-    // The same after a check that found all quiet or not.
-    fn checked(self, is_quiet: bool) -> Known
-        ensures { result ≡ known_checked is_quiet self }
-    {
-        let quiet = if is_quiet {
-            self.quiet.saturating_add(1)
-        } else {
-            0
-        };
-        Known {
-            counts: self.counts,
-            reports: self.reports,
-            quiet,
-        }
-    }
-
-    // Returns what the watcher gets before its next rest.
-    fn status(&self, faults: &Count<SocketFaults>, missed: &Count<MissedRefusals>) -> RunStatus
-        ensures { result ≡ status_of self.now faults.now.number missed.now.number }
-    {
-        RunStatus {
-            is_quiet: self.quiet >= QUIET_CHECKS,
-            faults: faults.number,
-            missed: missed.number,
-            counts: self.counts,
-            reports: self.reports,
-        }
-    }
-}
-
 // A rest of the watcher.
 #[derive(Drop)]
 struct Rested<A: Answers> {
@@ -455,7 +364,8 @@ fn change_routes<A: Answers + Beginning, C, T: Watch>(
 where
     C: RouteHost<Seat = Seat<NameAttachment<A>>>,
     requires { (a : Answer) → T.answered a → A.answered a }
-    ensures { order ≡ GoOn → T.changed }
+    ensures changed { order ≡ GoOn → T.changed }
+    ensures kept { order ≢ GoOn → (watch.new ≡ watch.old) × (changer.new ≡ changer.old) }
 {
     if !matches!(order, Order::GoOn) {
         return;
@@ -491,6 +401,7 @@ where
     ensures reported { IfNone result.reported (AreReported T.told 1024) }
     ensures wanted { T.wanted result.looks }
     ensures changed { result.rested.order ≡ GoOn → T.changed }
+    ensures kept { result.rested.order ≢ GoOn → changer.new ≡ changer.old }
     ensures shown { result.looks ≡ true → UpTo (IsShownAt C.holds C.shows_none T.shown true (taken_in changer.new)) (length (taken_in changer.new)) }
     ensures check { IsCheckOf C.holds C.shows_none result.rested.order (taken_in changer.new) result.check }
     ensures known { known.new ≡ known_checked result.check.is_quiet (known_with result.rested.left known.old) }
@@ -500,7 +411,7 @@ where
     let looks = watch.wants_routes();
     change_routes(changer, watch, rested.order);
     let check = check_routes(rt, changer.taken(), wakeups, rested.order, watch, looks);
-    *known = known.checked(check.is_quiet);
+    known.check(check.is_quiet);
     WatchTurn {
         rested,
         reported,
@@ -511,25 +422,28 @@ where
 
 /// Watches until the run has ended. After each rest of the watcher the poller gets its order, the refusals that wait are
 /// reported, the watcher changes the routes, and the routes are shown if it wants them. What is known of the watcher's
-/// answers is known of those that the polling thread gets.
+/// answers is known of those that the polling thread gets. Each turn begins with what the one before left known. At first there
+/// are the routes with which the run begins.
 pub fn watch_routes<R: Wait, A: Answers + Beginning, C, T: Watch>(
     rt: &R,
     mut changer: Changer<'_, C, RouteNotices<A>, A>,
     wakeups: &Wakeups,
     channel: &WatcherChannel<A>,
     watch: &mut T,
+    known: &mut Known,
 ) -> RunOver
 where
     C: Serve + RouteHost<Seat = Seat<NameAttachment<A>>>,
-    requires { (a : Answer) → T.answered a → A.answered a }
+    requires answered { (a : Answer) → T.answered a → A.answered a }
+    requires first { changer.routes ≡ A.first }
+    ensures { (between : List TheKnown) × AreTurns T.rested between known.old known.new }
 {
     wakeups.arrive();
-    let mut known = Known::new();
     for _ in rt.forever() {
         if let Some(over) = run_over(wakeups) {
             return over;
         }
-        let _ = watch_once(rt, &mut changer, wakeups, channel, watch, &mut known);
+        let _ = watch_once(rt, &mut changer, wakeups, channel, watch, known);
         thread::yield_now();
     }
     unreachable!()

@@ -1,12 +1,14 @@
 //! A worker thread: round after round it serves the routes that may have work.
 
-ghost use Rattle.std.specs.Prelude.{◌≡◌, ◌≢◌, ◌≤◌, true, false, Some, None};
+ghost use Rattle.std.specs.Prelude.{◌≡◌, ◌≢◌, ◌<◌, ◌≤◌, true, false, Some, None, length};
 ghost use Rattle.srt_mailbox.specs.Counts.{Grew};
 ghost use Rattle.srt_mailbox.specs.declared.gates.Served.TheVariants.{Turned as TurnedAs, GateRefused, ClaimedElsewhere};
 ghost use Rattle.srt_types.specs.declared.shared.Turned.TheVariants.{Idle};
-ghost use Rattle.srt_serve.specs.inside.Working.{round_first, round_with, is_thin, pause_after, sleeps, first_of};
+ghost use Rattle.srt_serve.specs.inside.Working.{round_first, round_with, is_thin, pause_after, sleeps, first_of, ArePassed};
+ghost use Rattle.srt_serve.specs.inside.UpTo.{UpTo};
 
 use crate::evidence::{Entered, LeftRoute, RunOver, enter, run_over};
+use crate::route_marks::RouteMarks;
 use srt_mailbox::{Gate, Serve, Served, Visit};
 use srt_types::Turned;
 use srt_wakeups::Wakeups;
@@ -110,16 +112,17 @@ fn first_of(worker: usize, routes: usize) -> usize
 
 /// Serves a route until it is idle, blocked by a full outbox, held by the gate or claimed by another call, and for at
 /// most `most` turns.
-pub fn serve_route<R: Wait, C: Serve, G: Gate>(
+pub fn serve_route<R: Wait, C: Serve, G: Gate, M: RouteMarks>(
     rt: &R,
     cell: &C,
     route: usize,
     gate: &mut G,
-    wakeups: &Wakeups,
+    marks: &M,
     most: u32,
 ) -> Visit
     ensures most { result.turns ≤ most }
     ensures moved { result.moved ≤ result.turns }
+    ensures replied { 0 < result.moved → M.replied marks.now route }
     ensures all { result.end ≡ None → result.turns ≡ most }
     ensures held { result.end ≡ Some GateRefused → Grew (G.held gate.old) (G.held gate.new) }
     ensures passed { result.end ≢ Some GateRefused → G.held gate.new ≡ G.held gate.old }
@@ -127,7 +130,7 @@ pub fn serve_route<R: Wait, C: Serve, G: Gate>(
 {
     let visit = cell.visit(rt, gate, most);
     if visit.moved > 0 {
-        wakeups.set_outbox_ready(route);
+        marks.mark_outbox(route);
     }
     visit
 }
@@ -144,27 +147,35 @@ pub fn is_left(visit: Visit) -> bool
     }
 }
 
-// A visit of a route that a worker entered, and left after it.
+/// A visit of a route that a thread took upon itself, and left after it.
 #[derive(Drop)]
-struct Stay {
-    visit: Visit,
-    left: LeftRoute,
+pub struct Stay {
+    /// The visit.
+    pub visit: Visit,
+    /// Whether it left work there.
+    pub left: LeftRoute,
 }
 
 // Serves a route that this worker entered, and leaves it.
-fn serve_entered<R: Wait, C: Serve, G: Gate>(rt: &R, entered: Entered<'_, C>, gate: &mut G) -> Stay
+fn serve_entered<R: Wait, C: Serve, G: Gate, M: RouteMarks>(
+    rt: &R,
+    entered: Entered<'_, C, M>,
+    gate: &mut G,
+) -> Stay
     ensures most { result.visit.turns ≤ 64 }
     ensures all { result.visit.end ≡ None → result.visit.turns ≡ 64 }
     ensures idle { result.visit.end ≡ Some (TurnedAs Idle) → result.left.is_left ≡ false }
     ensures held { result.visit.end ≡ Some GateRefused → result.left.is_left ≡ false }
     ensures left { result.visit.end ≢ Some (TurnedAs Idle) → result.visit.end ≢ Some GateRefused → result.left.is_left ≡ true }
+    ensures replied { 0 < result.visit.moved → M.replied entered.entry.marks.now entered.entry.route }
+    ensures passed { M.passed entered.entry.marks.now entered.entry.route }
 {
     let visit = serve_route(
         rt,
         entered.cell,
         entered.route,
         gate,
-        entered.wakeups,
+        entered.marks,
         WORKER_TURNS,
     );
     Stay {
@@ -173,65 +184,126 @@ fn serve_entered<R: Wait, C: Serve, G: Gate>(rt: &R, entered: Entered<'_, C>, ga
     }
 }
 
-// Passes once over all routes, from the route `first` on, and serves each whose inbox is ready and that no other worker
-// serves. If there is much to do, it wakes another worker.
-fn serve_round<R: Wait, C: Serve, G: Gate>(
-    rt: &R,
-    cells: &[C],
-    first: usize,
-    gate: &mut G,
-    wakeups: &Wakeups,
-) -> Round {
-    let mut round = Round::new();
-    let mut is_shared = false;
-    let mut is_past_the_end = false;
-    let mut route = first;
-    // no route is visited twice
-    for _ in 0..cells.len() {
-        route = wakeups.next_inbox_ready(route);
-        if route >= cells.len() {
-            if is_past_the_end {
-                return round;
-            }
-            is_past_the_end = true;
-            route = wakeups.next_inbox_ready(0);
-        }
-        if is_past_the_end && route >= first {
-            return round;
-        }
-        if round.moved >= MANY_REPLIES && !is_shared {
-            is_shared = true;
-            wakeups.wake_resting();
-        }
-        if let Some(entered) = enter(wakeups, cells, route) {
-            round = round.with(serve_entered(rt, entered, gate).visit);
-        }
-        route = route.wrapping_add(1);
-    }
-    round
+// The routes that a worker serves.
+#[derive(Drop)]
+struct WorkerRoutes<'a, R, C, M> {
+    rt: &'a R,
+    cells: &'a [C],
+    marks: &'a M,
 }
 
-/// Serves the routes whose inboxes are ready, round after round from the route `first` on, until the run has ended. After a
-/// round that found nothing to do it sleeps for a short time (`nap`), and after each further one for longer (`rest`). After
-/// a thin round, which found a little to do at each of many routes, it sleeps by their number (`doze`), so that more
-/// arrives there: a batch costs nearly the same for one item as for several. Only one worker sleeps so at a time; a second
-/// one is parked, until a round that has much to do wakes it (`Wakeups::wake_reserve`).
+// A worker's pass over the routes.
+#[derive(Drop)]
+struct Pass {
+    // what it did so far
+    round: Round,
+    // it has woken another worker
+    is_shared: bool,
+}
+
+// Wakes another worker, once in a pass, if there is much to do.
+fn share<M: RouteMarks>(marks: &M, pass: &mut Pass)
+    ensures { pass.new.round ≡ pass.old.round }
+{
+    if pass.round.moved >= MANY_REPLIES && !pass.is_shared {
+        pass.is_shared = true;
+        marks.wake_one();
+    }
+}
+
+// Serves the route with this index, if no other worker serves it.
+fn serve_one<R: Wait, C: Serve, G: Gate, M: RouteMarks>(
+    routes: &WorkerRoutes<'_, R, C, M>,
+    route: usize,
+    gate: &mut G,
+    pass: &mut Pass,
+)
+    ensures { route < length routes.now.cells.now → M.passed routes.now.marks.now route }
+{
+    if let Some(entered) = enter(routes.marks, routes.cells, route) {
+        pass.round = pass
+            .round
+            .with(serve_entered(routes.rt, entered, gate).visit);
+    }
+}
+
+// Serves each route whose inbox is ready and that no other worker serves, from one route on and before another one. If
+// there is much to do, it wakes another worker.
+fn serve_between<R: Wait, C: Serve, G: Gate, M: RouteMarks>(
+    routes: &WorkerRoutes<'_, R, C, M>,
+    from: usize,
+    to: usize,
+    gate: &mut G,
+    pass: &mut Pass,
+)
+    ensures { ArePassed (M.passed routes.now.marks.now) (length routes.now.cells.now) from to }
+{
+    let mut route = from;
+    for _ in from..to {
+        route = routes.marks.next_ready(route).max(route);
+        if route >= to {
+            return;
+        }
+        share(routes.marks, pass);
+        serve_one(routes, route, gate, pass);
+        route = route.wrapping_add(1);
+    }
+}
+
+// Passes once over all routes, from the route `first` on, and serves each whose inbox is ready and that no other worker
+// serves.
+fn serve_round<R: Wait, C: Serve, G: Gate, M: RouteMarks>(
+    routes: &WorkerRoutes<'_, R, C, M>,
+    first: usize,
+    gate: &mut G,
+) -> Round
+    ensures { UpTo (M.passed routes.now.marks.now) (length routes.now.cells.now) }
+{
+    let mut pass = Pass {
+        round: Round::new(),
+        is_shared: false,
+    };
+    serve_between(routes, first, routes.cells.len(), gate, &mut pass);
+    serve_between(routes, 0, first, gate, &mut pass);
+    pass.round
+}
+
+/// Evidence that a worker has ended, since the run was over.
+#[derive(Drop)]
+pub struct WorkerEnded {
+    /// Its number.
+    pub number: usize,
+    over: RunOver,
+}
+
+/// Serves the routes whose inboxes are ready, round after round from the route on at which the worker with this number
+/// begins, until the run has ended. After a round that found nothing to do it sleeps for a short time (`nap`), and after
+/// each further one for longer (`rest`). After a thin round, which found a little to do at each of many routes, it sleeps by
+/// their number (`doze`), so that more arrives there: a batch costs nearly the same for one item as for several. Only one
+/// worker sleeps so at a time; a second one is parked, until a round that has much to do wakes it (`Wakeups::wake_reserve`).
 pub fn work<R: Wait, C: Serve, G: Gate + Drop>(
     rt: &R,
     cells: &[C],
     mut gate: G,
-    first: usize,
+    number: usize,
     wakeups: &Wakeups,
-) -> RunOver {
+) -> WorkerEnded
+    ensures { result.number ≡ number }
+{
     wakeups.arrive();
-    let first = first_of(first, cells.len());
+    let first = first_of(number, cells.len());
+    let routes = WorkerRoutes {
+        rt,
+        cells,
+        marks: wakeups,
+    };
     let mut napped = false;
     for _ in rt.forever() {
         if let Some(over) = run_over(wakeups) {
-            return over;
+            return WorkerEnded { number, over };
         }
         let seen = wakeups.notifications();
-        let round = serve_round(rt, cells, first, &mut gate, wakeups);
+        let round = serve_round(&routes, first, &mut gate);
         let pause = round.pause(napped);
         match pause {
             Pause::Doze => wakeups.doze(rt, seen, round.served),

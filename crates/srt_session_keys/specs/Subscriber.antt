@@ -47,6 +47,15 @@ with_response contents s =
 abbrev pub may_send : Subscriber → (payload : ℕ) → Bool
 may_send s payload = nat_lt (index_of payload) s.confirmed
 
+-- the key of a payload is stored: it is one of the last two that were made
+abbrev pub has_key : Subscriber → (payload : ℕ) → Bool
+has_key s payload = if nat_lt (index_of payload) (made s) then nat_le (made s) (index_of payload + 2) else false
+
+-- a payload with a stored key can be encrypted
+abbrev pub StoredKeysAreUsed : Type 0
+StoredKeysAreUsed =
+    (s : Subscriber) (payload : ℕ) → has_key s payload ≡ true → (index_of payload < made s) × (made s ≤ index_of payload + 2)
+
 -- the sequence number of a payload's packet, in a session whose first packet has this number
 abbrev pub number_of : (first payload : ℕ) → ℕ
 number_of first payload = (first + payload) % 2 ^ 31
@@ -78,6 +87,11 @@ abbrev pub WindowHasItsKeys : Type 0
 WindowHasItsKeys =
     (s : Subscriber) (queued payload : ℕ) → IsAhead s queued → queued ≤ payload + 8192 → may_send s payload ≡ true →
     (index_of payload < made s) × (made s ≤ index_of payload + 2)
+
+-- and is found to be stored
+abbrev pub WindowIsEncrypted : Type 0
+WindowIsEncrypted =
+    (s : Subscriber) (queued payload : ℕ) → IsAhead s queued → queued ≤ payload + 8192 → may_send s payload ≡ true → has_key s payload ≡ true
 
 -- no byte of what the session's keys are made of, of a key or of the message is left: there are no keys, and what stores them is
 -- zeros

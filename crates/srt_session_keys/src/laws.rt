@@ -3,7 +3,7 @@
 ghost use Rattle.srt_session_keys.specs.Limiter.{RouteIsLimited, GroupIsLimited, DelaysChangeNothing};
 ghost use Rattle.srt_session_keys.specs.Publisher.{RepeatsChangeNothing, RefusalsChangeNothing, OtherKeysStay};
 ghost use Rattle.srt_session_keys.specs.Source.{TextsAreDistinct, CountsAreDistinct, NamesAlternate};
-ghost use Rattle.srt_session_keys.specs.Subscriber.{StaysAhead, WindowHasItsKeys, NumbersAreDistinct, IsAnnouncedBefore};
+ghost use Rattle.srt_session_keys.specs.Subscriber.{StaysAhead, WindowHasItsKeys, WindowIsEncrypted, StoredKeysAreUsed, NumbersAreDistinct, IsAnnouncedBefore};
 
 /// Of all requests for derivations between two times a route admits at most 20 and one each 50 ms, and of those of a group of
 /// addresses at most 20 and one each 500 ms. If all requests come later by the same delay, the same ones are admitted.
@@ -19,10 +19,13 @@ pub fn own_keys()
 {}
 
 /// No key is made more than 65,536 payloads before it is needed. So the payloads of a window, of at most 8192, that may be sent
-/// have one of the last two keys that were made, as [`SubscriberKeys::encrypt`](crate::SubscriberKeys::encrypt) requires.
+/// have one of the last two keys that were made, and [`SubscriberKeys::has_key`](crate::SubscriberKeys::has_key) holds of them. A
+/// payload of which it holds can be encrypted, as [`SubscriberKeys::encrypt_packet`](crate::SubscriberKeys::encrypt_packet) requires.
 pub fn stored_keys()
     ensures ahead { StaysAhead }
     ensures window { WindowHasItsKeys }
+    ensures encrypted { WindowIsEncrypted }
+    ensures used { StoredKeysAreUsed }
 {}
 
 /// A message that a publisher sends again is answered as before and changes nothing. One that isn't taken changes no key, and one that

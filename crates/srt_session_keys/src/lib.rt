@@ -1,6 +1,7 @@
 //! The keys of encrypted sessions (draft-sharabayko-srt-01; what it leaves open is our choice).
 //!
-//! [`DerivationLimiter`] (`limiter.rt`) limits how often a route derives a key from a passphrase. [`WrappingKey`]
+//! [`DerivationLimiter`] (`limiter.rt`) limits how often a route derives a key from a passphrase: each derivation takes a
+//! [`DerivationPermit`]. [`WrappingKey`]
 //! (`wrapping_key.rt`) is the derived one, which wraps the keys of a session. [`PublisherKeys`] (`publisher.rt`) are those that
 //! a publisher brings, in two slots (`slot.rt`). [`SubscriberKeys`] (`subscriber.rt`) are those that the gateway makes for a
 //! subscriber (`source.rt`), of what distinguishes the sessions of its route ([`KeyPool`], `pool.rt`), and when each was
@@ -20,7 +21,7 @@ mod source;
 mod subscriber;
 mod wrapping_key;
 
-pub use limiter::DerivationLimiter;
+pub use limiter::{DerivationLimiter, DerivationPermit};
 pub use pool::KeyPool;
 pub use publisher::{KeyAnswer, PublisherKeys};
 pub use subscriber::SubscriberKeys;

@@ -6,22 +6,13 @@ ghost use Rattle.srt_session_keys.specs.Source.{source_of, own, own_message};
 ghost use Rattle.srt_session_keys.specs.Announced.{made_with};
 ghost use Rattle.srt_session_keys.specs.inside.Stored.{slot_of, AreStored, IsStored};
 
-use crate::announcement::Announcement;
+use crate::announcement::{ANNOUNCED_BEFORE, Announcement, GIVEN_UP_AFTER_US, REPEATED_AFTER_US};
 use crate::pool::KeyPool;
 use crate::source::KeySource;
 use crate::wrapping_key::WrappingKey;
 use srt_aes::RoundKeys;
 use srt_packet::EncodedPacket;
 use srt_types::Peer;
-
-/// A key is announced this many payloads before it is needed.
-const ANNOUNCED_BEFORE: u64 = 65_536;
-
-/// The time after which an announcement is repeated, in microseconds.
-const REPEATED_AFTER_US: u64 = 50_000;
-
-/// The time after which a session is given up whose key isn't confirmed, in microseconds.
-const GIVEN_UP_AFTER_US: u64 = 5_000_000;
 
 /// Makes the key with an index: its schedule, in the place of the one before that has the same name, and its message, whose length
 /// is returned.
@@ -73,7 +64,7 @@ impl SubscriberKeys {
     ghost use Rattle.srt_session_keys.specs.Source.{pool_of, pool_with, source_with, name_of};
     ghost use Rattle.srt_session_keys.specs.Announced.{is_given_up};
     ghost use Rattle.srt_session_keys.specs.Subscriber.{subscriber_of, index_of, made, is_due, with_announcement, confirms};
-    ghost use Rattle.srt_session_keys.specs.Subscriber.{with_response, may_send, SubscriberIsErased};
+    ghost use Rattle.srt_session_keys.specs.Subscriber.{with_response, may_send, has_key, SubscriberIsErased};
 
     /// Returns the keys of a session with this ID that opens, and counts it in the pool of its route.
     pub fn open(
@@ -180,6 +171,37 @@ impl SubscriberKeys {
         ensures { result ≡ may_send (subscriber_of self.now) payload }
     {
         payload >> 24 < self.confirmed
+    }
+
+    /// How many keys are confirmed: those with lower indexes.
+    pub fn confirmed(&self) -> u64
+        ensures { result ≡ (subscriber_of self.now).confirmed }
+    {
+        let count = self.confirmed;
+        count
+    }
+
+    /// How many keys were made: those that are confirmed, and the one that is announced.
+    fn made(&self) -> u64
+        ensures { result ≡ made (subscriber_of self.now) }
+    {
+        match self.announced {
+            None => self.confirmed,
+            Some(_) => self.confirmed + 1,
+        }
+    }
+
+    /// Whether the key of a payload is stored, as [`encrypt_packet`](Self::encrypt_packet) requires: whether it is one of the
+    /// last two that were made.
+    pub fn has_key(&self, payload: u64) -> bool
+        ensures { result ≡ has_key (subscriber_of self.now) payload }
+    {
+        let index = payload >> 24;
+        let made = self.made();
+        if index >= made {
+            return false;
+        }
+        made <= index + 2
     }
 
     /// Whether the session is to end at `now`, in microseconds, since the subscriber doesn't confirm the announced key.

@@ -1,10 +1,11 @@
 //! Rows computed by hand, and bytes from Python's hashlib and cryptography.
 
-ghost use Rattle.std.specs.Prelude.{◌≤◌, ◌<◌, ◌+◌};
+ghost use Rattle.std.specs.Prelude.{◌≡◌, ◌≤◌, ◌<◌, ◌+◌, IfSome};
 ghost use Rattle.srt_session_keys.specs.Source.{pool_of};
+ghost use Rattle.srt_session_keys.specs.Wrapping.{salt_of};
 
 use crate::{DerivationLimiter, KeyAnswer, KeyPool, PublisherKeys, SubscriberKeys, WrappingKey};
-use srt_hs::read_key_message;
+use srt_hs::{KeyMessageRef, read_key_message};
 use srt_packet::{Body, EncodedPacket, Kind, Packet, decode};
 use srt_types::{Msg26, PayloadRef, Peer, Seq31};
 use std::test::Fail;
@@ -68,23 +69,35 @@ const WRAP_OF_THE_NEXT_SESSION: [u8; 32] = [
 fn a_group_of_addresses_has_twenty_derivations_at_once(rt: HostRuntime) -> Result<(), Fail> {
     let mut limiter = DerivationLimiter::new();
     for _ in 0..20 {
-        assert!(rt; limiter.admits(1_000_000, 7));
+        assert!(rt; limiter.admits(1_000_000, 7).is_some());
     }
-    assert!(rt; !limiter.admits(1_000_000, 7));
-    assert!(rt; !limiter.admits(1_049_999, 8));
-    assert!(rt; limiter.admits(1_050_000, 8));
-    assert!(rt; !limiter.admits(1_499_999, 7));
-    assert!(rt; !limiter.admits(1_499_999, 71));
-    assert!(rt; limiter.admits(1_500_000, 71));
-    assert!(rt; !limiter.admits(1_500_000, 7));
+    for (now, last_byte, wanted) in [
+        (1_000_000, 7u8, false),
+        (1_049_999, 8, false),
+        (1_050_000, 8, true),
+        (1_499_999, 7, false),
+        (1_499_999, 71, false),
+        (1_500_000, 71, true),
+        (1_500_000, 7, false),
+    ] {
+        assert!(rt; limiter.admits(now, last_byte).is_some() == wanted);
+    }
     Ok(())
+}
+
+/// The key that wraps, of a route that derives its first one.
+fn derived(passphrase: &[u8], message: &KeyMessageRef<'_>) -> Option<WrappingKey>
+    ensures { IfSome result (λ kek. salt_of kek ≡ message.now.salt) }
+{
+    let permit = DerivationLimiter::new().admits(1_000_000, 7)?;
+    Some(WrappingKey::derive(permit, passphrase, message))
 }
 
 /// The keys of a session that opens with this message.
 fn opened(passphrase: &[u8], message: &[u8]) -> Option<PublisherKeys> {
     match read_key_message(message) {
         Err(_) => None,
-        Ok(read) => PublisherKeys::open(WrappingKey::derive(passphrase, &read), &read),
+        Ok(read) => PublisherKeys::open(derived(passphrase, &read)?, &read),
     }
 }
 
@@ -212,7 +225,7 @@ fn played(session: u32, pool: &mut KeyPool) -> Option<SubscriberKeys>
     match read_key_message(&PLAYER_MESSAGE) {
         Err(_) => None,
         Ok(read) => {
-            let kek = WrappingKey::derive(b"hold the line please", &read);
+            let kek = derived(b"hold the line please", &read)?;
             if kek.unwraps(&read) {
                 Some(SubscriberKeys::open(kek, session, pool, 0x6e46_80bd, PLAYER))
             } else {

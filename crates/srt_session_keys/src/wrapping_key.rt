@@ -8,9 +8,11 @@ ghost use Rattle.srt_keys.specs.Wrap.{unwrap};
 ghost use Rattle.srt_hs.specs.KeyMessage.{wrapped_length};
 ghost use Rattle.srt_hs.specs.KeyView.{message_of};
 
+use crate::limiter::DerivationPermit;
 use srt_aes::RoundKeys;
 use srt_hs::KeyMessageRef;
 use srt_keys::{kek, unwrap};
+use std::mem;
 
 /// The first 32 of 40 bytes.
 fn front(bytes: &[u8; 40]) -> [u8; 32]
@@ -34,11 +36,16 @@ impl WrappingKey {
     ghost use Rattle.srt_session_keys.specs.Wrapping.{kek_of, salt_of, fits, brings, WrappingKeyIsErased};
 
     /// Derives the key from a passphrase, for the salt and the length of keys of the caller's message: PBKDF2 with 2048 rounds,
-    /// which takes milliseconds.
-    pub fn derive(passphrase: &[u8], message: &KeyMessageRef<'_>) -> WrappingKey
+    /// which takes milliseconds. Each derivation takes a permission of the limit on them.
+    pub fn derive(
+        permit: DerivationPermit,
+        passphrase: &[u8],
+        message: &KeyMessageRef<'_>,
+    ) -> WrappingKey
         ensures kek { kek_of result ≡ kek passphrase.now message.now.salt message.now.key_length }
         ensures salt { salt_of result ≡ message.now.salt }
     {
+        mem::drop(permit);
         let size = message.key_length;
         let derived = kek(passphrase, &message.salt, size);
         WrappingKey {

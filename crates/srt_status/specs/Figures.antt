@@ -380,6 +380,7 @@ reason_labels reasons.Peer = codes "code=\"1002\",reason=\"PEER\"} "
 reason_labels reasons.Resource = codes "code=\"1003\",reason=\"RESOURCE\"} "
 reason_labels reasons.Rogue = codes "code=\"1004\",reason=\"ROGUE\"} "
 reason_labels reasons.Version = codes "code=\"1008\",reason=\"VERSION\"} "
+reason_labels reasons.BadSecret = codes "code=\"1010\",reason=\"BADSECRET\"} "
 reason_labels reasons.Unsecure = codes "code=\"1011\",reason=\"UNSECURE\"} "
 reason_labels reasons.MessageApi = codes "code=\"1012\",reason=\"MESSAGEAPI\"} "
 reason_labels reasons.Filter = codes "code=\"1014\",reason=\"FILTER\"} "
@@ -391,6 +392,7 @@ reason_name reasons.Peer = codes "PEER"
 reason_name reasons.Resource = codes "RESOURCE"
 reason_name reasons.Rogue = codes "ROGUE"
 reason_name reasons.Version = codes "VERSION"
+reason_name reasons.BadSecret = codes "BADSECRET"
 reason_name reasons.Unsecure = codes "UNSECURE"
 reason_name reasons.MessageApi = codes "MESSAGEAPI"
 reason_name reasons.Filter = codes "FILTER"
@@ -402,6 +404,7 @@ refusal_count reasons.Peer counts = counts.peer
 refusal_count reasons.Resource counts = counts.resource
 refusal_count reasons.Rogue counts = counts.rogue
 refusal_count reasons.Version counts = counts.version
+refusal_count reasons.BadSecret counts = counts.bad_secret
 refusal_count reasons.Unsecure counts = counts.unsecure
 refusal_count reasons.MessageApi counts = counts.message_api
 refusal_count reasons.Filter counts = counts.filter
@@ -409,7 +412,9 @@ refusal_count reasons.Group counts = counts.group
 
 -- all reasons, in the order of their numbers
 abbrev pub all_reasons : List Reason
-all_reasons = reasons.Peer ∷ reasons.Resource ∷ reasons.Rogue ∷ reasons.Version ∷ reasons.Unsecure ∷ reasons.MessageApi ∷ reasons.Filter ∷ reasons.Group ∷ []
+all_reasons =
+    reasons.Peer ∷ reasons.Resource ∷ reasons.Rogue ∷ reasons.Version ∷ reasons.BadSecret ∷ reasons.Unsecure ∷ reasons.MessageApi ∷ reasons.Filter
+    ∷ reasons.Group ∷ []
 
 -- the name of what is shown of a route, behind its prefix
 abbrev pub figure_name : RouteFigure → List ℕ

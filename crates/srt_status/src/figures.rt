@@ -582,6 +582,7 @@ pub(crate) enum Reason {
     Resource,
     Rogue,
     Version,
+    BadSecret,
     Unsecure,
     MessageApi,
     Filter,
@@ -589,11 +590,12 @@ pub(crate) enum Reason {
 }
 
 /// All reasons, in the order of their numbers.
-pub(crate) const REASONS: [Reason; 8] = [
+pub(crate) const REASONS: [Reason; 9] = [
     Reason::Peer,
     Reason::Resource,
     Reason::Rogue,
     Reason::Version,
+    Reason::BadSecret,
     Reason::Unsecure,
     Reason::MessageApi,
     Reason::Filter,
@@ -609,6 +611,7 @@ pub(crate) fn reason_labels(reason: Reason) -> &'static str
         Reason::Resource => "code=\"1003\",reason=\"RESOURCE\"} ",
         Reason::Rogue => "code=\"1004\",reason=\"ROGUE\"} ",
         Reason::Version => "code=\"1008\",reason=\"VERSION\"} ",
+        Reason::BadSecret => "code=\"1010\",reason=\"BADSECRET\"} ",
         Reason::Unsecure => "code=\"1011\",reason=\"UNSECURE\"} ",
         Reason::MessageApi => "code=\"1012\",reason=\"MESSAGEAPI\"} ",
         Reason::Filter => "code=\"1014\",reason=\"FILTER\"} ",
@@ -625,6 +628,7 @@ pub(crate) fn reason_name(reason: Reason) -> &'static str
         Reason::Resource => "RESOURCE",
         Reason::Rogue => "ROGUE",
         Reason::Version => "VERSION",
+        Reason::BadSecret => "BADSECRET",
         Reason::Unsecure => "UNSECURE",
         Reason::MessageApi => "MESSAGEAPI",
         Reason::Filter => "FILTER",
@@ -641,6 +645,7 @@ pub(crate) fn refusal_count(reason: Reason, counts: &RefusalCounts) -> u64
         Reason::Resource => counts.resource,
         Reason::Rogue => counts.rogue,
         Reason::Version => counts.version,
+        Reason::BadSecret => counts.bad_secret,
         Reason::Unsecure => counts.unsecure,
         Reason::MessageApi => counts.message_api,
         Reason::Filter => counts.filter,

@@ -14,6 +14,8 @@ pub struct RefusalCounts {
     pub rogue: u64,
     /// 1008, `VERSION`.
     pub version: u64,
+    /// 1010, `BADSECRET`.
+    pub bad_secret: u64,
     /// 1011, `UNSECURE`.
     pub unsecure: u64,
     /// 1012, `MESSAGEAPI`.

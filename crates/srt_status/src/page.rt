@@ -365,6 +365,7 @@ const CAUSES = [
 const ROUTE_CAUSES = [
   ["refusals_PEER", "refused: two publishers are open"],
   ["refusals_ROGUE", "refused: 1004 ROGUE"],
+  ["refusals_BADSECRET", "refused: 1010 BADSECRET"],
   ["refusals_MESSAGEAPI", "refused: 1012 MESSAGEAPI"],
 ];
 const LIMITS = [

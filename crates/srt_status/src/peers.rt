@@ -5,12 +5,9 @@ ghost use Rattle.std.specs.Net.Text.{leading_zero_digits, hex, groups_text, long
 ghost use Rattle.srt_status.specs.Peers.{next_group, next_groups, ip_text, ipv4_text, ipv6_text, peer_text};
 
 use crate::text::{hex_digit, put, put_number};
-use srt_types::Peer;
+use srt_types::{Peer, is_mapped};
 use std::alloc::AllocError;
 use std::net::Ipv6Addr;
-
-/// The first twelve bytes of an IPv4 address in the form `::ffff:a.b.c.d`.
-const MAPPED: [u8; 12] = [0, 0, 0, 0, 0, 0, 0, 0, 0, 0, 0xff, 0xff];
 
 #[tactic(auto, using(crate::proofs::Puts::joined), unfolding(crate::specs::Peers::ipv4_text))]
 fn put_ipv4(out: &mut Vec<u8>, ip: [u8; 4]) -> Result<(), AllocError>
@@ -134,7 +131,7 @@ fn put_ipv6(out: &mut Vec<u8>, ip: &[u8; 16]) -> Result<(), AllocError>
 fn put_ip(out: &mut Vec<u8>, ip: &[u8; 16]) -> Result<(), AllocError>
     ensures { OnOk result (out.new.items ≡ out.old.items ++ ip_text ip.now) }
 {
-    if ip[..12] == MAPPED[..] {
+    if is_mapped(ip) {
         put_ipv4(out, [ip[12], ip[13], ip[14], ip[15]])
     } else {
         put_ipv6(out, ip)

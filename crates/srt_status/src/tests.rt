@@ -45,6 +45,7 @@ pub(crate) fn gateway() -> GatewayStatus<'static> {
             resource: 0,
             rogue: 0,
             version: 4,
+            bad_secret: 0,
             unsecure: 0,
             message_api: 0,
             filter: 0,
@@ -187,6 +188,7 @@ pub(crate) fn route<R: AllocGlobal>(
             resource: 2,
             rogue: 0,
             version: 0,
+            bad_secret: 6,
             unsecure: 0,
             message_api: 0,
             filter: 0,
@@ -204,7 +206,7 @@ pub(crate) fn route<R: AllocGlobal>(
 }
 
 /// Lines of the figures of that gateway with that route, as the text format wants them.
-const LINES: [&str; 28] = [
+const LINES: [&str; 29] = [
     "# HELP srtgw_build_info The version of the program.\n# TYPE srtgw_build_info gauge\nsrtgw_build_info{version=\"0.6.0\"} 1\n# HELP srtgw_up ",
     "\n# TYPE srtgw_up gauge\nsrtgw_up 1\n",
     "\nsrtgw_uptime_seconds 61\n",
@@ -222,6 +224,7 @@ const LINES: [&str; 28] = [
     "\nsrtgw_route_sessions{route=\"a\\\"b\",role=\"publisher\"} 1\nsrtgw_route_sessions{route=\"a\\\"b\",role=\"subscriber\"} 1\n",
     "\nsrtgw_route_allowed_sessions{route=\"a\\\"b\"} 5\n",
     "\nsrtgw_route_refused_reserved_total{route=\"a\\\"b\"} 2\n",
+    "\nsrtgw_route_refusals_total{route=\"a\\\"b\",code=\"1010\",reason=\"BADSECRET\"} 6\n",
     "\nsrtgw_route_refusals_total{route=\"a\\\"b\",code=\"1015\",reason=\"GROUP\"} 1\n",
     "\nsrtgw_route_received_bytes_total{route=\"a\\\"b\",role=\"publisher\"} 1316000\n",
     "\nsrtgw_route_given_up_packets_total{route=\"a\\\"b\",role=\"publisher\"} 4\nsrtgw_route_given_up_packets_total{route=\"a\\\"b\",role=\"subscriber\"} 12\n",
@@ -257,7 +260,7 @@ fn figures_of_a_gateway(rt: HostRuntime) -> Result<(), Fail> {
 
 /// The status of that gateway with one route that has one session.
 const STATUS: &str =
-    "{\"version\":\"0.6.0\",\"up\":1,\"uptime_seconds\":61,\"configured_routes\":1,\"resident_memory_bytes\":1048576,\"poller_read_datagrams_total\":9,\"poller_answered_datagrams_total\":2,\"poller_accepted_datagrams_total\":3,\"poller_full_datagrams_total\":1,\"poller_dropped_datagrams_total\":2,\"poller_not_allowed_datagrams_total\":1,\"poller_memory_datagrams_total\":1,\"poller_sent_datagrams_total\":8,\"poller_lost_datagrams_total\":7,\"poller_faults_total\":6,\"lobby_refused_no_name_total\":0,\"lobby_refused_unknown_name_total\":1,\"lobby_refused_publish_from_total\":2,\"lobby_refused_request_from_total\":0,\"lobby_refused_publish_key_total\":3,\"lobby_refused_request_key_total\":4,\"config_changes_taken_total\":3,\"config_changes_refused_total\":2,\"used_indexes\":17,\"refusals_PEER\":5,\"refusals_RESOURCE\":0,\"refusals_ROGUE\":0,\"refusals_VERSION\":4,\"refusals_UNSECURE\":0,\"refusals_MESSAGEAPI\":0,\"refusals_FILTER\":0,\"refusals_GROUP\":0,\"process_resident_memory_bytes\":1048576,\"routes\":[{\"name\":\"studio\",\"mode\":\"live\",\"allowed_sessions\":5,\"opened_sessions_total\":3,\"take_overs_total\":1,\"refused_sessions_total\":0,\"refused_reserved_total\":2,\"refused_sessions_per_address_total\":0,\"refusals_PEER\":0,\"refusals_RESOURCE\":2,\"refusals_ROGUE\":0,\"refusals_VERSION\":0,\"refusals_UNSECURE\":0,\"refusals_MESSAGEAPI\":0,\"refusals_FILTER\":0,\"refusals_GROUP\":1,\"publishers\":{\"role\":\"publisher\",\"received_packets_total\":1000,\"received_bytes_total\":1316000,\"delivered_packets_total\":990,\"repeated_packets_total\":1,\"late_packets_total\":2,\"ahead_packets_total\":3,\"reported_lost_packets_total\":5,\"naks_sent_total\":6,\"full_window_acks_total\":7,\"given_up_packets_total\":4},\"subscribers\":{\"role\":\"subscriber\",\"given_up_packets_total\":12,\"queued_packets_total\":8,\"queued_bytes_total\":9,\"sent_packets_total\":10,\"resent_packets_total\":11,\"naks_taken_total\":13,\"misdirected_packets_total\":14},\"sessions\":[{\"role\":\"subscriber\",\"session\":\"fedcba98\",\"peer\":\"[2001:db8::1]:9\",\"open_seconds\":61.500000,\"silent_seconds\":61.500000,\"round_trip_seconds\":1.000000,\"round_trip_variance_seconds\":0.000000,\"free_packets\":18,\"in_flight_packets\":19,\"flow_window_packets\":20,\"given_up_packets_total\":15,\"queued_packets_total\":11,\"queued_bytes_total\":12,\"sent_packets_total\":13,\"resent_packets_total\":14,\"naks_taken_total\":16,\"misdirected_packets_total\":17}]}]}\n";
+    "{\"version\":\"0.6.0\",\"up\":1,\"uptime_seconds\":61,\"configured_routes\":1,\"resident_memory_bytes\":1048576,\"poller_read_datagrams_total\":9,\"poller_answered_datagrams_total\":2,\"poller_accepted_datagrams_total\":3,\"poller_full_datagrams_total\":1,\"poller_dropped_datagrams_total\":2,\"poller_not_allowed_datagrams_total\":1,\"poller_memory_datagrams_total\":1,\"poller_sent_datagrams_total\":8,\"poller_lost_datagrams_total\":7,\"poller_faults_total\":6,\"lobby_refused_no_name_total\":0,\"lobby_refused_unknown_name_total\":1,\"lobby_refused_publish_from_total\":2,\"lobby_refused_request_from_total\":0,\"lobby_refused_publish_key_total\":3,\"lobby_refused_request_key_total\":4,\"config_changes_taken_total\":3,\"config_changes_refused_total\":2,\"used_indexes\":17,\"refusals_PEER\":5,\"refusals_RESOURCE\":0,\"refusals_ROGUE\":0,\"refusals_VERSION\":4,\"refusals_BADSECRET\":0,\"refusals_UNSECURE\":0,\"refusals_MESSAGEAPI\":0,\"refusals_FILTER\":0,\"refusals_GROUP\":0,\"process_resident_memory_bytes\":1048576,\"routes\":[{\"name\":\"studio\",\"mode\":\"live\",\"allowed_sessions\":5,\"opened_sessions_total\":3,\"take_overs_total\":1,\"refused_sessions_total\":0,\"refused_reserved_total\":2,\"refused_sessions_per_address_total\":0,\"refusals_PEER\":0,\"refusals_RESOURCE\":2,\"refusals_ROGUE\":0,\"refusals_VERSION\":0,\"refusals_BADSECRET\":6,\"refusals_UNSECURE\":0,\"refusals_MESSAGEAPI\":0,\"refusals_FILTER\":0,\"refusals_GROUP\":1,\"publishers\":{\"role\":\"publisher\",\"received_packets_total\":1000,\"received_bytes_total\":1316000,\"delivered_packets_total\":990,\"repeated_packets_total\":1,\"late_packets_total\":2,\"ahead_packets_total\":3,\"reported_lost_packets_total\":5,\"naks_sent_total\":6,\"full_window_acks_total\":7,\"given_up_packets_total\":4},\"subscribers\":{\"role\":\"subscriber\",\"given_up_packets_total\":12,\"queued_packets_total\":8,\"queued_bytes_total\":9,\"sent_packets_total\":10,\"resent_packets_total\":11,\"naks_taken_total\":13,\"misdirected_packets_total\":14},\"sessions\":[{\"role\":\"subscriber\",\"session\":\"fedcba98\",\"peer\":\"[2001:db8::1]:9\",\"open_seconds\":61.500000,\"silent_seconds\":61.500000,\"round_trip_seconds\":1.000000,\"round_trip_variance_seconds\":0.000000,\"free_packets\":18,\"in_flight_packets\":19,\"flow_window_packets\":20,\"given_up_packets_total\":15,\"queued_packets_total\":11,\"queued_bytes_total\":12,\"sent_packets_total\":13,\"resent_packets_total\":14,\"naks_taken_total\":16,\"misdirected_packets_total\":17}]}]}\n";
 
 #[test]
 fn status_of_a_gateway(rt: HostRuntime) -> Result<(), Fail> {

@@ -13,7 +13,7 @@
 //! arrived; `feed` for each payload of the route; and `emit`, which writes one packet each time, until it returns
 //! false. `emit_indexed` also tells which payload a data packet has.
 //!
-//! Files: `feeding.rt` has the rules for feeding and the too-late drop; `hearing.rt` for ACK, NAK and SHUTDOWN;
+//! Files: `feeding.rt` has the rules for feeding; `too_late_drop.rt` for the drop of late packets; `hearing.rt` for ACK, NAK and SHUTDOWN;
 //! `event_packets.rt` for the packets at an event's end and their order; `drop_request.rt` for drop requests;
 //! `holding.rt` for payloads that wait for a key, and `payloads.rt` for their indexes; `resend_all.rt` for resending
 //! everything; `resend_credit.rt` for the limit on resends; `keep_alive.rt` for KEEPALIVEs.
@@ -39,6 +39,7 @@ mod resend_all;
 mod resend_credit;
 mod session;
 mod statistics;
+mod too_late_drop;
 
 pub use counts::{Counts, Sendings};
 pub use hearing::Took;

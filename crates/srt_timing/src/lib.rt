@@ -13,7 +13,8 @@
 //! `too_late.rt` returns the threshold of too-late packet drop.
 //!
 //! Round trips: [`Rtt`] in `round_trip.rt` has the smoothed round-trip time and its variance (RTTVar). A subscriber's session
-//! stores the values of the ACKs that it receives. `resend_after` is the timer of retransmission derived from them; that of NAKs is in `srt_pub`.
+//! stores the values of the ACKs that it receives. Two timers are derived from the values: `resend_after`, that of retransmission, and
+//! `nak_interval`, that of periodic NAKs.
 //! [`SampledRtt`] in `sampled.rt` has the same values computed from samples: a publisher's session, which sends ACKs, feeds
 //! it samples. [`Fold`] is the effect of a sample on the values: for callers that run libsrt, the first sample replaces them.
 //!

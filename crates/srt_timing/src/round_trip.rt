@@ -1,9 +1,9 @@
 //! The round-trip time and its variance, RTTVar (draft-sharabayko-srt-01, section 4.10).
 
 ghost use Rattle.std.specs.Prelude.{◌≡◌, ◌≤◌};
-ghost use Rattle.srt_timing.specs.RoundTrip.{start as at_first, with_sample, resend_after as resend_of, round_trip_of};
+ghost use Rattle.srt_timing.specs.RoundTrip.{start as at_first, with_sample, nak_interval as nak_interval_of, resend_after as resend_of, round_trip_of};
 
-use srt_types::protocol_limits::RESEND_MARGIN_US;
+use srt_types::protocol_limits::{MIN_NAK_INTERVAL_US, RESEND_MARGIN_US};
 
 /// A smoothed round-trip time and its variance, both in microseconds. No method allocates, and each is O(1).
 #[derive(Clone, Copy, Debug, PartialEq, Eq)]
@@ -42,6 +42,15 @@ impl Rtt {
             time: ((7 * time + sample) / 8) as u32,
             variance: ((3 * variance + time.abs_diff(sample)) / 4) as u32,
         };
+    }
+
+    /// Returns the interval between two periodic NAKs, which report all gaps, in microseconds: half the sum of the
+    /// round-trip time and four times the variance, rounded down, and at least 20 ms (section 4.8.2). It can exceed 32
+    /// bits.
+    pub fn nak_interval(&self) -> u64
+        ensures { result ≡ nak_interval_of (round_trip_of self.now) }
+    {
+        ((u64::from(self.time) + 4 * u64::from(self.variance)) / 2).max(MIN_NAK_INTERVAL_US)
     }
 
     /// Returns the time, in microseconds, after which all packets in flight are retransmitted, counted from the last

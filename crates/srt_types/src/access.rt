@@ -4,7 +4,7 @@ ghost use Rattle.std.specs.Prelude.{◌≡◌, ◌≤◌, option_map, string_byt
 ghost use Rattle.std.specs.List.{list_any};
 ghost use Rattle.std.specs.Option.{option_copied};
 ghost use Rattle.srt_types.specs.Access.{every_caller, anyone, role_access_of, access_of, in_role, is_mapped as is_of_ipv4, ipv4_in, network_of};
-ghost use Rattle.srt_types.specs.Access.{ipv6_network_of, is_within, front_bits, contains, site, is_same_site as are_of_a_site, lists};
+ghost use Rattle.srt_types.specs.Access.{ipv6_network_of, is_within, front_bits, contains, lists};
 ghost use Rattle.srt_types.specs.Access.{is_right_key, admits, knows, is_secured, bytes_in, is_right_length};
 
 use crate::shared::{Access, KeyLength, Network, Peer, Role, RoleAccess};
@@ -30,21 +30,6 @@ fn ipv4_in(ip: &[u8; 16]) -> Option<u32>
     } else {
         None
     }
-}
-
-/// Returns what an address is counted by: all 16 bytes of an IPv4 address, else the first 8.
-fn site(ip: &[u8; 16]) -> &[u8]
-    ensures { result.now ≡ site ip.now }
-{
-    if is_mapped(ip) { ip } else { &ip[..8] }
-}
-
-/// Whether two addresses are of the same site: they are the same IPv4 address, or IPv6 addresses that have their first
-/// 64 bits in common.
-pub fn is_same_site(a: &[u8; 16], b: &[u8; 16]) -> bool
-    ensures { result ≡ are_of_a_site a.now b.now }
-{
-    site(a) == site(b)
 }
 
 /// Whether the addresses from the first on, this many, contain the address.

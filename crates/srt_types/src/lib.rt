@@ -12,8 +12,8 @@
 //! configuration), [`Access`] (its access rules), [`KeyLength`] (that of encrypted sessions), [`NotAdmitted`] (the reason
 //! for a rejection), [`Rules`] (what a route does beyond the draft), [`Schedule`] (when it opens and closes), [`Mode`], [`Role`], [`Callers`], [`Turned`],
 //! [`OpenFault`]. An `Entry` is checked in `entries.rt`, a route's name in `route_name.rt`, a caller in `access.rt`; words
-//! in network byte order are in `words.rt`, all limits and intervals of the protocol in `protocol_limits.rt`, and those of
-//! configurations and inputs in `product_limits.rt`.
+//! in network byte order are in `words.rt`, what sessions are counted by in `sites.rt`, all limits and intervals of the
+//! protocol in `protocol_limits.rt`, and those of configurations and inputs in `product_limits.rt`.
 #![tactic(auto)]
 
 mod access;
@@ -24,10 +24,11 @@ pub mod product_limits;
 pub mod protocol_limits;
 mod route_name;
 mod shared;
+mod sites;
 mod stamps;
 mod words;
 
-pub use access::{is_mapped, is_same_site};
+pub use access::is_mapped;
 pub use entries::is_between;
 pub use numbers::{Msg26, Seq31};
 pub use protocol_limits::MOMENT_END;
@@ -36,6 +37,7 @@ pub use shared::{
     Access, Callers, Entry, Item, KeyLength, Mode, Network, NotAdmitted, OpenFault, PayloadRef,
     Peer, Role, RoleAccess, Rules, Schedule, Turned,
 };
+pub use sites::is_same_site;
 pub use stamps::Stamp32;
 pub use words::{read_word, write_at, write_words};
 

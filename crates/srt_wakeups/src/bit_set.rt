@@ -122,7 +122,8 @@ impl AtomicBitSet {
         }
     }
 
-    /// Sets the route's bit, if no other thread writes to this set meanwhile. Makes no locked operation.
+    /// Sets the route's bit, if no other thread writes to this set meanwhile. Makes no locked operation. No clause states
+    /// what it writes: the library states nothing of an atomic.
     pub(crate) fn set_alone(&self, route: usize) {
         let Some(word) = self.words.get(route / 64) else {
             return;
@@ -133,7 +134,8 @@ impl AtomicBitSet {
         }
     }
 
-    /// Clears the route's bit, if no other thread writes to this set meanwhile. Makes no locked operation.
+    /// Clears the route's bit, if no other thread writes to this set meanwhile. Makes no locked operation. No clause states
+    /// what it writes: the library states nothing of an atomic.
     pub(crate) fn clear_alone(&self, route: usize) {
         if let Some(word) = self.words.get(route / 64) {
             let bits = word.load(Ordering::Relaxed);
@@ -160,15 +162,15 @@ impl AtomicBitSet {
         self.routes
     }
 
-    /// Clears the route's bit.
+    /// Clears the route's bit. No clause states what it writes: the library states nothing of an atomic.
     pub fn clear(&self, route: usize) {
         if let Some(word) = self.words.get(route / 64) {
             word.fetch_and(others_of(route), Ordering::SeqCst);
         }
     }
 
-    /// Sets the bits of the first `routes` routes, and leaves the others as they are. Costs a locked operation for each 64 of
-    /// them.
+    /// Sets the bits of the first `routes` routes, and leaves the others as they are. Costs a locked operation for each 64
+    /// of them. No clause states what it writes: the library states nothing of an atomic.
     pub(crate) fn set_first(&self, routes: usize) {
         let mut left = routes.min(self.routes);
         for word in &self.words {

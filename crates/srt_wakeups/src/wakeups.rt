@@ -89,19 +89,21 @@ impl Wakeups {
         })
     }
 
-    /// A watching thread is awaited too.
+    /// A watching thread is awaited too. No clause states what it writes: the library states nothing of an atomic.
     pub fn await_watcher(&self) {
         self.awaited.fetch_add(1, Ordering::SeqCst);
     }
 
-    /// Counts the calling thread as running. Each worker, the ticking thread and the watching one call it once, first.
+    /// Counts the calling thread as running. Each worker, the ticking thread and the watching one call it once, first. No
+    /// clause states what it writes: the library states nothing of an atomic.
     pub fn arrive(&self) {
         self.awaited.fetch_sub(1, Ordering::SeqCst);
         self.arrivals.notify_all();
     }
 
     /// Waits until the ticking thread, all workers and the watching thread, if there is one, have arrived. False if one
-    /// could not be started, or if they haven't arrived after ten seconds or more.
+    /// could not be started, or if they haven't arrived after ten seconds or more. No clause states what it returns: other
+    /// threads wrote it.
     pub fn gather<R: Wait>(&self, rt: &R) -> bool {
         for _ in 0..GATHER_SLEEPS {
             let seen = self.arrivals.notifications();
@@ -117,20 +119,22 @@ impl Wakeups {
         false
     }
 
-    /// Ends the run: all threads see it at their next look, and those that sleep are woken.
+    /// Ends the run: all threads see it at their next look, and those that sleep are woken. No clause states what it
+    /// writes: the library states nothing of an atomic.
     pub fn finish(&self) {
         self.done.store(true, Ordering::SeqCst);
         self.work.notify_all();
         self.arrivals.notify_all();
     }
 
-    /// Whether the run is over.
+    /// Whether the run is over. No clause states what it returns: other threads wrote it.
     pub fn is_done(&self) -> bool {
         self.done.load(Ordering::SeqCst)
     }
 
     /// The number of notifications of workers so far. A worker reads it before it looks for work, and hands it to `nap`,
-    /// `doze` or `rest`, which return at once if there was one since.
+    /// `doze` or `rest`, which return at once if there was one since. No clause states what it returns: other threads wrote
+    /// it.
     pub fn notifications(&self) -> u64 {
         self.work.notifications()
     }
@@ -155,7 +159,8 @@ impl Wakeups {
         entered
     }
 
-    /// The worker that entered the route leaves it. If `is_left`, there is more to do: sets `inbox_ready` again.
+    /// The worker that entered the route leaves it. If `is_left`, there is more to do: sets `inbox_ready` again. No clause
+    /// states what it writes: the library states nothing of an atomic.
     pub fn leave(&self, route: usize, is_left: bool) {
         self.in_service.clear(route);
         if is_left {
@@ -170,7 +175,8 @@ impl Wakeups {
         self.inbox_ready.set(route)
     }
 
-    /// A reply was put into the outbox of the route.
+    /// A reply was put into the outbox of the route. No clause states what it writes: the library states nothing of an
+    /// atomic.
     pub fn set_outbox_ready(&self, route: usize) {
         self.outbox_ready.set(route);
     }
@@ -200,12 +206,14 @@ impl Wakeups {
         self.outbox_ready.any()
     }
 
-    /// The inbox of the route accepted something from the poller. Only the polling thread calls this.
+    /// The inbox of the route accepted something from the poller. Only the polling thread calls this. No clause states what
+    /// it writes: the library states nothing of an atomic.
     pub fn set_polled(&self, route: usize) {
         self.polled.set_alone(route);
     }
 
-    /// The polling thread serves the route itself, or makes its inbox ready. Only the polling thread calls this.
+    /// The polling thread serves the route itself, or makes its inbox ready. Only the polling thread calls this. No clause
+    /// states what it writes: the library states nothing of an atomic.
     pub fn clear_polled(&self, route: usize) {
         self.polled.clear_alone(route);
     }
@@ -245,14 +253,14 @@ impl Wakeups {
         begun
     }
 
-    /// Wakes a worker, if one is in `rest`.
+    /// Wakes a worker, if one is in `rest`. No clause states whom it wakes.
     pub fn wake_resting(&self) {
         if self.resting.load(Ordering::SeqCst) > 0 {
             self.work.notify_one();
         }
     }
 
-    /// Wakes a worker, if one is in reserve.
+    /// Wakes a worker, if one is in reserve. No clause states whom it wakes.
     pub fn wake_reserve(&self) {
         if self.reserve.load(Ordering::SeqCst) > 0 {
             self.work.notify_one();
@@ -260,7 +268,7 @@ impl Wakeups {
     }
 
     /// The first `routes` routes were ticked, all that are there: sets `inbox_ready` of each, and wakes a worker, unless
-    /// one is in `doze`.
+    /// one is in `doze`. No clause states what it writes: the library states nothing of an atomic.
     pub fn ticked(&self, routes: usize) {
         self.inbox_ready.set_first(routes);
         if !self.dozing.load(Ordering::SeqCst) {
@@ -269,7 +277,8 @@ impl Wakeups {
     }
 
     /// Wakes a worker after a round of the poller that read this many datagrams and set this many `inbox_ready` marks that
-    /// were clear, if it read many for few routes, or if it read any and no worker is awake or dozes.
+    /// were clear, if it read many for few routes, or if it read any and no worker is awake or dozes. No clause states whom
+    /// it wakes.
     pub fn read_ended(&self, datagrams: u32, begun: u64) {
         let resting = self.resting.load(Ordering::SeqCst);
         let reserve = self.reserve.load(Ordering::SeqCst);
@@ -278,14 +287,14 @@ impl Wakeups {
         }
     }
 
-    /// Sleeps until a notification, for at most `NAP_US`.
+    /// Sleeps until a notification, for at most `NAP_US`. No clause states how long it sleeps.
     pub fn nap<R: Wait>(&self, rt: &R, seen: u64) {
         self.work.sleep(rt, seen, Duration::from_micros(NAP_US));
     }
 
     /// Sleeps until a notification, for at most max(`NAP_US`, `DOZE_PER_ROUTE_US` x `routes`). If another worker already
     /// does, this one waits in reserve instead, for at most `SLEEP_US`: one worker is enough for a little work at each of
-    /// many routes.
+    /// many routes. No clause states how long it sleeps.
     pub fn doze<R: Wait>(&self, rt: &R, seen: u64, routes: u32) {
         if self.dozing.swap(true, Ordering::SeqCst) {
             self.rest_in_reserve(rt, seen);
@@ -306,7 +315,7 @@ impl Wakeups {
     }
 
     /// Sleeps until a notification, for at most `SLEEP_US`; at most `NAP_US` if an inbox is ready that this worker could
-    /// not serve.
+    /// not serve. No clause states how long it sleeps.
     pub fn rest<R: Wait>(&self, rt: &R, seen: u64) {
         self.resting.fetch_add(1, Ordering::SeqCst);
         let most_us = rest_us(self.inbox_ready.any());

@@ -1,5 +1,5 @@
 -- The routes with which a run begins, one by one.
-use Rattle.std.proofs.Common.{◌≡◌, ℕ, zero, suc, ◌+◌, List, [], ◌∷◌, ◌++◌, length, map, take, get_or, ◌<◌, Some, refl, sym, ap, ◌∙◌, subst, arith}
+use Rattle.std.proofs.Common.{◌≡◌, ℕ, suc, ◌+◌, List, [], ◌∷◌, ◌++◌, length, map, take, get_or, ◌<◌, refl, sym, ap, subst, arith}
 use Rattle.srt_types.specs.declared.shared.Entry.{Entry}
 use Rattle.srt_types.specs.Terms.{Terms, terms_of}
 use Rattle.srt_status.specs.declared.routes.RouteStatus.{RouteStatus}

@@ -3,7 +3,7 @@ use Rattle.std.proofs.Common.{◌≡◌, true, List, [], ◌∷◌, ◌++◌, re
 use Rattle.srt_log.specs.LineLimit.{is_within, omitted_within}
 use Rattle.srt_log.specs.LineShares.{calls_of}
 use Rattle.srt_log.specs.declared.line_limits.LineKind.TheVariants.{Session, Refusal}
-use Rattle.srt_watch.specs.Log.{LogCall, Offered, Always, Polled, Missed, Closed, LogState, state_after, state_after_all}
+use Rattle.srt_watch.specs.Log.{LogCall, Offered, Always, Polled, Missed, Looked, Closed, LogState, state_after, state_after_all}
 use Rattle.srt_watch.specs.Log.{left_out_text, line_if}
 use Rattle.srt_watch.specs.Shares.{is_refusal, AreRefusals, RefusalsCostNothing}
 
@@ -13,6 +13,7 @@ one_stays s (Offered when Refusal event) h = refl
 one_stays s (Always when event) h = cc
 one_stays s (Polled when) h = cc
 one_stays s (Missed count) h = cc
+one_stays s Looked h = cc
 one_stays s (Closed when) h = cc
 
 sessions_stay : (s : LogState) (flood : List LogCall) → AreRefusals flood →

@@ -1,5 +1,5 @@
 -- Lines that are kept for the page.
-use Rattle.std.proofs.Common.{◌≡◌, ℕ, Bool, true, false, List, refl, sym, subst}
+use Rattle.std.proofs.Common.{ℕ, Bool, true, false, List, refl, sym, subst}
 use Rattle.srt_status.specs.Events.{HasKept}
 use Rattle.srt_status.specs.declared.events.Event.{Event}
 use Rattle.srt_watch.specs.Writes.{HasKeptIf, AreKept, KeptNone, KeptMore}

@@ -1,3 +1,4 @@
+pub mod Again
 pub mod Appended
 pub mod Asked
 pub mod BeginningRoutes

@@ -11,12 +11,12 @@ use Rattle.srt_watch.proofs.Appended.{mapped}
 use Rattle.srt_watch.specs.declared.log.When.{When}
 use Rattle.srt_watch.specs.declared.log.LogPace.{LogPace}
 use Rattle.srt_watch.specs.Log.{LogCall, Polled, most, missed_at, missed_of, after_missed, left_out_text}
-use Rattle.srt_watch.specs.Writes.{is_passing, refused_after, HasRefused}
+use Rattle.srt_watch.specs.Writes.{is_passing, refused_after, HasRefused, GotObject}
 use Rattle.srt_watch.specs.Log.{LogState, state_after, text_of, state_after_all, text_of_all, HasState, Wrote, Logged}
 
 -- nothing was written
 pub wrote_nothing : (b : Option (List ℕ)) (p : LogPace) → Wrote b b p p []
-wrote_nothing b p = record { shares_are = refl; missed_is = refl; second_is = refl; whole_is = λ w. w; text_is = λ w. Appends-nil b }
+wrote_nothing b p = record { shares_are = refl; missed_is = refl; second_is = refl; looks_is = refl; whole_is = λ w. w; text_is = λ w. Appends-nil b }
 
 -- one text, and then another one
 pub wrote_both : (a b c : Option (List ℕ)) (p q r : LogPace) (x y : List ℕ) → Wrote a b p q x → Wrote b c q r y → Wrote a c p r (x ++ y)
@@ -24,6 +24,7 @@ wrote_both a b c p q r x y f g = record {
   shares_are = g.shares_are ∙ f.shares_are;
   missed_is = g.missed_is ∙ f.missed_is;
   second_is = g.second_is ∙ f.second_is;
+  looks_is = g.looks_is ∙ f.looks_is;
   whole_is = λ w. f.whole_is (g.whole_is w);
   text_is = λ w. Appends-trans a b c x y (f.text_is (g.whole_is w)) (g.text_is w);
 }
@@ -75,6 +76,7 @@ logged_by a b p q r call text whole state says w = record {
     shares_stand = subst (λ l. AreShares l (state_after s call).calls) (sym w.shares_are) k.shares_stand;
     missed_is = w.missed_is ∙ k.missed_is;
     second_is = w.second_is ∙ k.second_is;
+    looks_is = w.looks_is ∙ k.looks_is;
   };
   text_is = λ s h e. subst (λ t. Appends a b t) (says s h ∙ sym (append-nil (text_of s call))) (w.text_is e);
 }
@@ -91,6 +93,7 @@ logged_then a b c o p q r first call text l whole state says w = record {
     shares_stand = subst (λ x. AreShares x (state_after s call).calls) (sym w.shares_are) k.shares_stand;
     missed_is = w.missed_is ∙ k.missed_is;
     second_is = w.second_is ∙ k.second_is;
+    looks_is = w.looks_is ∙ k.looks_is;
   };
   text_is = λ s h e.
       subst (λ t. Appends a c t) (sym (append-nil (text_of s call) ∙ says s (l.state_is s h)))
@@ -120,10 +123,14 @@ pub missed_shares : (p : LogPace) (moment : ℕ) → (after_missed p moment).sha
 missed_shares p moment =
     if_same (λ q. q.shares) (nat_le (moment / 1_000_000) p.second) p (record p { missed = 0; second = moment / 1_000_000 }) refl
 
-pub polled_state : (p p' q : LogPace) (when : When) → q ≡ after_missed p' when.moment → p'.missed ≡ p.missed → p'.second ≡ p.second →
+pub missed_looks : (p : LogPace) (moment : ℕ) → (after_missed p moment).looks ≡ p.looks
+missed_looks p moment =
+    if_same (λ q. q.looks) (nat_le (moment / 1_000_000) p.second) p (record p { missed = 0; second = moment / 1_000_000 }) refl
+
+pub polled_state : (p p' q : LogPace) (when : When) → q ≡ after_missed p' when.moment → p'.missed ≡ p.missed → p'.second ≡ p.second → p'.looks ≡ p.looks →
     ((calls : List SharedCall) → AreShares p.shares calls → AreShares p'.shares (polled when.moment calls)) →
     (s : LogState) → HasState p s → HasState q (state_after s (Polled when))
-polled_state p p' q when new missed second stands s h =
+polled_state p p' q when new missed second looks stands s h =
     let m = when.moment / 1_000_000 in
     let se : p'.second ≡ s.second = second ∙ h.second_is in
     let me : p'.missed ≡ s.missed = missed ∙ h.missed_is in
@@ -137,14 +144,20 @@ polled_state p p' q when new missed second stands s h =
       second_is =
           ap (λ x. x.second) new ∙ if_of (λ x. x.second) (nat_le m p'.second) p' (record p' { missed = 0; second = m })
           ∙ (λ i. if nat_le m (se i) then se i else m);
+      looks_is = ap (λ x. x.looks) new ∙ missed_looks p' when.moment ∙ looks ∙ h.looks_is;
     }
+
+pub polled_count : (p p' : LogPace) (when : When) (n count missed : ℕ) → n ≡ most (count + missed) → missed ≡ missed_of p' when.moment →
+    p'.missed ≡ p.missed → p'.second ≡ p.second → (s : LogState) → HasState p s → count ≡ omitted_in s.calls when.moment →
+    n ≡ most (omitted_in s.calls when.moment + missed_at s when)
+polled_count p p' when n count missed sum is me se s h counted =
+    let m : missed ≡ missed_at s when = is ∙ (λ i. if nat_le (when.moment / 1_000_000) ((se ∙ h.second_is) i) then 0 else (me ∙ h.missed_is) i) in
+    sum ∙ (λ i. most (counted i + m i))
 
 pub polled_text : (p p' : LogPace) (when : When) (n count missed : ℕ) → n ≡ most (count + missed) → missed ≡ missed_of p' when.moment →
     p'.missed ≡ p.missed → p'.second ≡ p.second → (s : LogState) → HasState p s → count ≡ omitted_in s.calls when.moment →
     left_out_text when n ≡ text_of s (Polled when)
-polled_text p p' when n count missed sum is me se s h counted =
-    let m : missed ≡ missed_at s when = is ∙ (λ i. if nat_le (when.moment / 1_000_000) ((se ∙ h.second_is) i) then 0 else (me ∙ h.missed_is) i) in
-    ap (left_out_text when) (sum ∙ (λ i. most (counted i + m i)))
+polled_text p p' when n count missed sum is me se s h counted = ap (left_out_text when) (polled_count p p' when n count missed sum is me se s h counted)
 
 -- calls of a list, one more
 pub logged_mapped : {A : Type 0} (f : A → LogCall) (d : A) (xs : List A) (i : ℕ) (a b c : Option (List ℕ)) (p q r : LogPace) → i < length xs →
@@ -168,9 +181,15 @@ caught_up a b c p r when count kept none w = record {
     shares_stand = subst (λ l. AreShares l s.calls) (sym w.shares_are) h.shares_stand;
     missed_is = w.missed_is ∙ h.missed_is;
     second_is = w.second_is ∙ h.second_is;
+    looks_is = w.looks_is ∙ h.looks_is;
   };
   text_is = λ s h e. kept_then a b c kept (subst (λ n. Appends b c (left_out_text when n)) (none (w.whole_is e)) (w.text_is e));
 }
+
+-- however a write ended, the writer was called
+pub got_object : {T : Type 0} (outcome : Result T Error) (old new : ℕ) → new ≡ most (old + 1) → GotObject outcome old new
+got_object (Ok t) old new is = is
+got_object (Err error) old new is = inl is
 
 -- however a write ended, its lines were refused or not
 refused_by : (passing : Bool) (old count : ℕ) → HasRefused old (if passing then most (old + count) else old) count

@@ -1,7 +1,7 @@
 -- The lines of losses.
 use Rattle.std.proofs.Common.{◌≡◌, ℕ, ◌<◌, ◌-◌, ◌==◌, Bool, true, false, List, [], ◌∷◌, Option, refl, ap, ◌∙◌, arith, if◌then◌else◌}
 use Rattle.std.proofs.lemmas.Bool.Decides.{nat_tests}
-use Rattle.srt_log.specs.declared.events.LogEvent.TheVariants.{KernelDrops}
+use Rattle.srt_log.specs.declared.events.LogEvent.TheVariants.{KernelDrops, SocketFaults}
 use Rattle.srt_watch.specs.Log.{LogCall, Always, said}
 use Rattle.srt_watch.proofs.Logging.{if_same}
 use Rattle.srt_watch.specs.declared.log.When.{When}
@@ -27,6 +27,11 @@ pub drop_line : (when : When) (count n : ℕ) → 0 < count → count ≡ n → 
 drop_line when count n some e =
     ap (λ k. Always when (said (KernelDrops k)) ∷ []) e
     ∙ else_this (n == 0) (Always when (said (KernelDrops n)) ∷ []) (not_none n (omega (arith, some, e)))
+
+pub fault_line : (when : When) (count n : ℕ) → 0 < count → count ≡ n → Always when (said (SocketFaults count)) ∷ [] ≡ faults_logged when n
+fault_line when count n some e =
+    ap (λ k. Always when (said (SocketFaults k)) ∷ []) e
+    ∙ else_this (n == 0) (Always when (said (SocketFaults n)) ∷ []) (not_none n (omega (arith, some, e)))
 
 -- that faults were logged changes no line of drops
 pub same_drops : (losses : Losses) (when : When) (drops : Option ℕ) → drop_calls (after_faults losses) when drops ≡ drop_calls losses when drops

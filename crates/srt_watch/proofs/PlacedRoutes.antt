@@ -1,5 +1,5 @@
 -- The places of all routes, one by one.
-use Rattle.std.proofs.Common.{◌≡◌, ℕ, zero, suc, ◌+◌, ◌<◌, List, [], ◌∷◌, length, map, set, drop, get_or, refl, sym, ap, ◌∙◌, arith, add-one}
+use Rattle.std.proofs.Common.{◌≡◌, ℕ, zero, suc, ◌+◌, ◌<◌, List, [], ◌∷◌, length, map, set, drop, get_or, refl, ap, ◌∙◌, arith, add-one}
 use Rattle.srt_watch.specs.Census.{one_more}
 use Rattle.srt_watch.specs.Observing.{changed_if}
 use Rattle.srt_watch.specs.Placing.{unplaced, placed, placed_from}

@@ -1,18 +1,18 @@
 -- A change that is prepared route by route.
-use Rattle.std.proofs.Common.{◌≡◌, ℕ, ◌+◌, ◌<◌, List, [], ◌∷◌, ◌++◌, length, map, drop, get_or, refl, sym, ap, ◌∙◌, subst, append_assoc, append-nil, suc, arith}
-use Rattle.std.proofs.Common.{◌==◌, true, false}
+use Rattle.std.proofs.Common.{◌≡◌, ℕ, ◌<◌, List, [], ◌∷◌, ◌++◌, length, map, drop, get_or, refl, sym, ap, ◌∙◌, subst, append_assoc, append-nil, suc, arith}
+use Rattle.std.proofs.Common.{◌==◌, false}
 use Rattle.std.proofs.lemmas.Bool.Decides.{nat_tests}
 use Rattle.std.specs.List.{flat_map}
 use Rattle.srt_types.specs.declared.shared.Entry.{Entry}
 use Rattle.srt_types.specs.declared.shared.Schedule.{Schedule}
 use Rattle.srt_types.specs.Terms.{Terms, terms_of}
 use Rattle.srt_config.specs.Changes.{changes_of}
-use Rattle.srt_config.specs.Config.{Settings, settings_of}
+use Rattle.srt_config.specs.Config.{Settings}
 use Rattle.srt_config.specs.declared.changes.RouteChange.{RouteChange}
 use Rattle.srt_watch.specs.Following.{IsWanted}
-use Rattle.srt_watch.specs.Indexes.{index_at, closing, reopened_at, counted, counted_all, numbers_of}
-use Rattle.srt_watch.specs.Openings.{IsOpening, AreOpening}
-use Rattle.srt_watch.specs.Preparing.{HasClosings, HasOpening, HasPrepared, IsPrepared}
+use Rattle.srt_watch.specs.Indexes.{closing, reopened_at, counted_all, numbers_of}
+use Rattle.srt_watch.specs.Openings.{AreOpening}
+use Rattle.srt_watch.specs.Preparing.{HasClosings, HasPrepared, IsPrepared}
 use Rattle.srt_watch.specs.Requests.{opened_at, opened_by}
 use Rattle.srt_watch.specs.declared.in_force.InForce.{InForce}
 use Rattle.srt_watch.specs.declared.in_force.Wanted.{Wanted}

@@ -11,7 +11,8 @@ use Rattle.srt_watch.specs.declared.log.LogPace.{LogPace}
 use Rattle.srt_watch.specs.declared.log.When.{When}
 use Rattle.srt_watch.specs.declared.watched_routes.SnapshotPair.{SnapshotPair}
 use Rattle.srt_watch.specs.Log.{Logged, Offered, offered, said}
-use Rattle.srt_watch.specs.RouteLines.{step_calls, calls_to, take_over_more, take_overs_to}
+use Rattle.srt_status.specs.declared.routes.EndCounts.{EndCounts}
+use Rattle.srt_watch.specs.RouteLines.{step_calls, calls_to, take_over_more, take_overs_to, end_more, ends_to}
 use Rattle.srt_watch.proofs.Logging.{logged_none, logged_both}
 
 -- before the first step, and after one more
@@ -38,3 +39,12 @@ pub next_take_over : (old new : RouteSnapshot) (step : ℕ) →
     take_overs_to old new (step + 1) ≡ take_over_more (take_overs_to old new step) (change_at old new step)
 unfolding take_overs_to
 next_take_over old new step = rw add-one refl
+
+pub no_end : (counts : EndCounts) (old new : RouteSnapshot) → ends_to counts old new 0 ≡ counts
+unfolding ends_to
+no_end counts old new = refl
+
+pub next_end : (counts : EndCounts) (old new : RouteSnapshot) (step : ℕ) →
+    ends_to counts old new (step + 1) ≡ end_more (ends_to counts old new step) old new (change_at old new step)
+unfolding ends_to
+next_end counts old new step = rw add-one refl

@@ -6,7 +6,9 @@ use Rattle.std.specs.Prelude.{slice_set}
 use Rattle.srt_route.specs.declared.route.Route.{Route}
 use Rattle.srt_route.specs.declared.view.SessionView.{SessionView}
 use Rattle.srt_log.specs.declared.snapshots.SlotSession.{SlotSession}
-use Rattle.srt_watch.specs.Showing.{IsShown, AreShown, AreSlots, slot_in}
+use Rattle.srt_route.specs.Ledgers.{ended_in}
+use Rattle.srt_route.specs.declared.ledger.EndedSession.{EndedSession}
+use Rattle.srt_watch.specs.Showing.{IsShown, AreShown, AreSlots, AreEnds, slot_in}
 
 -- a fact of each of the first items holds after the next one is set, if it holds of that one
 placed : {A : Type 0} (P : ℕ → A → Type 0) (d : A) (xs : List A) (n : ℕ) (v : A) → n < length xs → ((k : ℕ) → k < n → P k (get_or xs k d)) → P n v →
@@ -35,3 +37,12 @@ pub next_slot : (route : Route) (sessions : List (Option SessionView)) (slots : 
     AreSlots (slot + 1) route sessions (slice_set slots slot shown)
 unfolding AreSlots
 next_slot route sessions slots slot shown within before now = placed (λ k v. v ≡ slot_in route sessions k) None slots slot shown within before now
+
+pub no_ends : (route : Route) (ends : List (Option EndedSession)) → AreEnds 0 route ends
+unfolding AreEnds
+no_ends route ends slot below = absurd (omega arith)
+
+pub next_end : (route : Route) (ends : List (Option EndedSession)) (slot : ℕ) (ended : Option EndedSession) → slot < length ends →
+    AreEnds slot route ends → ended ≡ ended_in slot route → AreEnds (slot + 1) route (slice_set ends slot ended)
+unfolding AreEnds
+next_end route ends slot ended within before now = placed (λ k v. v ≡ ended_in k route) None ends slot ended within before now

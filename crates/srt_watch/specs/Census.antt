@@ -24,6 +24,7 @@ refusals_of route = record {
   resource = refused_in reasons.Resource route;
   rogue = refused_in reasons.Rogue route;
   version = refused_in reasons.Version route;
+  bad_secret = refused_in reasons.BadSecret route;
   unsecure = refused_in reasons.Unsecure route;
   message_api = refused_in reasons.MessageApi route;
   filter = refused_in reasons.Filter route;
@@ -80,10 +81,11 @@ with_refusal n code =
     else (if code == 1003 then record n { resource = one_more n.resource }
     else (if code == 1004 then record n { rogue = one_more n.rogue }
     else (if code == 1008 then record n { version = one_more n.version }
+    else (if code == 1010 then record n { bad_secret = one_more n.bad_secret }
     else (if code == 1011 then record n { unsecure = one_more n.unsecure }
     else (if code == 1012 then record n { message_api = one_more n.message_api }
     else (if code == 1014 then record n { filter = one_more n.filter }
-    else (if code == 1015 then record n { group = one_more n.group } else n)))))))
+    else (if code == 1015 then record n { group = one_more n.group } else n))))))))
 
 -- the counts after a refusal with 1002, by its reason
 abbrev pub with_cause : CauseCounts → Option NotAdmitted → CauseCounts

@@ -17,7 +17,7 @@ use Rattle.srt_status.specs.declared.gateway.ChangeCounts.{ChangeCounts}
 use Rattle.srt_supervision.specs.declared.changes.ChangeFault.{ChangeFault}
 use Rattle.srt_supervision.specs.declared.changes.ChangeFault.TheVariants.{OutOfMemory, NoIndexLeft}
 use Rattle.srt_watch.specs.declared.in_force.NotTaken.{NotTaken}
-use Rattle.srt_watch.specs.declared.in_force.NotTaken.TheVariants.{Unread, Wrong, KeysDiffer}
+use Rattle.srt_watch.specs.declared.in_force.NotTaken.TheVariants.{Unread, Wrong, NoMemory, KeysDiffer}
 use Rattle.srt_watch.specs.declared.log.When.{When}
 use Rattle.srt_watch.specs.declared.prepared_change.NoRoom.{NoRoom}
 use Rattle.srt_watch.specs.declared.prepared_change.NoRoom.TheVariants.{Route, Lists}
@@ -39,15 +39,21 @@ one_refused counts = record counts { refused = one_more counts.refused }
 abbrev pub config_said : ConfigEvent → Said
 config_said event = said (Config event)
 
+-- that there is no memory for what a configuration needs
+abbrev pub no_memory_said : Said
+no_memory_said = config_said (events.Wrong (lent (codes "out of memory")))
+
 -- why the content of the file isn't taken; a file that can't be read isn't counted
 abbrev pub not_taken_said : NotTaken → Said
 not_taken_said (Unread why) = config_said (events.Unread (lent (inline_text why)))
-not_taken_said (Wrong why) = config_said (events.Wrong (lent (inline_text why)))
+not_taken_said (Wrong reason) = config_said (events.Wrong (lent (inline_text reason.text)))
+not_taken_said NoMemory = no_memory_said
 not_taken_said (KeysDiffer keys) = config_said (events.KeysDiffer keys)
 
 abbrev pub counted_not_taken : NotTaken → ChangeCounts → ChangeCounts
 counted_not_taken (Unread why) counts = counts
-counted_not_taken (Wrong why) counts = one_refused counts
+counted_not_taken (Wrong reason) counts = one_refused counts
+counted_not_taken NoMemory counts = one_refused counts
 counted_not_taken (KeysDiffer keys) counts = one_refused counts
 
 -- that a configuration is held since the route of this name has sessions
@@ -57,7 +63,7 @@ held_said route = config_said (events.Held (lent route))
 -- for lack of memory: of the route of this name, or of lists
 abbrev pub no_room_said : NoRoom → Said
 no_room_said (Route name) = config_said (events.NoMemory (lent (inline_text name)))
-no_room_said Lists = config_said (events.Wrong (lent (codes "out of memory")))
+no_room_said Lists = no_memory_said
 
 -- why the run rejected a change by which these routes open
 abbrev pub rejected_said : (opening : List OpeningRoute) → ChangeFault → Said

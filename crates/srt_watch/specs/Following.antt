@@ -1,5 +1,5 @@
 -- What becomes of a changed configuration.
-use Rattle.std.specs.Prelude.{◌≡◌, ℕ, Bool, true, false, List, map, Option, None, Some, IfSome, Result, Ok, Err}
+use Rattle.std.specs.Prelude.{◌≡◌, ℕ, Bool, true, false, List, map, Option, None, Some, Result, Ok, Err}
 use Rattle.srt_types.specs.Terms.{Terms, terms_of}
 use Rattle.srt_config.specs.Config.{settings_of}
 use Rattle.srt_config.specs.Changes.{requested, requested_by, fixed_keys, any_fixed}
@@ -7,7 +7,7 @@ use Rattle.srt_config.specs.declared.config.Config.{Config}
 use Rattle.srt_config.specs.declared.changes.FixedKeys.{FixedKeys}
 use Rattle.srt_supervision.specs.Changes.{AskedChange, with_asked}
 use Rattle.srt_supervision.specs.declared.changes.ChangeFault.{ChangeFault}
-use Rattle.srt_watch.specs.Configs.{IsConfigOf}
+use Rattle.srt_watch.specs.Configs.{IsConfigOf, HasFaults}
 use Rattle.srt_watch.specs.Holding.{FileLook, MayBeTaken}
 use Rattle.srt_watch.specs.Indexes.{closing, indexes_from, numbers_of, changes_nothing}
 use Rattle.srt_watch.specs.Requests.{opened_by, config_of}
@@ -15,7 +15,7 @@ use Rattle.srt_watch.specs.Polls.{FoundFile}
 use Rattle.srt_watch.specs.declared.following.Found.{Found}
 use Rattle.srt_watch.specs.declared.in_force.InForce.{InForce}
 use Rattle.srt_watch.specs.declared.in_force.NotTaken.{NotTaken}
-use Rattle.srt_watch.specs.declared.in_force.NotTaken.TheVariants.{Unread, Wrong, KeysDiffer}
+use Rattle.srt_watch.specs.declared.in_force.NotTaken.TheVariants.{Unread, Wrong, NoMemory, KeysDiffer}
 use Rattle.srt_watch.specs.declared.in_force.Wanted.{Wanted}
 
 -- a valid configuration, and what it changes of the one in force; it differs at no fixed key
@@ -30,15 +30,17 @@ pub record HasOtherKeys (in_force : InForce) (text : List ℕ) (keys : FixedKeys
   pub keys_are : keys ≡ fixed_keys (settings_of (config_of in_force)) (settings_of config)
   pub differ : any_fixed keys ≡ true
 
--- why a text isn't taken: it has a fault, or there is no memory for it; or keys differ that are fixed
-abbrev pub IsWrong : NotTaken → Type 0
-IsWrong (Unread why) = ⊥
-IsWrong (Wrong why) = Unit {0}
-IsWrong (KeysDiffer keys) = ⊥
+-- why a text isn't taken: it has faults, which are these, or there is no memory for it; or keys differ that are fixed
+abbrev pub IsWrong : (text : List ℕ) → NotTaken → Type 0
+IsWrong text (Unread why) = ⊥
+IsWrong text (Wrong reason) = HasFaults text reason.of.value
+IsWrong text NoMemory = ⊥
+IsWrong text (KeysDiffer keys) = ⊥
 
 abbrev pub IsNotTaken : InForce → (text : List ℕ) → NotTaken → Type 0
 IsNotTaken in_force text (Unread why) = ⊥
-IsNotTaken in_force text (Wrong why) = Unit {0}
+IsNotTaken in_force text (Wrong reason) = HasFaults text reason.of.value
+IsNotTaken in_force text NoMemory = Unit {0}
 IsNotTaken in_force text (KeysDiffer keys) = HasOtherKeys in_force text keys
 
 -- why what was found in a file isn't taken

@@ -30,6 +30,7 @@ pub mod Following
 pub mod Preparing
 pub mod Outcomes
 pub mod Watching
+pub mod Repeating
 pub mod Turns
 pub mod Reloads
 pub mod Answers

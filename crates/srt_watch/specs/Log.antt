@@ -12,7 +12,7 @@ use Rattle.srt_log.specs.Events.{time_text, event_text}
 use Rattle.srt_log.specs.Members.{text_member}
 use Rattle.srt_log.specs.Objects.{kind_of, kind_member, time_member, event_members}
 use Rattle.srt_log.specs.declared.events.LogEvent.{LogEvent}
-use Rattle.srt_log.specs.declared.events.LogEvent.TheVariants.{LeftOut, Refused}
+use Rattle.srt_log.specs.declared.events.LogEvent.TheVariants.{LeftOut, Refused, RefusedAgain}
 use Rattle.srt_watch.specs.Machines.{MachineState}
 use Rattle.srt_watch.specs.declared.log.LogForm.{LogForm}
 use Rattle.srt_watch.specs.declared.log.When.{When}
@@ -33,20 +33,22 @@ pub record IsTimeOf (form : LogForm) (s : MachineState) (when : When) : Type 0 w
 abbrev pub most : ℕ → ℕ
 most n = min n (2 ^ 64 - 1)
 
--- what a log says of an event: the words of its line, and, in an object, what it was and its facts
+-- the line of an event is about refused callers: one, how often it was refused again, or how many lines a flood of them left out
+abbrev pub is_refusal : LogEvent → Bool
+is_refusal (Refused code peer name by) = true
+is_refusal (RefusedAgain ip code name by count) = true
+is_refusal (LeftOut count) = true
+is_refusal _ = false
+
+-- what a log says of an event: the words of its line, in an object what it was and its facts, and whether it is about refused callers
 pub record Said : Type 0 where
   pub words : List ℕ
   pub kind : List ℕ
   pub members : List ℕ
+  pub is_refusal : Bool
 
 abbrev pub said : LogEvent → Said
-said event = record { words = event_text event; kind = kind_of event; members = event_members event }
-
--- its line is about refused callers: one, or how many lines a flood of them left out
-abbrev pub is_refusal : LogEvent → Bool
-is_refusal (Refused code peer name by) = true
-is_refusal (LeftOut count) = true
-is_refusal _ = false
+said event = record { words = event_text event; kind = kind_of event; members = event_members event; is_refusal = is_refusal event }
 
 -- a text that an event borrows
 abbrev pub lent : List ℕ → Bor (List ℕ)
@@ -59,6 +61,7 @@ pub data LogCall : Type 0 where
   Always : When → Said → LogCall
   Polled : When → LogCall
   Missed : ℕ → LogCall
+  Looked : LogCall
   Closed : When → LogCall
 
 -- the calls of its shares so far, newest first, the events that were missed and aren't logged yet, and the second in which missed ones were logged last
@@ -66,6 +69,7 @@ pub record LogState : Type 0 where
   pub calls : List SharedCall
   pub missed : ℕ
   pub second : ℕ
+  pub looks : ℕ
 
 abbrev pub second_of : When → ℕ
 second_of when = when.moment / 1_000_000
@@ -82,6 +86,7 @@ with_poll s when = record {
   calls = polled when.moment s.calls;
   missed = if nat_le (second_of when) s.second then s.missed else 0;
   second = if nat_le (second_of when) s.second then s.second else second_of when;
+  looks = s.looks;
 }
 
 -- the state after a call
@@ -90,6 +95,7 @@ state_after s (Offered when kind event) = with_line s when kind
 state_after s (Always when event) = with_poll s when
 state_after s (Polled when) = with_poll s when
 state_after s (Missed count) = record s { missed = most (s.missed + count) }
+state_after s Looked = record s { looks = most (s.looks + 1) }
 state_after s (Closed when) = record (with_poll s when) { missed = 0 }
 
 -- the text of an event in a line of its own: its time and its words, or its object with the same facts
@@ -126,6 +132,7 @@ text_of s (Offered when kind event) =
 text_of s (Always when event) = second_text s when ++ line_at when event
 text_of s (Polled when) = second_text s when
 text_of s (Missed count) = []
+text_of s Looked = []
 text_of s (Closed when) = second_text s when ++ end_text (with_poll s when) when
 
 -- the state after calls, in their order, and what they write
@@ -149,12 +156,14 @@ pub record HasState (pace : LogPace) (s : LogState) : Type 0 where
   pub shares_stand : AreShares pace.shares s.calls
   pub missed_is : pace.missed ≡ s.missed
   pub second_is : pace.second ≡ s.second
+  pub looks_is : pace.looks ≡ s.looks
 
 -- A text was written, and the pace is the same: as long as no write fails, the bytes of the writer grow by it.
 pub record Wrote (before after : Option (List ℕ)) (old new : LogPace) (text : List ℕ) : Type 0 where
   pub shares_are : new.shares ≡ old.shares
   pub missed_is : new.missed ≡ old.missed
   pub second_is : new.second ≡ old.second
+  pub looks_is : new.looks ≡ old.looks
   pub whole_is : new.is_whole ≡ true → old.is_whole ≡ true
   pub text_is : new.is_whole ≡ true → Appends before after text
 

@@ -10,8 +10,9 @@ use Rattle.srt_status.specs.declared.routes.LimitCounts.{LimitCounts}
 use Rattle.srt_status.specs.declared.routes.RouteStatus.{RouteStatus}
 use Rattle.srt_watch.specs.Census.{limits_of, status_with, grown_limits, with_look, absence_of}
 use Rattle.srt_watch.specs.Log.{most}
+use Rattle.srt_watch.specs.RouteLines.{ends_to}
 use Rattle.srt_watch.specs.Routes.{place_of, route_at}
-use Rattle.srt_watch.specs.Showing.{AreShown, AreSlots, AreTotals}
+use Rattle.srt_watch.specs.Showing.{AreShown, AreSlots, AreEnds, AreTotals}
 use Rattle.srt_watch.specs.declared.watched_routes.SnapshotPair.{SnapshotPair}
 use Rattle.srt_watch.specs.declared.watched_routes.WatchedRoute.{WatchedRoute}
 use Rattle.srt_watch.specs.declared.watched_routes.WatchedRoutes.{WatchedRoutes}
@@ -43,6 +44,10 @@ with_snapshot snapshot route = record route { snapshot = snapshot }
 abbrev pub with_take_overs : (more : ℕ) → RouteStatus → RouteStatus
 with_take_overs more status = record status { take_overs = option_map (λ n. most (n + more)) status.take_overs }
 
+-- the ends between two snapshots more
+abbrev pub with_ends : SnapshotPair → RouteStatus → RouteStatus
+with_ends pair status = record status { ends = option_map (λ counts. ends_to counts pair.old pair.new 120) status.ends }
+
 -- what the limits of a route refused since its status was updated last
 abbrev pub no_limits : LimitCounts
 no_limits = record { sessions = 0; reserved = 0; sessions_per_address = 0 }
@@ -60,6 +65,7 @@ pub record IsSnapshot (route : Route) (sessions : List (Option SessionView)) (mo
   pub moment_is : snapshot.moment ≡ moment
   pub stops_is : snapshot.stops ≡ stops
   pub slots_are : AreSlots 17 route sessions snapshot.slots
+  pub ended_are : AreEnds 17 route snapshot.ended
   pub opened_is : snapshot.opened ≡ opened_in route
 
 -- A route was observed: of the route with this index the snapshot is another one, and the status, and nothing else has changed. The status is

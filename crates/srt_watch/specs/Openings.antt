@@ -3,6 +3,7 @@ use Rattle.std.specs.Prelude.{◌≡◌, ℕ, List, [], ◌∷◌, replicate, Op
 use Rattle.srt_types.specs.declared.shared.Mode.{Mode}
 use Rattle.srt_types.specs.Terms.{Terms}
 use Rattle.srt_route.specs.Totals.{no_totals}
+use Rattle.srt_status.specs.declared.routes.EndCounts.{EndCounts}
 use Rattle.srt_status.specs.declared.routes.RouteStatus.{RouteStatus}
 use Rattle.srt_status.specs.History.{no_history}
 use Rattle.srt_watch.specs.Overview.{no_refusals}
@@ -12,6 +13,10 @@ use Rattle.srt_watch.specs.declared.watched_routes.OpeningRoute.{OpeningRoute}
 abbrev pub opening_name : Option OpeningRoute → List ℕ
 opening_name None = []
 opening_name (Some route) = string_bytes route.name
+
+-- none has ended
+abbrev pub no_ends : EndCounts
+no_ends = record { shutdown = 0; drained_too_long = 0; silence = 0; window_lost = 0; stream_end = 0; route_closed = 0; unknown = 0 }
 
 -- the status of a route before its first snapshot, with its name
 abbrev pub fresh_status : RouteStatus → Mode → (sessions : ℕ) → RouteStatus
@@ -24,7 +29,7 @@ fresh_status named mode sessions = record named {
   refused = no_refusals;
   limits = None;
   take_overs = Some 0;
-  ends = None;
+  ends = Some no_ends;
   expectation = None;
   history = no_history;
 }

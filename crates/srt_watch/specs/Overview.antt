@@ -8,6 +8,7 @@ use Rattle.srt_supervision.specs.declared.watch.RunStatus.{RunStatus}
 use Rattle.srt_status.specs.declared.gateway.CauseCounts.{CauseCounts}
 use Rattle.srt_status.specs.declared.gateway.ChangeCounts.{ChangeCounts}
 use Rattle.srt_status.specs.declared.gateway.GatewayStatus.{GatewayStatus}
+use Rattle.srt_status.specs.declared.gateway.ProcessUse.{ProcessUse}
 use Rattle.srt_status.specs.declared.gateway.RefusalCounts.{RefusalCounts}
 use Rattle.srt_watch.specs.Census.{with_refusal, with_cause}
 use Rattle.srt_watch.specs.declared.overview.Overview.{Overview}
@@ -29,7 +30,7 @@ no_report = record {
 }
 
 abbrev pub no_refusals : RefusalCounts
-no_refusals = record { peer = 0; resource = 0; rogue = 0; version = 0; unsecure = 0; message_api = 0; filter = 0; group = 0 }
+no_refusals = record { peer = 0; resource = 0; rogue = 0; version = 0; bad_secret = 0; unsecure = 0; message_api = 0; filter = 0; group = 0 }
 
 abbrev pub no_causes : CauseCounts
 no_causes = record { no_name = 0; unknown_name = 0; publish_from = 0; request_from = 0; publish_key = 0; request_key = 0 }
@@ -37,11 +38,16 @@ no_causes = record { no_name = 0; unknown_name = 0; publish_from = 0; request_fr
 abbrev pub no_changes : ChangeCounts
 no_changes = record { taken = 0; refused = 0; indexes = 0 }
 
+abbrev pub no_use : ProcessUse
+no_use = record { cpu_micros = None; open_descriptors = None; most_descriptors = None; started_micros = None }
+
 -- of a gateway that begins
 abbrev pub no_overview : Overview
 no_overview = record {
   drops = None;
   memory = None;
+  process = no_use;
+  receive_buffer = None;
   refused = no_refusals;
   causes = no_causes;
   poller = record { counts = no_report; reports = 0; reported_at = 0 };
@@ -83,6 +89,6 @@ gateway_of overview version moment routes changes = record {
   changes = changes;
   kernel_drops = overview.drops;
   resident_bytes = overview.memory;
-  process = record { cpu_micros = None; open_descriptors = None; most_descriptors = None; started_micros = None };
-  receive_buffer_bytes = None;
+  process = overview.process;
+  receive_buffer_bytes = overview.receive_buffer;
 }

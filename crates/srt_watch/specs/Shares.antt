@@ -3,7 +3,7 @@ use Rattle.std.specs.Prelude.{◌≡◌, Bool, true, false, List, [], ◌∷◌}
 use Rattle.srt_log.specs.LineShares.{is_kind}
 use Rattle.srt_log.specs.declared.line_limits.LineKind.TheVariants.{Session, Refusal}
 use Rattle.srt_watch.specs.declared.log.When.{When}
-use Rattle.srt_watch.specs.Log.{LogCall, Offered, Always, Polled, Missed, Closed, LogState, Said, state_after_all, text_of}
+use Rattle.srt_watch.specs.Log.{LogCall, Offered, Always, Polled, Missed, Looked, Closed, LogState, Said, state_after_all, text_of}
 
 -- a call is about a refused caller
 abbrev pub is_refusal : LogCall → Bool
@@ -11,6 +11,7 @@ is_refusal (Offered when kind event) = is_kind Refusal kind
 is_refusal (Always when event) = false
 is_refusal (Polled when) = false
 is_refusal (Missed count) = false
+is_refusal Looked = false
 is_refusal (Closed when) = false
 
 abbrev pub AreRefusals : List LogCall → Type 0

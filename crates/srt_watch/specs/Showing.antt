@@ -7,6 +7,7 @@ use Rattle.srt_route.specs.declared.totals.Totals.{Totals}
 use Rattle.srt_route.specs.Route.{after}
 use Rattle.srt_route.specs.Stands.{stands}
 use Rattle.srt_route.specs.Totals.{AddUp, totals_of_ended}
+use Rattle.srt_route.specs.declared.ledger.EndedSession.{EndedSession}
 use Rattle.srt_route.specs.declared.view.SessionView.{SessionView}
 use Rattle.srt_route.specs.Ledgers.{ended_in}
 use Rattle.srt_route.specs.Viewing.{ShowsSession}
@@ -29,6 +30,10 @@ slot_in route sessions slot = slot_of (slice_index_or sessions slot None) (ended
 unfoldable pub AreSlots : (slots : ℕ) → Route → List (Option SessionView) → List (Option SlotSession) → Type 0
 AreSlots slots route sessions shown = (slot : ℕ) → slot < slots → slice_index_or shown slot None ≡ slot_in route sessions slot
 
+-- each of the first slots has the session that ended there last
+unfoldable pub AreEnds : (slots : ℕ) → Route → List (Option EndedSession) → Type 0
+AreEnds slots route ends = (slot : ℕ) → slot < slots → slice_index_or ends slot None ≡ ended_in slot route
+
 -- the counts of all sessions of a route, ended and open
 abbrev pub AreTotals : Route → Totals → Type 0
 AreTotals route totals =
@@ -37,4 +42,4 @@ AreTotals route totals =
 
 -- before the first event
 abbrev pub first_snapshot : RouteSnapshot
-first_snapshot = record { moment = 0; stops = false; slots = replicate 17 None; opened = 0 }
+first_snapshot = record { moment = 0; stops = false; slots = replicate 17 None; ended = replicate 17 None; opened = 0 }

@@ -5,7 +5,7 @@ ghost use Rattle.srt_types.specs.Terms.{terms_of};
 ghost use Rattle.srt_log.specs.declared.line_limits.LineKind.TheVariants.{Session};
 ghost use Rattle.srt_watch.specs.Overview.{no_changes};
 ghost use Rattle.srt_watch.specs.Log.{HasState, Logged, Always, Offered};
-ghost use Rattle.srt_watch.specs.ChangeLines.{config_said, one_taken, one_refused, not_taken_said, counted_not_taken, held_said, no_room_said};
+ghost use Rattle.srt_watch.specs.ChangeLines.{config_said, no_memory_said, one_taken, one_refused, not_taken_said, counted_not_taken, held_said, no_room_said};
 ghost use Rattle.srt_watch.specs.ChangeLines.{close_call, closing_call, gone_calls, reopened_call, reopened_calls};
 ghost use Rattle.srt_watch.specs.ChangeLines.{rejected_said, open_call, opens_calls, route_calls, taken_calls, few_calls};
 
@@ -32,9 +32,9 @@ pub(crate) struct ChangeLog<W: Drop> {
 impl<W: Write + Drop> ChangeLog<W> {
     /// Returns a log without lines, and no changes.
     pub(crate) fn new(alloc: Global, out: W) -> ChangeLog<W>
-        ensures out { result.log.out ≡ out }
+        ensures out { result.log.out.out ≡ out }
         ensures counts { result.counts ≡ no_changes }
-        ensures state { HasState result.log.pace (record { calls = []; missed = 0; second = 0 }) }
+        ensures state { HasState result.log.pace (record { calls = []; missed = 0; second = 0; looks = 0 }) }
         ensures whole { result.log.pace.is_whole ≡ true }
     {
         ChangeLog {
@@ -53,7 +53,7 @@ impl<W: Write + Drop> ChangeLog<W> {
     // Writes a line about the configuration, whether its second has room or not.
     fn write(&mut self, when: When, event: ConfigEvent<'_>)
         ensures counts { self.new.counts ≡ self.old.counts }
-        ensures logged { Logged (W.contents self.old.log.out) (W.contents self.new.log.out) self.old.log.pace self.new.log.pace
+        ensures logged { Logged (W.contents self.old.log.out.out) (W.contents self.new.log.out.out) self.old.log.pace self.new.log.pace
             (Always when (config_said event.entry) ∷ []) }
     {
         self.log.append_always(when, LogEvent::Config { event });
@@ -62,17 +62,27 @@ impl<W: Write + Drop> ChangeLog<W> {
     // Logs why a changed configuration isn't taken, and counts it.
     fn refuse(&mut self, when: When, event: ConfigEvent<'_>)
         ensures counts { self.new.counts ≡ one_refused self.old.counts }
-        ensures logged { Logged (W.contents self.old.log.out) (W.contents self.new.log.out) self.old.log.pace self.new.log.pace
+        ensures logged { Logged (W.contents self.old.log.out.out) (W.contents self.new.log.out.out) self.old.log.pace self.new.log.pace
             (Always when (config_said event.entry) ∷ []) }
     {
         self.write(when, event);
         self.counts.refused = self.counts.refused.saturating_add(1);
     }
 
+    // Logs that there is no memory for what a changed configuration needs, and counts that.
+    fn refuse_for_memory(&mut self, when: When)
+        ensures counts { self.new.counts ≡ one_refused self.old.counts }
+        ensures logged { Logged (W.contents self.old.log.out.out) (W.contents self.new.log.out.out) self.old.log.pace self.new.log.pace
+            (Always when no_memory_said ∷ []) }
+    {
+        let why = "out of memory".as_bytes();
+        self.refuse(when, ConfigEvent::Wrong { why });
+    }
+
     /// Logs that the file's content isn't taken. A file that can't be read isn't counted: no configuration was refused.
     pub(crate) fn not_taken(&mut self, when: When, not_taken: &NotTaken)
         ensures counts { self.new.counts ≡ counted_not_taken not_taken.now self.old.counts }
-        ensures logged { Logged (W.contents self.old.log.out) (W.contents self.new.log.out) self.old.log.pace self.new.log.pace
+        ensures logged { Logged (W.contents self.old.log.out.out) (W.contents self.new.log.out.out) self.old.log.pace self.new.log.pace
             (Always when (not_taken_said not_taken.now) ∷ []) }
     {
         match not_taken {
@@ -80,10 +90,11 @@ impl<W: Write + Drop> ChangeLog<W> {
                 let why = why.as_str().as_bytes();
                 self.write(when, ConfigEvent::Unread { why });
             }
-            NotTaken::Wrong(why) => {
-                let why = why.as_str().as_bytes();
+            NotTaken::Wrong(reason) => {
+                let why = reason.text.as_str().as_bytes();
                 self.refuse(when, ConfigEvent::Wrong { why });
             }
+            NotTaken::NoMemory => self.refuse_for_memory(when),
             NotTaken::KeysDiffer(keys) => self.refuse(
                 when,
                 ConfigEvent::KeysDiffer { keys: *keys },
@@ -94,7 +105,7 @@ impl<W: Write + Drop> ChangeLog<W> {
     /// Logs that a configuration isn't taken yet, since it closes the route of this name, which has sessions.
     pub(crate) fn held(&mut self, when: When, route: &str)
         ensures counts { self.new.counts ≡ self.old.counts }
-        ensures logged { Logged (W.contents self.old.log.out) (W.contents self.new.log.out) self.old.log.pace self.new.log.pace
+        ensures logged { Logged (W.contents self.old.log.out.out) (W.contents self.new.log.out.out) self.old.log.pace self.new.log.pace
             (Always when (held_said route.now) ∷ []) }
     {
         let route = route.as_bytes();
@@ -104,7 +115,7 @@ impl<W: Write + Drop> ChangeLog<W> {
     /// Logs that a configuration isn't taken for lack of memory, and counts it.
     pub(crate) fn no_room(&mut self, when: When, no_room: &NoRoom)
         ensures counts { self.new.counts ≡ one_refused self.old.counts }
-        ensures logged { Logged (W.contents self.old.log.out) (W.contents self.new.log.out) self.old.log.pace self.new.log.pace
+        ensures logged { Logged (W.contents self.old.log.out.out) (W.contents self.new.log.out.out) self.old.log.pace self.new.log.pace
             (Always when (no_room_said no_room.now) ∷ []) }
     {
         match no_room {
@@ -112,17 +123,14 @@ impl<W: Write + Drop> ChangeLog<W> {
                 let route = name.as_str().as_bytes();
                 self.refuse(when, ConfigEvent::NoMemory { route });
             }
-            NoRoom::Lists => {
-                let why = "out of memory".as_bytes();
-                self.refuse(when, ConfigEvent::Wrong { why });
-            }
+            NoRoom::Lists => self.refuse_for_memory(when),
         }
     }
 
     /// Logs why the run rejected this change, and counts it.
     pub(crate) fn rejected(&mut self, when: When, change: &PreparedChange, fault: ChangeFault)
         ensures counts { self.new.counts ≡ one_refused self.old.counts }
-        ensures logged { Logged (W.contents self.old.log.out) (W.contents self.new.log.out) self.old.log.pace self.new.log.pace
+        ensures logged { Logged (W.contents self.old.log.out.out) (W.contents self.new.log.out.out) self.old.log.pace self.new.log.pace
             (Always when (rejected_said change.now.room.opening.items fault) ∷ []) }
     {
         match fault {
@@ -151,7 +159,7 @@ impl<W: Write + Drop> ChangeLog<W> {
         first: usize,
     )
         ensures counts { self.new.counts ≡ one_taken self.old.counts }
-        ensures logged { Logged (W.contents self.old.log.out) (W.contents self.new.log.out) self.old.log.pace self.new.log.pace
+        ensures logged { Logged (W.contents self.old.log.out.out) (W.contents self.new.log.out.out) self.old.log.pace self.new.log.pace
             (taken_calls when change.now.numbers before.now.entries.items change.now.wanted first) }
     {
         let wanted = change.wanted();
@@ -171,7 +179,7 @@ impl<W: Write + Drop> ChangeLog<W> {
     #[tactic(auto, using(crate::proofs::Logging::logged_nothing))]
     pub(crate) fn few_indexes(&mut self, when: When, before: usize, used: usize)
         ensures counts { self.new.counts ≡ self.old.counts }
-        ensures logged { Logged (W.contents self.old.log.out) (W.contents self.new.log.out) self.old.log.pace self.new.log.pace
+        ensures logged { Logged (W.contents self.old.log.out.out) (W.contents self.new.log.out.out) self.old.log.pace self.new.log.pace
             (few_calls when before used) }
     {
         if reaches_mark(before, used) {
@@ -183,7 +191,7 @@ impl<W: Write + Drop> ChangeLog<W> {
 
 // Writes a line about a route, if its second has room.
 fn log_route<W: Write + Drop>(log: &mut LogWriter<W>, when: When, event: ConfigEvent<'_>)
-    ensures { Logged (W.contents log.old.out) (W.contents log.new.out) log.old.pace log.new.pace
+    ensures { Logged (W.contents log.old.out.out) (W.contents log.new.out.out) log.old.pace log.new.pace
         (Offered when Session (config_said event.entry) ∷ []) }
 {
     log.append(when, LineKind::Session, LogEvent::Config { event });
@@ -197,7 +205,7 @@ fn log_close<W: Write + Drop>(
     entry: Option<&Entry>,
     cause: CloseCause,
 )
-    ensures { Logged (W.contents log.old.out) (W.contents log.new.out) log.old.pace log.new.pace
+    ensures { Logged (W.contents log.old.out.out) (W.contents log.new.out.out) log.old.pace log.new.pace
         (close_call when cause (option_map (λ e. terms_of e.now) entry.entry)) }
 {
     if let Some(entry) = entry {
@@ -215,7 +223,7 @@ fn log_close_at<W: Write + Drop>(
     place: usize,
     cause: CloseCause,
 )
-    ensures { Logged (W.contents log.old.out) (W.contents log.new.out) log.old.pace log.new.pace (closing_call when cause before.now place) }
+    ensures { Logged (W.contents log.old.out.out) (W.contents log.new.out.out) log.old.pace log.new.pace (closing_call when cause before.now place) }
 {
     log_close(log, when, before.get(place), cause);
 }
@@ -223,7 +231,7 @@ fn log_close_at<W: Write + Drop>(
 // Writes that the routes at these places close, whose names are gone.
 #[tactic(auto, using(crate::proofs::Logging::logged_nothing, crate::proofs::ChangedRoutes::logged_flat))]
 fn log_gone<W: Write + Drop>(log: &mut LogWriter<W>, when: When, before: &[Entry], gone: &[usize])
-    ensures { Logged (W.contents log.old.out) (W.contents log.new.out) log.old.pace log.new.pace (gone_calls when before.now gone.now) }
+    ensures { Logged (W.contents log.old.out.out) (W.contents log.new.out.out) log.old.pace log.new.pace (gone_calls when before.now gone.now) }
 {
     for place in gone {
         log_close_at(log, when, before, *place, CloseCause::Removed);
@@ -238,7 +246,7 @@ fn log_if_reopened<W: Write + Drop>(
     before: &[Entry],
     change: RouteChange,
 )
-    ensures { Logged (W.contents log.old.out) (W.contents log.new.out) log.old.pace log.new.pace (reopened_call when before.now change) }
+    ensures { Logged (W.contents log.old.out.out) (W.contents log.new.out.out) log.old.pace log.new.pace (reopened_call when before.now change) }
 {
     match change {
         RouteChange::Reopens(place) => {
@@ -256,7 +264,7 @@ fn log_reopened<W: Write + Drop>(
     before: &[Entry],
     changes: &[RouteChange],
 )
-    ensures { Logged (W.contents log.old.out) (W.contents log.new.out) log.old.pace log.new.pace (reopened_calls when before.now changes.now) }
+    ensures { Logged (W.contents log.old.out.out) (W.contents log.new.out.out) log.old.pace log.new.pace (reopened_calls when before.now changes.now) }
 {
     for change in changes {
         log_if_reopened(log, when, before, *change);
@@ -272,7 +280,7 @@ fn log_if_opens<W: Write + Drop>(
     entry: &Entry,
     index: usize,
 )
-    ensures { Logged (W.contents log.old.out) (W.contents log.new.out) log.old.pace log.new.pace (open_call when change (terms_of entry.now) index) }
+    ensures { Logged (W.contents log.old.out.out) (W.contents log.new.out.out) log.old.pace log.new.pace (open_call when change (terms_of entry.now) index) }
 {
     if !opens(change) {
         return;
@@ -297,7 +305,7 @@ fn log_opens<W: Write + Drop>(
     entries: &[Entry],
     first: usize,
 )
-    ensures { Logged (W.contents log.old.out) (W.contents log.new.out) log.old.pace log.new.pace
+    ensures { Logged (W.contents log.old.out.out) (W.contents log.new.out.out) log.old.pace log.new.pace
         (opens_calls when first changes.now (map terms_of entries.now)) }
 {
     let mut index = first;
@@ -320,7 +328,7 @@ fn log_routes<W: Write + Drop>(
     before: &[Entry],
     first: usize,
 )
-    ensures { Logged (W.contents log.old.out) (W.contents log.new.out) log.old.pace log.new.pace (route_calls when before.now wanted.now first) }
+    ensures { Logged (W.contents log.old.out.out) (W.contents log.new.out.out) log.old.pace log.new.pace (route_calls when before.now wanted.now first) }
 {
     log_gone(log, when, before, wanted.changes.gone.as_slice());
     log_reopened(log, when, before, wanted.changes.routes.as_slice());

@@ -65,7 +65,7 @@ impl FirstLines {
     fn log_warnings<W: Write + Drop>(&mut self, log: &mut LogWriter<W>, when: When)
         ensures start { self.new.start ≡ self.old.start }
         ensures warnings { self.new.warnings.items ≡ [] }
-        ensures logged { Logged (W.contents log.old.out) (W.contents log.new.out) log.old.pace log.new.pace
+        ensures logged { Logged (W.contents log.old.out.out) (W.contents log.new.out.out) log.old.pace log.new.pace
             (warning_calls when self.old.warnings.items) }
     {
         log_all(log, when, self.warnings.as_slice());
@@ -75,7 +75,7 @@ impl FirstLines {
     // Writes that signals aren't blocked, unless they are.
     #[tactic(auto, using(crate::proofs::Logging::logged_nothing))]
     fn log_unblocked<W: Write + Drop>(start: Start, log: &mut LogWriter<W>, when: When)
-        ensures { Logged (W.contents log.old.out) (W.contents log.new.out) log.old.pace log.new.pace (unblocked_calls when start.is_blocked) }
+        ensures { Logged (W.contents log.old.out.out) (W.contents log.new.out.out) log.old.pace log.new.pace (unblocked_calls when start.is_blocked) }
     {
         if !start.is_blocked {
             log.append_always(when, LogEvent::Unblocked);
@@ -93,7 +93,7 @@ impl FirstLines {
         memory: u64,
     )
         ensures start { self.new.start ≡ None }
-        ensures logged { Logged (W.contents log.old.out) (W.contents log.new.out) log.old.pace log.new.pace
+        ensures logged { Logged (W.contents log.old.out.out) (W.contents log.new.out.out) log.old.pace log.new.pace
             (first_calls self.old.start self.old.warnings.items when routes memory) }
     {
         let Some(start) = self.start.take() else {
@@ -112,7 +112,7 @@ fn log_all<W: Write + Drop>(
     when: When,
     warnings: &[InlineText<MAX_WARNING>],
 )
-    ensures { Logged (W.contents log.old.out) (W.contents log.new.out) log.old.pace log.new.pace (warning_calls when warnings.now) }
+    ensures { Logged (W.contents log.old.out.out) (W.contents log.new.out.out) log.old.pace log.new.pace (warning_calls when warnings.now) }
 {
     for warning in warnings {
         log_warning(log, when, warning);
@@ -125,7 +125,7 @@ fn log_warning<W: Write + Drop>(
     when: When,
     warning: &InlineText<MAX_WARNING>,
 )
-    ensures { Logged (W.contents log.old.out) (W.contents log.new.out) log.old.pace log.new.pace (warning_call when warning.now ∷ []) }
+    ensures { Logged (W.contents log.old.out.out) (W.contents log.new.out.out) log.old.pace log.new.pace (warning_call when warning.now ∷ []) }
 {
     let warning = warning.as_str().as_bytes();
     log.append_always(when, LogEvent::Warned { warning });

@@ -125,7 +125,7 @@ impl<'a, F: ConfigFile + Drop> Following<'a, F> {
         ensures polling { self.new.file.polling
             ≡ waiting (waits_for found.now.was_held routes.now self.old.in_force found.now.wanted) self.old.file.polling when.moment }
         ensures counts { log.new.counts ≡ log.old.counts }
-        ensures logged { Logged (W.contents log.old.log.out) (W.contents log.new.log.out) log.old.log.pace log.new.log.pace
+        ensures logged { Logged (W.contents log.old.log.out.out) (W.contents log.new.log.out.out) log.old.log.pace log.new.log.pace
             (held_calls when routes.now (waits_for found.now.was_held routes.now self.old.in_force found.now.wanted)) }
         ensures other { result ≡ false → log.new ≡ log.old }
     {
@@ -154,7 +154,7 @@ impl<'a, F: ConfigFile + Drop> Following<'a, F> {
         ensures counts { log.new.counts ≡ one_taken log.old.counts }
         ensures routes { IsExpecting routes.old routes.new change.wanted.changes.routes.items self.new.in_force.indexes.items change.room.opening.items
             change.wanted.config.expected.items }
-        ensures logged { Logged (W.contents log.old.log.out) (W.contents log.new.log.out) log.old.log.pace log.new.log.pace
+        ensures logged { Logged (W.contents log.old.log.out.out) (W.contents log.new.log.out.out) log.old.log.pace log.new.log.pace
             (made_calls when self.old.in_force change.wanted first routes.old routes.new) }
     {
         let before = routes.used();
@@ -184,7 +184,7 @@ impl<'a, F: ConfigFile + Drop> Following<'a, F> {
         ensures file { self.new.file ≡ self.old.file }
         ensures requested { IsRequested self.old.in_force self.new.in_force requested.change.wanted (C.asked run.old) (C.asked run.new) }
         ensures announced { IsAnnounced self.old.in_force self.new.in_force requested.change.wanted (C.asked run.old) (C.asked run.new) when
-            routes.old routes.new (W.contents log.old.log.out) (W.contents log.new.log.out) log.old.log.pace log.new.log.pace
+            routes.old routes.new (W.contents log.old.log.out.out) (W.contents log.new.log.out.out) log.old.log.pace log.new.log.pace
             log.old.counts log.new.counts }
     {
         let Requested { change, changes } = requested;
@@ -217,7 +217,7 @@ impl<'a, F: ConfigFile + Drop> Following<'a, F> {
             (file_with (F.says self.old.file.file) self.old.file.polling (option_map (λ v. v.items) self.old.file.content) self.old.in_force)
             (file_with (F.says self.new.file.file) self.new.file.polling (option_map (λ v. v.items) self.new.file.content) self.new.in_force)
             (C.asked run.old) (C.asked run.new) when routes.old routes.new
-            (W.contents log.old.log.out) (W.contents log.new.log.out) log.old.log.pace log.new.log.pace log.old.counts log.new.counts }
+            (W.contents log.old.log.out.out) (W.contents log.new.log.out.out) log.old.log.pace log.new.log.pace log.old.counts log.new.counts }
     {
         let found = match self.poll(when.moment) {
             Some(Ok(found)) => found,

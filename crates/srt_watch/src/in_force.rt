@@ -8,8 +8,9 @@ ghost use Rattle.srt_watch.specs.Following.{IsWrong, IsNotTaken};
 ghost use Rattle.srt_watch.specs.Requests.{config_of, first_indexes};
 
 use crate::config_file::MAX_REASON;
+use crate::reasons::{Reason, reason_of};
 use srt_config::{Changes, Config, FixedKeys, changes_between, read_config};
-use srt_explain::explain;
+use srt_explain::{Faults, explain};
 use std::alloc::{AllocError, Global};
 use std::fmt::InlineText;
 use std::str;
@@ -23,12 +24,14 @@ pub(crate) struct Wanted {
 }
 
 /// Why the content of the configuration's file isn't taken.
-#[derive(Clone, Copy)]
+#[derive(Drop)]
 pub(crate) enum NotTaken {
     /// It can't be read, for this reason.
     Unread(InlineText<MAX_REASON>),
-    /// It has this fault.
-    Wrong(InlineText<MAX_REASON>),
+    /// It has these faults.
+    Wrong(Reason<Faults>),
+    /// There is no memory for the list of its changes.
+    NoMemory,
     /// Keys differ that can't change.
     KeysDiffer(FixedKeys),
 }
@@ -102,16 +105,16 @@ impl<'a> InForce<'a> {
         match changes_between(alloc, self.config(), &config) {
             Ok(changes) if changes.fixed.any() => Err(NotTaken::KeysDiffer(changes.fixed)),
             Ok(changes) => Ok(Wanted { config, changes }),
-            Err(_) => Err(NotTaken::Wrong(InlineText::of("out of memory"))),
+            Err(_) => Err(NotTaken::NoMemory),
         }
     }
 }
 
-// Reads the configuration of this content, or explains its first fault. Allocates it. Its warnings aren't computed: those of
+// Reads the configuration of this content, or explains its faults. Allocates it. Its warnings aren't computed: those of
 // the configuration with which the run began are logged, and `check` prints those of any other.
 fn config_of_text(alloc: Global, content: &[u8]) -> Result<Config, NotTaken>
     ensures config { IfOk result (IsConfigOf content.now) }
-    ensures wrong { IfErr result IsWrong }
+    ensures wrong { IfErr result (IsWrong content.now) }
 {
     if let Ok(text) = str::from_utf8(content) {
         if let Ok(config) = read_config(alloc, text) {
@@ -120,6 +123,6 @@ fn config_of_text(alloc: Global, content: &[u8]) -> Result<Config, NotTaken>
     }
     match explain(alloc, content) {
         Ok(explained) => Ok(explained.config),
-        Err(explanation) => Err(NotTaken::Wrong(InlineText::of(explanation))),
+        Err(faults) => Err(NotTaken::Wrong(reason_of(faults))),
     }
 }

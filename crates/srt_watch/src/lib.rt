@@ -11,12 +11,14 @@
 //!
 //! Files: `watcher.rt` has the calls of `Watch`, and passes each to the part that it is about.
 //! - When: `course.rt` has the times of snapshots, and the stop; `steering.rt` ties the stop to the machine's signal and clock.
-//! - Log: `log.rt` writes lines, at most 50 a second. Their events are of the start (`first_lines.rt`), of the socket's faults
-//!   and lost datagrams (`losses.rt`), of sessions (`route_lines.rt`) and of a changed configuration (`change_log.rt`).
+//! - Log: `log.rt` writes lines to `output.rt`, at most 50 a second. Their events are of the start (`first_lines.rt`), of the socket's faults
+//!   and lost datagrams (`losses.rt`), of refused callers (`refusals.rt`), of sessions (`route_lines.rt`) and of a changed
+//!   configuration (`change_log.rt`).
 //! - Page: `page.rt` shows the gateway (`overview.rt`) and its routes (`watched_routes.rt`). `showing.rt` takes the snapshots of
 //!   a route, `census.rt` counts refusals.
 //! - Reload: `following.rt` requests the change of a changed configuration, and puts it in force. `watched_file.rt` has when the
 //!   file is read, and what is new in it. `in_force.rt` has the configuration in force and compares it with the file's.
+//!   `reasons.rt` has the words of what is wrong with that.
 //!   `prepared_change.rt` is a change with all memory that it needs: which routes close and open, and how many; `indexes.rt` has
 //!   which indexes the others get.
 //!
@@ -36,10 +38,13 @@ pub mod laws;
 mod log;
 mod losses;
 mod machine;
+mod output;
 mod overview;
 mod page;
 mod page_interface;
 mod prepared_change;
+mod reasons;
+mod refusals;
 mod route_lines;
 mod showing;
 mod steering;

@@ -1,23 +1,22 @@
 //! A log: lines to a writer, in a second at most 40 about sessions and routes and 10 about refused callers.
 
-ghost use Rattle.std.specs.Prelude.{◌≡◌, ◌+◌, ◌++◌, [], ◌∷◌, List, true, nat_lt, IfSome, OnOk};
-ghost use Rattle.std.specs.Io.KnownBytes.{Appends};
+ghost use Rattle.std.specs.Prelude.{◌≡◌, ◌≤◌, ◌+◌, ◌++◌, [], ◌∷◌, List, true, nat_lt, IfSome};
 ghost use Rattle.srt_log.specs.Events.{event_text};
-ghost use Rattle.srt_log.specs.Objects.{object_text};
 ghost use Rattle.srt_log.specs.Texts.{put};
 ghost use Rattle.srt_status.specs.Events.{HasKept};
-ghost use Rattle.srt_watch.specs.Log.{IsStamp, IsTimeOf, HasState, Wrote, Logged, most, missed_of, after_missed};
-ghost use Rattle.srt_watch.specs.Log.{object_at, line_at, line_if, left_out_text, said};
-ghost use Rattle.srt_watch.specs.Log.{Offered, Always, Polled, Missed, Closed, is_refusal};
+ghost use Rattle.srt_watch.specs.Log.{IsStamp, IsTimeOf, LogState, HasState, Wrote, Logged, most, missed_of, after_missed};
+ghost use Rattle.srt_watch.specs.Log.{line_at, line_if, left_out_text, said};
+ghost use Rattle.srt_watch.specs.Log.{Offered, Always, Polled, Missed, Looked, Closed, is_refusal};
 ghost use Rattle.srt_watch.specs.Draining.{IsDrained};
-ghost use Rattle.srt_watch.specs.Writes.{is_passing, pace_after, refused_after, HasRefused, HasKeptIf, AreKept};
+ghost use Rattle.srt_watch.specs.Writes.{lines_of, HasRefused, HasKeptIf, AreKept, HasKeptOf, given_if, given_some, given_by};
 ghost use Rattle.srt_log.specs.declared.events.LogEvent.TheVariants.{Stopped, LeftOut};
 
 use crate::machine::Machine;
-use srt_log::{LineKind, LineShares, LogEvent, event_line, put_object, utc_text, write_line};
+use crate::output::Output;
+use srt_log::{LineKind, LineShares, LogEvent, event_line, utc_text};
 use srt_status::EventRing;
 use std::alloc::Global;
-use std::io::{self, Error, ErrorKind, Write};
+use std::io::Write;
 use std::mem;
 
 /// The form of a log's lines.
@@ -76,6 +75,8 @@ pub(crate) struct LogPace {
     missed: u64,
     // the second in which they were logged last
     second: u64,
+    // how often it was looked whether lines wait; nothing reads it
+    looks: u64,
     // no write has failed so far
     is_whole: bool,
 }
@@ -83,13 +84,14 @@ pub(crate) struct LogPace {
 impl LogPace {
     // Returns that of a log without lines.
     fn new() -> LogPace
-        ensures state { HasState result (record { calls = []; missed = 0; second = 0 }) }
+        ensures state { HasState result (record { calls = []; missed = 0; second = 0; looks = 0 }) }
         ensures whole { result.is_whole ≡ true }
     {
         LogPace {
             shares: LineShares::new(),
             missed: 0,
             second: 0,
+            looks: 0,
             is_whole: true,
         }
     }
@@ -108,35 +110,15 @@ impl LogPace {
     }
 }
 
-// Whether the line of an event is about refused callers: one, or how many lines a flood of them left out.
+// Whether the line of an event is about refused callers: one, how often it was refused again, or how many lines a flood of them
+// left out.
 fn is_refusal(event: LogEvent<'_>) -> bool
     ensures { result ≡ is_refusal event.entry }
 {
-    matches!(event, LogEvent::Refused { .. } | LogEvent::LeftOut { .. })
-}
-
-// Whether a write that failed so may succeed later: there was no room for the line, or no memory.
-fn is_passing(kind: ErrorKind) -> bool
-    ensures { result ≡ is_passing kind }
-{
-    matches!(kind, ErrorKind::WouldBlock | ErrorKind::OutOfMemory)
-}
-
-// Makes the object of an event in place of another one, and writes it.
-#[tactic(auto, unfolding(srt_log::specs::Objects::object_text))]
-fn put_json<W: Write>(
-    out: &mut W,
-    object: &mut Vec<u8>,
-    when: When,
-    event: LogEvent<'_>,
-) -> io::Result<()>
-    ensures { OnOk result (Appends (W.contents out.old) (W.contents out.new) (object_at when.stamp (said event.entry))) }
-{
-    object.clear();
-    if put_object(object, when.stamp, event).is_err() {
-        return Err(Error::from(ErrorKind::OutOfMemory));
-    }
-    out.write_all(object.as_slice())
+    matches!(
+        event,
+        LogEvent::Refused { .. } | LogEvent::RefusedAgain { .. } | LogEvent::LeftOut { .. }
+    )
 }
 
 /// The most rests in which a log's writer writes what waits in it, for a clock that stands still.
@@ -156,30 +138,24 @@ pub(crate) enum Drained {
 /// A log, and its pace.
 #[derive(Drop)]
 pub(crate) struct LogWriter<W: Drop> {
-    pub(crate) out: W,
+    out: Output<W>,
     pace: LogPace,
-    // lines that the writer had no room for, and that aren't logged as left out yet
-    refused: u64,
-    // room for the object of a line
-    object: Vec<u8>,
     // the last lines, for the page
     events: EventRing,
-    ghost counted: { pace.is_whole ≡ true → refused ≡ 0 },
+    ghost counted: { pace.is_whole ≡ true → out.refused ≡ 0 },
 }
 
 impl<W: Write + Drop> LogWriter<W> {
     /// Returns a log without lines.
     pub fn new(alloc: Global, out: W) -> LogWriter<W>
-        ensures out { result.out ≡ out }
-        ensures state { HasState result.pace (record { calls = []; missed = 0; second = 0 }) }
+        ensures out { result.out.out ≡ out }
+        ensures state { HasState result.pace (record { calls = []; missed = 0; second = 0; looks = 0 }) }
         ensures whole { result.pace.is_whole ≡ true }
         ensures events { result.events.events.items ≡ [] }
     {
         LogWriter {
-            out,
+            out: Output::new(alloc, out),
             pace: LogPace::new(),
-            refused: 0,
-            object: Vec::new(alloc),
             events: EventRing::new(),
         }
     }
@@ -193,41 +169,11 @@ impl<W: Write + Drop> LogWriter<W> {
 
     /// Counts events that weren't passed to the log as lines that were left out.
     pub fn miss(&mut self, count: u64)
-        ensures logged { Logged (W.contents self.old.out) (W.contents self.new.out) self.old.pace self.new.pace (Missed count ∷ []) }
+        ensures logged { Logged (W.contents self.old.out.out) (W.contents self.new.out.out) self.old.pace self.new.pace (Missed count ∷ []) }
         ensures events { self.new.events ≡ self.old.events }
         ensures out { self.new.out ≡ self.old.out }
     {
         self.pace.missed = self.pace.missed.saturating_add(count);
-    }
-
-    // Makes the line of an event, and writes it. An error is the writer's, or that memory for an object was refused.
-    fn put_line(&mut self, when: When, event: LogEvent<'_>) -> io::Result<()>
-        ensures line { OnOk result (Appends (W.contents self.old.out) (W.contents self.new.out) (line_at when (said event.entry))) }
-        ensures pace { self.new.pace ≡ self.old.pace }
-        ensures refused { self.new.refused ≡ self.old.refused }
-        ensures events { self.new.events ≡ self.old.events }
-    {
-        if when.is_json {
-            put_json(&mut self.out, &mut self.object, when, event)
-        } else {
-            write_line(&mut self.out, when.stamp, event)
-        }
-    }
-
-    // Notes how the write of a line ended. If the writer has no room for it now, or there is no memory for it, the `count`
-    // lines that it stands for are counted; any other failed write is ignored: the gateway continues without a log.
-    fn note(&mut self, outcome: io::Result<()>, count: u64)
-        ensures out { self.new.out ≡ self.old.out }
-        ensures pace { self.new.pace ≡ pace_after outcome self.old.pace }
-        ensures refused { self.new.refused ≡ refused_after outcome self.old.refused count }
-        ensures events { self.new.events ≡ self.old.events }
-    {
-        if let Err(error) = outcome {
-            self.pace.is_whole = false;
-            if is_passing(error.kind()) {
-                self.refused = self.refused.saturating_add(count);
-            }
-        }
     }
 
     // Keeps the line of an event for the page.
@@ -236,55 +182,69 @@ impl<W: Write + Drop> LogWriter<W> {
             (put [] (event_text event.entry)) }
         ensures out { self.new.out ≡ self.old.out }
         ensures pace { self.new.pace ≡ self.old.pace }
-        ensures refused { self.new.refused ≡ self.old.refused }
     {
         let line = event_line(event);
         self.events
             .push(when.moment, is_refusal(event), line.as_slice());
     }
 
-    // Writes a line, whatever the limit. If the writer has no room for it, the `count` lines that it stands for are counted.
+    // Writes a line, whatever the limit. If there is no room for it, the lines that it stands for are counted.
     #[tactic(auto, using(crate::proofs::Logging::refused_so))]
-    fn write(&mut self, when: When, event: LogEvent<'_>, count: u64)
-        ensures wrote { Wrote (W.contents self.old.out) (W.contents self.new.out) self.old.pace self.new.pace (line_at when (said event.entry)) }
+    fn write(&mut self, when: When, event: LogEvent<'_>)
+        ensures wrote { Wrote (W.contents self.old.out.out) (W.contents self.new.out.out) self.old.pace self.new.pace (line_at when (said event.entry)) }
         ensures kept { HasKept self.old.events.events.items self.new.events.events.items when.moment (is_refusal event.entry)
             (put [] (event_text event.entry)) }
-        ensures refused { HasRefused self.old.refused self.new.refused count }
+        ensures refused { HasRefused self.old.out.refused self.new.out.refused (lines_of event.entry) }
+        ensures grows { self.old.out.refused ≤ self.new.out.refused }
+        ensures given { self.new.out.given ≡ most (self.old.out.given + 1) }
+        ensures flushes { self.new.out.flushes ≡ self.old.out.flushes }
     {
         self.keep(when, event);
-        let outcome = self.put_line(when, event);
-        self.note(outcome, count);
+        if self.out.write(when, event).is_err() {
+            self.pace.is_whole = false;
+        }
     }
 
     // Writes how many lines were left out, if some were.
     fn append_left_out(&mut self, when: When, count: u64)
-        ensures wrote { Wrote (W.contents self.old.out) (W.contents self.new.out) self.old.pace self.new.pace (left_out_text when count) }
-        ensures none { count ≡ 0 → self.new.refused ≡ self.old.refused }
-        ensures refused { HasRefused self.old.refused self.new.refused count }
+        ensures wrote { Wrote (W.contents self.old.out.out) (W.contents self.new.out.out) self.old.pace self.new.pace (left_out_text when count) }
+        ensures none { count ≡ 0 → self.new.out.refused ≡ self.old.out.refused }
+        ensures refused { HasRefused self.old.out.refused self.new.out.refused count }
+        ensures grows { self.old.out.refused ≤ self.new.out.refused }
+        ensures given { self.new.out.given ≡ given_some count self.old.out.given }
+        ensures flushes { self.new.out.flushes ≡ self.old.out.flushes }
         ensures kept { HasKeptIf (nat_lt 0 count) self.old.events.events.items self.new.events.events.items when.moment true
             (put [] (event_text (LeftOut count))) }
     {
         if count > 0 {
-            self.write(when, LogEvent::LeftOut { count }, count);
+            self.write(when, LogEvent::LeftOut { count });
         }
     }
 
     // Writes the line of an event if it is to be written.
     fn write_if(&mut self, is_written: bool, when: When, event: LogEvent<'_>)
-        ensures wrote { Wrote (W.contents self.old.out) (W.contents self.new.out) self.old.pace self.new.pace (line_if is_written when (said event.entry)) }
-        ensures refused { HasRefused self.old.refused self.new.refused 1 }
+        ensures wrote { Wrote (W.contents self.old.out.out) (W.contents self.new.out.out) self.old.pace self.new.pace
+            (line_if is_written when (said event.entry)) }
+        ensures refused { HasRefused self.old.out.refused self.new.out.refused (lines_of event.entry) }
+        ensures grows { self.old.out.refused ≤ self.new.out.refused }
+        ensures given { self.new.out.given ≡ given_if is_written self.old.out.given }
         ensures kept { HasKeptIf is_written self.old.events.events.items self.new.events.events.items when.moment (is_refusal event.entry)
             (put [] (event_text event.entry)) }
     {
         if is_written {
-            self.write(when, event, 1);
+            self.write(when, event);
         }
     }
 
     /// Writes the line of an event if its second has room for one of its kind, and counts it otherwise.
     pub fn append(&mut self, when: When, kind: LineKind, event: LogEvent<'_>)
-        ensures logged { Logged (W.contents self.old.out) (W.contents self.new.out) self.old.pace self.new.pace (Offered when kind (said event.entry) ∷ []) }
+        ensures logged { Logged (W.contents self.old.out.out) (W.contents self.new.out.out) self.old.pace self.new.pace
+            (Offered when kind (said event.entry) ∷ []) }
         ensures events { AreKept self.old.events.events.items self.new.events.events.items }
+        ensures lines { (s : LogState) → HasState self.old.pace s
+            → HasKeptOf s (Offered when kind (said event.entry)) self.old.events.events.items self.new.events.events.items }
+        ensures grows { self.old.out.refused ≤ self.new.out.refused }
+        ensures given { (s : LogState) → HasState self.old.pace s → self.new.out.given ≡ given_by s (Offered when kind (said event.entry)) self.old.out.given }
     {
         let allowed = self.pace.shares.line(kind, when.moment);
         self.append_left_out(when, allowed.left_out);
@@ -294,46 +254,68 @@ impl<W: Write + Drop> LogWriter<W> {
     /// Writes the line of an event whether its second has room or not. For events that happen once in a run, or at most
     /// twice a second.
     pub fn append_always(&mut self, when: When, event: LogEvent<'_>)
-        ensures logged { Logged (W.contents self.old.out) (W.contents self.new.out) self.old.pace self.new.pace (Always when (said event.entry) ∷ []) }
+        ensures logged { Logged (W.contents self.old.out.out) (W.contents self.new.out.out) self.old.pace self.new.pace (Always when (said event.entry) ∷ []) }
         ensures events { AreKept self.old.events.events.items self.new.events.events.items }
+        ensures lines { (s : LogState) → HasState self.old.pace s
+            → HasKeptOf s (Always when (said event.entry)) self.old.events.events.items self.new.events.events.items }
+        ensures grows { self.old.out.refused ≤ self.new.out.refused }
+        ensures given { (s : LogState) → HasState self.old.pace s → self.new.out.given ≡ given_by s (Always when (said event.entry)) self.old.out.given }
     {
         self.end_second(when);
-        self.write(when, event, 1);
+        self.write(when, event);
     }
 
     /// Writes how many lines the last second left out, once, after its end.
     pub fn end_second(&mut self, when: When)
-        ensures logged { Logged (W.contents self.old.out) (W.contents self.new.out) self.old.pace self.new.pace (Polled when ∷ []) }
+        ensures logged { Logged (W.contents self.old.out.out) (W.contents self.new.out.out) self.old.pace self.new.pace (Polled when ∷ []) }
         ensures events { AreKept self.old.events.events.items self.new.events.events.items }
+        ensures lines { (s : LogState) → HasState self.old.pace s → HasKeptOf s (Polled when) self.old.events.events.items self.new.events.events.items }
+        ensures grows { self.old.out.refused ≤ self.new.out.refused }
+        ensures given { (s : LogState) → HasState self.old.pace s → self.new.out.given ≡ given_by s (Polled when) self.old.out.given }
     {
         let count = self.pace.shares.poll(when.moment);
         let missed = self.pace.missed_by(when.moment);
         self.append_left_out(when, count.saturating_add(missed));
     }
 
-    /// Lets the writer write what waits in it, and then writes how many lines it had no room for, if some were and there
-    /// is room again. Returns whether all is out: nothing waits in the writer, and it has had no line without room since the
-    /// last such number.
-    pub fn catch_up(&mut self, when: When) -> bool
-        ensures logged { Logged (W.contents self.old.out) (W.contents self.new.out) self.old.pace self.new.pace [] }
-        ensures told { result ≡ true → (self.old.refused ≡ 0) × (self.new.refused ≡ 0) }
-        ensures refused { HasRefused 0 self.new.refused self.old.refused }
-        ensures kept { HasKeptIf (nat_lt 0 self.old.refused) self.old.events.events.items self.new.events.events.items when.moment true
-            (put [] (event_text (LeftOut self.old.refused))) }
+    // Lets the writer write what waits in it, and then writes how many lines it had no room for, if some were and there
+    // is room again. Returns whether all is out: nothing waits in the writer, and it has had no line without room since the
+    // last such number.
+    fn catch_up(&mut self, when: When) -> bool
+        ensures logged { Logged (W.contents self.old.out.out) (W.contents self.new.out.out) self.old.pace self.new.pace [] }
+        ensures told { result ≡ true → (self.old.out.refused ≡ 0) × (self.new.out.refused ≡ 0) }
+        ensures refused { HasRefused 0 self.new.out.refused self.old.out.refused }
+        ensures given { self.new.out.given ≡ given_some self.old.out.refused self.old.out.given }
+        ensures flushes { self.new.out.flushes ≡ most (self.old.out.flushes + 1) }
+        ensures kept { HasKeptIf (nat_lt 0 self.old.out.refused) self.old.events.events.items self.new.events.events.items when.moment true
+            (put [] (event_text (LeftOut self.old.out.refused))) }
     {
-        let is_flushed = self.out.flush().is_ok();
-        let count = mem::replace(&mut self.refused, 0);
+        let is_flushed = self.out.flush();
+        let count = self.out.take_refused();
         self.append_left_out(when, count);
         is_flushed && count == 0
+    }
+
+    /// Lets the writer write what waits in it, and then writes how many lines it had no room for, if some were. In each turn.
+    pub fn look(&mut self, when: When)
+        ensures logged { Logged (W.contents self.old.out.out) (W.contents self.new.out.out) self.old.pace self.new.pace (Looked ∷ []) }
+        ensures refused { HasRefused 0 self.new.out.refused self.old.out.refused }
+        ensures given { self.new.out.given ≡ given_some self.old.out.refused self.old.out.given }
+        ensures flushes { self.new.out.flushes ≡ most (self.old.out.flushes + 1) }
+        ensures kept { HasKeptIf (nat_lt 0 self.old.out.refused) self.old.events.events.items self.new.events.events.items when.moment true
+            (put [] (event_text (LeftOut self.old.out.refused))) }
+    {
+        self.catch_up(when);
+        self.pace.looks = self.pace.looks.saturating_add(1);
     }
 
     /// Rests until all is out, or until the time `ends` of the routes' clock.
     #[tactic(auto, using(crate::proofs::Logging::logged_nothing, crate::proofs::Logging::logged_no_more, crate::proofs::Kept::same, crate::proofs::Kept::more))]
     pub fn drain<M: Machine>(&mut self, machine: &mut M, when: When, ends: u64) -> Drained
-        ensures logged { Logged (W.contents self.old.out) (W.contents self.new.out) self.old.pace self.new.pace [] }
+        ensures logged { Logged (W.contents self.old.out.out) (W.contents self.new.out.out) self.old.pace self.new.pace [] }
         ensures events { AreKept self.old.events.events.items self.new.events.events.items }
         ensures machine { M.says machine.new ≡ M.says machine.old }
-        ensures drained { IsDrained M.facts ends self.new.refused result }
+        ensures drained { IsDrained M.facts ends self.new.out.refused result }
     {
         let mut rests = 0u32;
         while rests < MAX_RESTS {
@@ -352,8 +334,11 @@ impl<W: Write + Drop> LogWriter<W> {
 
     /// Writes how many lines the current second has left out so far, at the end of the log.
     pub fn end(&mut self, when: When)
-        ensures logged { Logged (W.contents self.old.out) (W.contents self.new.out) self.old.pace self.new.pace (Closed when ∷ []) }
+        ensures logged { Logged (W.contents self.old.out.out) (W.contents self.new.out.out) self.old.pace self.new.pace (Closed when ∷ []) }
         ensures events { AreKept self.old.events.events.items self.new.events.events.items }
+        ensures lines { (s : LogState) → HasState self.old.pace s → HasKeptOf s (Closed when) self.old.events.events.items self.new.events.events.items }
+        ensures grows { self.old.out.refused ≤ self.new.out.refused }
+        ensures given { (s : LogState) → HasState self.old.pace s → self.new.out.given ≡ given_by s (Closed when) self.old.out.given }
     {
         self.end_second(when);
         let missed = mem::replace(&mut self.pace.missed, 0);
@@ -364,11 +349,11 @@ impl<W: Write + Drop> LogWriter<W> {
     /// Ends the log: writes how many lines the current second has left out so far, then, once what waits is out, the last
     /// line, and rests until that is out too; for a second at most. Returns how that wait ended.
     pub fn close<M: Machine>(&mut self, machine: &mut M, when: When) -> Drained
-        ensures logged { Logged (W.contents self.old.out) (W.contents self.new.out) self.old.pace self.new.pace
+        ensures logged { Logged (W.contents self.old.out.out) (W.contents self.new.out.out) self.old.pace self.new.pace
             (Closed when ∷ Always when (said Stopped) ∷ []) }
         ensures events { AreKept self.old.events.events.items self.new.events.events.items }
         ensures machine { M.says machine.new ≡ M.says machine.old }
-        ensures drained { IsDrained M.facts (most (when.moment + 1_000_000)) self.new.refused result }
+        ensures drained { IsDrained M.facts (most (when.moment + 1_000_000)) self.new.out.refused result }
     {
         let ends = when.moment.saturating_add(SECOND);
         self.end(when);
@@ -380,9 +365,14 @@ impl<W: Write + Drop> LogWriter<W> {
 
 #[cfg(test)]
 impl LogWriter<Vec<u8>> {
+    /// Returns what was written.
+    pub(crate) fn written(&self) -> &[u8] {
+        self.out.out.as_slice()
+    }
+
     /// Forgets what was written.
     pub(crate) fn clear(&mut self) {
-        self.out.clear();
+        self.out.out.clear();
     }
 }
 

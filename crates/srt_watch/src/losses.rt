@@ -53,7 +53,7 @@ impl Losses {
 
     // Writes how many faults the socket had since the last such line, if it had any.
     fn log_faults<W: Write + Drop>(&mut self, log: &mut LogWriter<W>, when: When)
-        ensures logged { Logged (W.contents log.old.out) (W.contents log.new.out) log.old.pace log.new.pace (fault_calls self.old when) }
+        ensures logged { Logged (W.contents log.old.out.out) (W.contents log.new.out.out) log.old.pace log.new.pace (fault_calls self.old when) }
         ensures new { self.new ≡ after_faults self.old }
     {
         let count = self.faults.saturating_sub(self.logged_faults);
@@ -65,7 +65,7 @@ impl Losses {
 
     // Writes how many datagrams the kernel dropped since the last such line, if it dropped any.
     fn log_drops<W: Write + Drop>(&mut self, log: &mut LogWriter<W>, when: When, drops: Option<u64>)
-        ensures logged { Logged (W.contents log.old.out) (W.contents log.new.out) log.old.pace log.new.pace (drop_calls self.old when drops) }
+        ensures logged { Logged (W.contents log.old.out.out) (W.contents log.new.out.out) log.old.pace log.new.pace (drop_calls self.old when drops) }
         ensures new { self.new ≡ after_drops self.old drops }
     {
         let drops = drops.unwrap_or(self.logged_drops);
@@ -85,7 +85,7 @@ impl Losses {
         when: When,
         drops: Option<u64>,
     )
-        ensures logged { Logged (W.contents log.old.out) (W.contents log.new.out) log.old.pace log.new.pace (loss_calls self.old when drops) }
+        ensures logged { Logged (W.contents log.old.out.out) (W.contents log.new.out.out) log.old.pace log.new.pace (loss_calls self.old when drops) }
         ensures new { self.new ≡ after_losses self.old drops }
     {
         self.log_faults(log, when);

@@ -1,5 +1,7 @@
 //! The machine that a watcher runs on.
 
+use srt_status::ProcessUse;
+
 /// Clocks, signals and counters of the machine.
 pub trait Machine {
     ghost use Rattle.std.specs.Prelude.{◌≡◌, true, Option, None, IfSome};
@@ -40,4 +42,12 @@ pub trait Machine {
     /// Returns the number of datagrams so far that the kernel dropped at the gateway's socket; `None` if that isn't known.
     fn drops(&self) -> Option<u64>
         ensures { IfSome (says self.now) (λ s. result ≡ s.drops) };
+
+    /// Returns what the process uses besides its memory.
+    fn process(&self) -> ProcessUse
+        ensures { IfSome (says self.now) (λ s. result ≡ s.process) };
+
+    /// Returns the bytes that the kernel holds for datagrams at the gateway's socket before it drops any; `None` if that isn't known.
+    fn receive_buffer(&self) -> Option<u64>
+        ensures { IfSome (says self.now) (λ s. result ≡ s.receive_buffer) };
 }

@@ -40,6 +40,10 @@ pub(crate) struct Overview {
     pub drops: Option<u64>,
     /// The memory of the process, in bytes; `None` if that isn't known.
     pub memory: Option<u64>,
+    /// What the process uses besides.
+    pub process: ProcessUse,
+    /// The bytes that the kernel holds for datagrams before it drops any; `None` if that isn't known.
+    pub receive_buffer: Option<u64>,
     // the refusals of the lobby
     refused: RefusalCounts,
     causes: CauseCounts,
@@ -54,6 +58,8 @@ impl Overview {
         Overview {
             drops: None,
             memory: None,
+            process: ProcessUse::default(),
+            receive_buffer: None,
             refused: RefusalCounts::default(),
             causes: CauseCounts::default(),
             poller: PollerReport {
@@ -101,8 +107,8 @@ impl Overview {
             changes,
             kernel_drops: self.drops,
             resident_bytes: self.memory,
-            process: ProcessUse::default(),
-            receive_buffer_bytes: None,
+            process: self.process,
+            receive_buffer_bytes: self.receive_buffer,
         }
     }
 }

@@ -2,10 +2,10 @@
 
 ghost use Rattle.std.specs.Prelude.{◌≡◌};
 ghost use Rattle.srt_route.specs.Ledgers.{opened_in};
-ghost use Rattle.srt_watch.specs.Showing.{AreShown, AreSlots, first_snapshot};
+ghost use Rattle.srt_watch.specs.Showing.{AreShown, AreSlots, AreEnds, first_snapshot};
 
 use srt_log::{RouteSnapshot, SlotSession, slot_of};
-use srt_route::{Route, SessionView};
+use srt_route::{EndedSession, Route, SessionView};
 use srt_types::product_limits::MAX_SESSIONS;
 
 /// Returns the open sessions of a route, by their slots.
@@ -35,6 +35,18 @@ fn slots_of(
     slots
 }
 
+// Returns the session that ended last in each slot, also where another one is open now.
+#[tactic(auto, using(crate::proofs::ShownSlots::no_ends, crate::proofs::ShownSlots::next_end))]
+fn ends_of(route: &Route) -> [Option<EndedSession>; MAX_SESSIONS]
+    ensures { AreEnds 17 route.now result }
+{
+    let mut ends = [None; MAX_SESSIONS];
+    for slot in 0..MAX_SESSIONS {
+        ends[slot] = route.ended(slot);
+    }
+    ends
+}
+
 /// Returns a snapshot of a route, whose open sessions are these, at this time in microseconds. `stops`: the gateway is
 /// about to end.
 pub(crate) fn snapshot_of(
@@ -46,12 +58,14 @@ pub(crate) fn snapshot_of(
     ensures moment { result.moment ≡ moment }
     ensures stops { result.stops ≡ stops }
     ensures slots { AreSlots 17 route.now sessions.now result.slots }
+    ensures ended { AreEnds 17 route.now result.ended }
     ensures opened { result.opened ≡ opened_in route.now }
 {
     RouteSnapshot {
         moment,
         stops,
         slots: slots_of(route, sessions),
+        ended: ends_of(route),
         opened: route.opened(),
     }
 }
@@ -64,6 +78,7 @@ pub(crate) fn first_snapshot() -> RouteSnapshot
         moment: 0,
         stops: false,
         slots: [None; MAX_SESSIONS],
+        ended: [None; MAX_SESSIONS],
         opened: 0,
     }
 }

@@ -1,6 +1,6 @@
 //! The course of a run on its machine: by what it stops, and the order of the poller that follows.
 
-ghost use Rattle.std.specs.Prelude.{◌≡◌, true};
+ghost use Rattle.std.specs.Prelude.{◌≡◌, true, None};
 ghost use Rattle.std.specs.Option.{ForSome};
 ghost use Rattle.srt_supervision.specs.Answers.{IsOrdered};
 ghost use Rattle.srt_watch.specs.Answers.{IsSteered, IsAnswer};
@@ -42,7 +42,8 @@ impl<M: Machine> Steering<M> {
     /// Begins the run at this moment, unless it has begun.
     pub(crate) fn begin(&mut self, moment: u64)
         requires { M.facts.was_moment moment }
-        ensures { self.new.course ≡ begun self.old.course moment self.old.lasts }
+        ensures course { self.new.course ≡ begun self.old.course moment self.old.lasts }
+        ensures lasts { self.new.lasts ≡ None }
     {
         if let Some(lasts) = self.lasts.take() {
             self.course.end_after(moment, lasts);
@@ -53,6 +54,7 @@ impl<M: Machine> Steering<M> {
     pub(crate) fn is_snapshot_due(&mut self, moment: u64) -> bool
         ensures result { result ≡ is_due self.old.course moment }
         ensures new { self.new.course ≡ after_due self.old.course moment }
+        ensures lasts { self.new.lasts ≡ self.old.lasts }
     {
         self.course.is_snapshot_due(moment)
     }
@@ -71,6 +73,7 @@ impl<M: Machine> Steering<M> {
         requires moment { M.facts.was_moment moment }
         ensures result { result ≡ stop_of self.old.course requested moment }
         ensures new { self.new.course ≡ after_stop self.old.course requested moment }
+        ensures lasts { self.new.lasts ≡ self.old.lasts }
     {
         self.course.stop(requested, moment)
     }

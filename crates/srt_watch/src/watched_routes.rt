@@ -12,7 +12,8 @@ ghost use Rattle.srt_watch.specs.Expecting.{is_expected, expecting, all_expectin
 ghost use Rattle.srt_watch.specs.Log.{most};
 ghost use Rattle.srt_watch.specs.FirstRoutes.{HasShownMore, HasOpened};
 ghost use Rattle.srt_watch.specs.Openings.{fresh_status, IsOpening};
-ghost use Rattle.srt_watch.specs.Observing.{status_place, status_at, with_snapshot, with_take_overs, changed_if, grown_of, HasObserved};
+ghost use Rattle.srt_watch.specs.Observing.{status_place, status_at, with_snapshot, with_take_overs, with_ends, changed_if, grown_of, HasObserved};
+ghost use Rattle.srt_watch.specs.RouteLines.{ends_to};
 ghost use Rattle.srt_watch.specs.Placing.{unplaced, placed, all_placed, added, added_by, rest_by, opened_routes, status_by, kept_by, next_statuses};
 ghost use Rattle.srt_watch.specs.Placing.{IsKnown, AreKnown, IsRouted};
 ghost use Rattle.srt_watch.specs.Holding.{is_open, has_sessions, is_used_at, first_used};
@@ -20,11 +21,12 @@ ghost use Rattle.srt_watch.specs.Routes.{used_of, has_index, is_of, place_of, ro
 
 use crate::census::{grown_limits, limits_of, look_at, note_route};
 use crate::indexes::index_at;
+use crate::route_lines::ends_after;
 use crate::showing::{first_snapshot, sessions_of, snapshot_of};
 use srt_config::RouteChange;
 use srt_log::{RouteSnapshot, SlotSession};
 use srt_route::{Route, SessionView, Totals};
-use srt_status::{LimitCounts, RefusalCounts, RouteHistory, RouteStatus, expected_if};
+use srt_status::{EndCounts, LimitCounts, RefusalCounts, RouteHistory, RouteStatus, expected_if};
 use srt_sub::Sendings;
 use srt_types::product_limits::MAX_SESSIONS;
 use srt_types::{Entry, Mode};
@@ -157,7 +159,7 @@ fn empty_status(alloc: Global, mode: Mode, sessions: u32) -> RouteStatus
         refused: RefusalCounts::default(),
         limits: None,
         take_overs: Some(0),
-        ends: None,
+        ends: Some(EndCounts::default()),
         expectation: None,
         history: RouteHistory::new(),
     }
@@ -185,7 +187,7 @@ impl OpeningRoute {
 }
 
 impl WatchedRoutes {
-    /// Returns the routes of these entries, with the indexes from 0 on. Allocates 9 KB for each; the only error is out of
+    /// Returns the routes of these entries, with the indexes from 0 on. Allocates 13 KB for each; the only error is out of
     /// memory.
     #[tactic(auto, using(crate::proofs::BeginningRoutes::opened_none, crate::proofs::BeginningRoutes::opened_next))]
     pub(crate) fn open(alloc: Global, entries: &[Entry]) -> Result<WatchedRoutes, AllocError>
@@ -329,6 +331,15 @@ impl WatchedRoutes {
     {
         let place = self.status_place(index);
         add_take_overs(&mut self.shown, place, more);
+    }
+
+    /// Counts the ends between two snapshots of the route with this index, by their reasons.
+    pub(crate) fn count_ends(&mut self, index: usize, pair: &SnapshotPair)
+        ensures routes { self.new.routes ≡ self.old.routes }
+        ensures shown { self.new.shown.items ≡ changed_if (with_ends pair.now) self.old.shown.items (status_place self.old index) }
+    {
+        let place = self.status_place(index);
+        add_ends(&mut self.shown, place, pair);
     }
 
     /// Expects the routes to be on air that a configuration expects so. `expected` has that of each route that is shown, in its order;
@@ -579,6 +590,29 @@ fn add_take_overs(shown: &mut Vec<RouteStatus>, place: Option<usize>, more: u64)
         return;
     }
     shown[place].take_overs = more_take_overs(shown[place].take_overs, more);
+}
+
+// Returns the counts of ends after those between two snapshots.
+fn more_ends(ends: Option<EndCounts>, pair: &SnapshotPair) -> Option<EndCounts>
+    ensures { result ≡ option_map (λ counts. ends_to counts pair.now.old pair.now.new 120) ends }
+{
+    match ends {
+        Some(counts) => Some(ends_after(counts, pair)),
+        None => None,
+    }
+}
+
+// Counts the ends between two snapshots in the status at a place, if one is there.
+fn add_ends(shown: &mut Vec<RouteStatus>, place: Option<usize>, pair: &SnapshotPair)
+    ensures { shown.new.items ≡ changed_if (with_ends pair.now) shown.old.items place }
+{
+    let Some(place) = place else {
+        return;
+    };
+    if place >= shown.len() {
+        return;
+    }
+    shown[place].ends = more_ends(shown[place].ends, pair);
 }
 
 // Takes the places of all routes away.

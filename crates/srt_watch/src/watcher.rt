@@ -15,11 +15,12 @@ ghost use Rattle.srt_watch.specs.Polls.{first_polling};
 ghost use Rattle.srt_watch.specs.Requests.{config_of, first_indexes};
 ghost use Rattle.srt_watch.specs.Routes.{name_of, requested_by, used_of};
 ghost use Rattle.srt_watch.specs.FirstLines.{HasWarned};
-ghost use Rattle.srt_watch.specs.Turns.{ShowedAt, HasBegun, HasLost, HasTurned, HasLooked, HasEnded, rounds_unless, pair_calls, HasShown};
+ghost use Rattle.srt_watch.specs.Turns.{ShowedAt, HasBegun, HasLost, HasUse, HasTurned, HasLooked, HasEnded, rounds_unless, pair_calls, HasShown};
 ghost use Rattle.srt_watch.specs.Pages.{ShowedPage, ShowedTwice};
 ghost use Rattle.srt_watch.specs.Stopping.{order_of, stop_step};
 ghost use Rattle.srt_supervision.specs.Answers.{Answer as TheAnswer, IsOrdered};
-ghost use Rattle.srt_watch.specs.Watching.{refused_call, stop_calls, CheckedStop};
+ghost use Rattle.srt_watch.specs.Watching.{stop_calls, CheckedStop};
+ghost use Rattle.srt_watch.specs.Repeating.{known_by, known_after, refused_calls};
 
 use crate::change_log::ChangeLog;
 use crate::config_file::ConfigFile;
@@ -31,11 +32,12 @@ use crate::machine::Machine;
 use crate::overview::Overview;
 use crate::page::Page;
 use crate::page_interface::StatusServer;
+use crate::refusals::{log_refused, log_repeats};
 use crate::route_lines::{RouteLog, log_absence, log_changes, log_limits, take_overs};
 use crate::steering::Steering;
 use crate::watched_routes::{SnapshotPair, WatchedRoutes};
 use srt_config::Config;
-use srt_log::{LineKind, LogEvent, StopCause};
+use srt_log::{LogEvent, RefusalRepeats, StopCause};
 use srt_route::Route;
 use srt_supervision::{Answers, ChangeRoutes, Order, Refusal, RunStatus, Watch};
 use srt_types::Entry;
@@ -54,26 +56,10 @@ fn requested_name<'v>(routes: &'v WatchedRoutes, refusal: &'v Refusal) -> &'v [u
     }
 }
 
-// Writes the line of a refused conclusion, which requested this name, if its second has room.
-fn log_refused<W: Write + Drop>(log: &mut LogWriter<W>, when: When, name: &[u8], refusal: &Refusal)
-    ensures { Logged (W.contents log.old.out) (W.contents log.new.out) log.old.pace log.new.pace (refused_call when name.now refusal.now ∷ []) }
-{
-    log.append(
-        when,
-        LineKind::Refusal,
-        LogEvent::Refused {
-            code: refusal.code,
-            peer: refusal.peer,
-            name,
-            by: refusal.cause,
-        },
-    );
-}
-
 // Writes why a stop was requested, if it was.
 #[tactic(auto, using(crate::proofs::Logging::logged_nothing))]
 fn log_stop<W: Write + Drop>(log: &mut LogWriter<W>, when: When, by: Option<StopCause>)
-    ensures { Logged (W.contents log.old.out) (W.contents log.new.out) log.old.pace log.new.pace (stop_calls when by) }
+    ensures { Logged (W.contents log.old.out.out) (W.contents log.new.out.out) log.old.pace log.new.pace (stop_calls when by) }
 {
     if let Some(by) = by {
         log.append_always(when, LogEvent::StopRequested { by });
@@ -99,8 +85,9 @@ fn check_stop<M: Machine, W: Write + Drop>(
     when: When,
 )
     requires { M.facts.was_moment when.moment }
-    ensures { CheckedStop (M.says machine.now) steering.old.course steering.new.course (W.contents log.old.out) (W.contents log.new.out)
+    ensures checked { CheckedStop (M.says machine.now) steering.old.course steering.new.course (W.contents log.old.out.out) (W.contents log.new.out.out)
         log.old.pace log.new.pace when }
+    ensures lasts { steering.new.lasts ≡ steering.old.lasts }
 {
     let requested = machine.stop_requested();
     let by = steering.stop(requested, when.moment);
@@ -116,7 +103,8 @@ fn log_first<M: Machine, W: Write + Drop>(
     routes: usize,
 )
     ensures start { first_lines.new.start ≡ None }
-    ensures logged { HasBegun (M.says machine.now) first_lines.old (W.contents log.old.out) (W.contents log.new.out) log.old.pace log.new.pace when routes }
+    ensures logged { HasBegun (M.says machine.now) first_lines.old (W.contents log.old.out.out) (W.contents log.new.out.out)
+        log.old.pace log.new.pace when routes }
 {
     let routes = u32::try_from(routes).unwrap_or(u32::MAX);
     let memory = machine.memory().unwrap_or(0);
@@ -131,7 +119,7 @@ fn log_drops<M: Machine, W: Write + Drop>(
     log: &mut LogWriter<W>,
     when: When,
 )
-    ensures { HasLost (M.says machine.now) overview.old overview.new losses.old losses.new (W.contents log.old.out) (W.contents log.new.out)
+    ensures { HasLost (M.says machine.now) overview.old overview.new losses.old losses.new (W.contents log.old.out.out) (W.contents log.new.out.out)
         log.old.pace log.new.pace when }
 {
     let drops = machine.drops();
@@ -139,9 +127,18 @@ fn log_drops<M: Machine, W: Write + Drop>(
     losses.log(log, when, drops);
 }
 
+// Reads what the process uses, and the size of the socket's buffer.
+fn read_use<M: Machine>(machine: &M, overview: &mut Overview)
+    ensures { HasUse (M.says machine.now) overview.old overview.new }
+{
+    overview.memory = machine.memory();
+    overview.process = machine.process();
+    overview.receive_buffer = machine.receive_buffer();
+}
+
 // Writes the lines of two snapshots of the route with this name.
 fn log_pair<W: Write + Drop>(log: &mut LogWriter<W>, when: When, name: &[u8], pair: &SnapshotPair)
-    ensures { Logged (W.contents log.old.out) (W.contents log.new.out) log.old.pace log.new.pace (pair_calls when name.entry pair.now) }
+    ensures { Logged (W.contents log.old.out.out) (W.contents log.new.out.out) log.old.pace log.new.pace (pair_calls when name.entry pair.now) }
 {
     log_changes(log, RouteLog { name, when }, pair);
     log_limits(log, when, name, pair.grown);
@@ -158,13 +155,14 @@ fn show<W: Write + Drop>(
     index: usize,
     route: &Route,
 )
-    ensures { HasShown routes.old routes.new index route.now stops (W.contents log.old.out) (W.contents log.new.out) log.old.pace log.new.pace when }
+    ensures { HasShown routes.old routes.new index route.now stops (W.contents log.old.out.out) (W.contents log.new.out.out) log.old.pace log.new.pace when }
 {
     let Some(pair) = routes.observe(index, route, when.moment, stops) else {
         return;
     };
     log_pair(log, when, routes.name_of(index).as_bytes(), &pair);
     routes.count_take_overs(index, take_overs(&pair));
+    routes.count_ends(index, &pair);
 }
 
 /// Where a watcher writes its log, and where it shows the status.
@@ -190,6 +188,8 @@ pub struct Watcher<'a, M: Machine + Drop, W: Drop, P: Drop, F: ConfigFile + Drop
     changes: ChangeLog<W>,
     first_lines: FirstLines,
     losses: Losses,
+    // the callers that were refused
+    repeats: RefusalRepeats,
     page: Page<P>,
     // the gateway as a whole, and the routes of the run, at the last snapshot
     overview: Overview,
@@ -206,7 +206,7 @@ where
     F: ConfigFile + Drop,
 {
     /// Returns a watcher of the routes of these entries, which have the indexes from 0 on in their order. It writes its lines
-    /// and shows the status at these outlets. Allocates 9 KB for each route; the only error is out of memory.
+    /// and shows the status at these outlets. Allocates 13 KB for each route; the only error is out of memory.
     pub fn open(
         alloc: Global,
         machine: M,
@@ -217,11 +217,11 @@ where
         requires { ForSome start.lasts M.facts.was_lasting }
         ensures parts { IfOk result (λ w. (w.machine ≡ machine) × (w.form ≡ outlets.form) × (w.page.server ≡ outlets.page)
             × (w.page.version ≡ start.version) × (w.first_lines.start ≡ Some start) × (w.first_lines.warnings.items ≡ [])
-            × (w.changes.log.out ≡ outlets.log) × (is_some w.following ≡ false)) }
+            × (w.changes.log.out.out ≡ outlets.log) × (is_some w.following ≡ false)) }
         ensures routes { IfOk result (λ w. HasOpened (map terms_of entries.now) w.routes) }
         ensures begins { IfOk result (λ w. (w.steering.lasts ≡ start.lasts) × (w.steering.course ≡ first_course) × (w.losses ≡ no_losses)
-            × (w.overview ≡ no_overview) × (w.changes.counts ≡ no_changes) × (w.changes.log.pace.is_whole ≡ true)
-            × HasState w.changes.log.pace (record { calls = []; missed = 0; second = 0 })) }
+            × (w.overview ≡ no_overview) × (known_by w.repeats ≡ []) × (w.changes.counts ≡ no_changes) × (w.changes.log.pace.is_whole ≡ true)
+            × HasState w.changes.log.pace (record { calls = []; missed = 0; second = 0; looks = 0 })) }
     {
         let routes = WatchedRoutes::open(alloc, entries)?;
         let Outlets { log, form, page } = outlets;
@@ -233,6 +233,7 @@ where
             changes: ChangeLog::new(alloc, log),
             first_lines: FirstLines::new(alloc, start),
             losses: Losses::none(),
+            repeats: RefusalRepeats::new(),
             page: Page::new(page, start.version),
             overview: Overview::new(),
             routes,
@@ -250,7 +251,7 @@ where
         ensures others { (self.new.machine ≡ self.old.machine) × (self.new.steering ≡ self.old.steering) × (self.new.losses ≡ self.old.losses)
             × (self.new.overview ≡ self.old.overview) × (self.new.first_lines ≡ self.old.first_lines) }
         ensures kept { (self.new.routes ≡ self.old.routes) × (self.new.form ≡ self.old.form) × (self.new.changes ≡ self.old.changes)
-            × (self.new.page ≡ self.old.page) }
+            × (self.new.page ≡ self.old.page) × (self.new.repeats ≡ self.old.repeats) }
     {
         let following = Following::new(self.alloc, config, file)?;
         mem::drop(self.following.replace(following));
@@ -264,7 +265,7 @@ where
         ensures others { (self.new.machine ≡ self.old.machine) × (self.new.steering ≡ self.old.steering) × (self.new.losses ≡ self.old.losses)
             × (self.new.overview ≡ self.old.overview) × (self.new.first_lines ≡ self.old.first_lines) }
         ensures kept { (self.new.following ≡ self.old.following) × (self.new.form ≡ self.old.form) × (self.new.changes ≡ self.old.changes)
-            × (self.new.page ≡ self.old.page) }
+            × (self.new.page ≡ self.old.page) × (self.new.repeats ≡ self.old.repeats) }
     {
         self.routes.expect(expected);
     }
@@ -284,7 +285,7 @@ where
         ensures others { (self.new.machine ≡ self.old.machine) × (self.new.steering ≡ self.old.steering) × (self.new.losses ≡ self.old.losses)
             × (self.new.overview ≡ self.old.overview) }
         ensures kept { (self.new.routes ≡ self.old.routes) × (self.new.following ≡ self.old.following) × (self.new.form ≡ self.old.form)
-            × (self.new.changes ≡ self.old.changes) × (self.new.page ≡ self.old.page) }
+            × (self.new.changes ≡ self.old.changes) × (self.new.page ≡ self.old.page) × (self.new.repeats ≡ self.old.repeats) }
     {
         self.first_lines.warn(warning)
     }
@@ -293,13 +294,14 @@ where
     fn begin(&mut self, when: When)
         requires { M.facts.was_moment when.moment }
         ensures course { self.new.steering.course ≡ begun self.old.steering.course when.moment self.old.steering.lasts }
+        ensures lasts { self.new.steering.lasts ≡ None }
         ensures machine { M.says self.new.machine ≡ M.says self.old.machine }
         ensures others { (self.new.overview ≡ self.old.overview) × (self.new.losses ≡ self.old.losses) }
         ensures start { self.new.first_lines.start ≡ None }
-        ensures logged { HasBegun (M.says self.old.machine) self.old.first_lines (W.contents self.old.changes.log.out) (W.contents self.new.changes.log.out)
-            self.old.changes.log.pace self.new.changes.log.pace when (length self.old.routes.shown.items) }
+        ensures logged { HasBegun (M.says self.old.machine) self.old.first_lines (W.contents self.old.changes.log.out.out)
+            (W.contents self.new.changes.log.out.out) self.old.changes.log.pace self.new.changes.log.pace when (length self.old.routes.shown.items) }
         ensures kept { (self.new.routes ≡ self.old.routes) × (self.new.following ≡ self.old.following) × (self.new.form ≡ self.old.form)
-            × (self.new.changes.counts ≡ self.old.changes.counts) × (self.new.page ≡ self.old.page) }
+            × (self.new.changes.counts ≡ self.old.changes.counts) × (self.new.page ≡ self.old.page) × (self.new.repeats ≡ self.old.repeats) }
     {
         log_first(
             &self.machine,
@@ -317,10 +319,11 @@ where
         ensures losses { self.new.losses ≡ with_faults (with_missed self.old.losses status.missed) status.faults }
         ensures machine { M.says self.new.machine ≡ M.says self.old.machine }
         ensures others { (self.new.steering ≡ self.old.steering) × (self.new.first_lines ≡ self.old.first_lines) }
-        ensures logged { Logged (W.contents self.old.changes.log.out) (W.contents self.new.changes.log.out) self.old.changes.log.pace self.new.changes.log.pace
+        ensures logged { Logged (W.contents self.old.changes.log.out.out) (W.contents self.new.changes.log.out.out)
+            self.old.changes.log.pace self.new.changes.log.pace
             (Missed (more_missed self.old.losses status.missed) ∷ []) }
         ensures kept { (self.new.routes ≡ self.old.routes) × (self.new.following ≡ self.old.following) × (self.new.form ≡ self.old.form)
-            × (self.new.changes.counts ≡ self.old.changes.counts) × (self.new.page ≡ self.old.page) }
+            × (self.new.changes.counts ≡ self.old.changes.counts) × (self.new.page ≡ self.old.page) × (self.new.repeats ≡ self.old.repeats) }
     {
         self.overview.note_poller(moment, status);
         self.changes
@@ -334,9 +337,9 @@ where
         ensures others { (self.new.steering ≡ self.old.steering) × (self.new.first_lines ≡ self.old.first_lines) }
         ensures machine { M.says self.new.machine ≡ M.says self.old.machine }
         ensures kept { (self.new.routes ≡ self.old.routes) × (self.new.following ≡ self.old.following) × (self.new.form ≡ self.old.form)
-            × (self.new.changes.counts ≡ self.old.changes.counts) × (self.new.page ≡ self.old.page) }
+            × (self.new.changes.counts ≡ self.old.changes.counts) × (self.new.page ≡ self.old.page) × (self.new.repeats ≡ self.old.repeats) }
         ensures lost { HasLost (M.says self.old.machine) self.old.overview self.new.overview self.old.losses self.new.losses
-            (W.contents self.old.changes.log.out) (W.contents self.new.changes.log.out) self.old.changes.log.pace self.new.changes.log.pace when }
+            (W.contents self.old.changes.log.out.out) (W.contents self.new.changes.log.out.out) self.old.changes.log.pace self.new.changes.log.pace when }
     {
         log_drops(
             &self.machine,
@@ -347,11 +350,15 @@ where
         );
     }
 
-    // Counts a conclusion that the lobby refused, and writes the line of one that it or a route refused.
+    // Counts a conclusion that the lobby refused, and writes the line of one that it or a route refused, or counts it as one more of its
+    // caller.
     fn note_refused(&mut self, when: When, refusal: &Refusal)
         ensures overview { self.new.overview ≡ after_refusal self.old.overview refusal.now }
-        ensures logged { Logged (W.contents self.old.changes.log.out) (W.contents self.new.changes.log.out) self.old.changes.log.pace self.new.changes.log.pace
-            (refused_call when (requested_by self.old.routes refusal.now.name.items refusal.now.route) refusal.now ∷ []) }
+        ensures logged { Logged (W.contents self.old.changes.log.out.out) (W.contents self.new.changes.log.out.out)
+            self.old.changes.log.pace self.new.changes.log.pace
+            (refused_calls (known_by self.old.repeats) when (requested_by self.old.routes refusal.now.name.items refusal.now.route) refusal.now) }
+        ensures known { known_by self.new.repeats
+            ≡ known_after (known_by self.old.repeats) when (requested_by self.old.routes refusal.now.name.items refusal.now.route) refusal.now }
         ensures others { (self.new.steering ≡ self.old.steering) × (self.new.first_lines ≡ self.old.first_lines) × (self.new.losses ≡ self.old.losses) }
         ensures kept { (self.new.routes ≡ self.old.routes) × (self.new.following ≡ self.old.following) × (self.new.form ≡ self.old.form)
             × (self.new.changes.counts ≡ self.old.changes.counts) × (self.new.page ≡ self.old.page) }
@@ -360,7 +367,13 @@ where
             self.overview.count_refusal(refusal.code, refusal.cause);
         }
         let name = requested_name(&self.routes, refusal);
-        log_refused(&mut self.changes.log, when, name, refusal);
+        log_refused(
+            &mut self.repeats,
+            &mut self.changes.log,
+            when,
+            name,
+            refusal,
+        );
     }
 
     // Makes a turn at this time: writes the first lines and what the last second left out, notes the state of the run, and
@@ -368,18 +381,19 @@ where
     fn turn(&mut self, when: When, status: RunStatus)
         requires { M.facts.was_moment when.moment }
         ensures state { (self.new.overview ≡ with_report self.old.overview when.moment status)
-            × (self.new.losses ≡ with_faults (with_missed self.old.losses status.missed) status.faults) × (self.new.first_lines.start ≡ None) }
+            × (self.new.losses ≡ with_faults (with_missed self.old.losses status.missed) status.faults) × (self.new.first_lines.start ≡ None)
+            × (self.new.steering.lasts ≡ None) }
         ensures machine { M.says self.new.machine ≡ M.says self.old.machine }
         ensures turned { HasTurned (M.says self.old.machine) self.old.first_lines self.old.losses self.old.steering.lasts self.old.steering.course
-            self.new.steering.course (W.contents self.old.changes.log.out) (W.contents self.new.changes.log.out) self.old.changes.log.pace
+            self.new.steering.course (W.contents self.old.changes.log.out.out) (W.contents self.new.changes.log.out.out) self.old.changes.log.pace
             self.new.changes.log.pace when (length self.old.routes.shown.items) status }
         ensures kept { (self.new.routes ≡ self.old.routes) × (self.new.following ≡ self.old.following) × (self.new.form ≡ self.old.form)
-            × (self.new.changes.counts ≡ self.old.changes.counts) × (self.new.page ≡ self.old.page) }
+            × (self.new.changes.counts ≡ self.old.changes.counts) × (self.new.page ≡ self.old.page) × (self.new.repeats ≡ self.old.repeats) }
     {
         self.begin(when);
         self.note_status(when.moment, status);
         self.changes.log.end_second(when);
-        self.changes.log.catch_up(when);
+        self.changes.log.look(when);
         check_stop(
             &self.machine,
             &mut self.steering,
@@ -393,7 +407,7 @@ where
         ensures others { (self.new.steering ≡ self.old.steering) × (self.new.changes ≡ self.old.changes) × (self.new.first_lines ≡ self.old.first_lines)
             × (self.new.overview ≡ self.old.overview) × (self.new.losses ≡ self.old.losses) }
         ensures kept { (self.new.routes ≡ self.old.routes) × (self.new.following ≡ self.old.following) × (self.new.form ≡ self.old.form)
-            × (self.new.page.version ≡ self.old.page.version) }
+            × (self.new.page.version ≡ self.old.page.version) × (self.new.repeats ≡ self.old.repeats) }
         ensures shown { ShowedPage M.facts (P.shown self.old.page.server) (P.shown self.new.page.server) self.old.overview self.old.changes.counts
             self.old.page.version self.old.routes.shown.items (used_of self.old.routes.routes.items) self.old.changes.log.events.events.items }
     {
@@ -410,13 +424,17 @@ where
     /// Writes the last line, after the gateway's end. If the writer holds text that it couldn't write yet, rests until that is
     /// written too, for a second at most.
     pub fn end(&mut self)
-        ensures { ShowedAt (M.says self.old.machine) self.old.form (HasEnded (M.says self.old.machine) (is_stopping self.old.steering.course) self.old.losses
-            (W.contents self.old.changes.log.out) (W.contents self.new.changes.log.out) self.old.changes.log.pace self.new.changes.log.pace) }
+        ensures kept { (self.new.routes ≡ self.old.routes) × (self.new.following ≡ self.old.following) × (self.new.form ≡ self.old.form)
+            × (self.new.changes.counts ≡ self.old.changes.counts) × (self.new.page ≡ self.old.page) }
+        ensures ended { ShowedAt (M.says self.old.machine) self.old.form (HasEnded (M.says self.old.machine) (is_stopping self.old.steering.course)
+            self.old.losses (known_by self.old.repeats) (W.contents self.old.changes.log.out.out) (W.contents self.new.changes.log.out.out)
+            self.old.changes.log.pace self.new.changes.log.pace) }
     {
         let when = When::now(&mut self.machine, self.form);
         let by = rounds_unless(self.steering.is_stopping());
         log_stop(&mut self.changes.log, when, by);
         self.log_losses(when);
+        log_repeats(&mut self.repeats, &mut self.changes.log, when, u64::MAX);
         self.changes.log.close(&mut self.machine, when);
     }
 }
@@ -441,13 +459,14 @@ where
             × (self.new.first_lines.start ≡ None)
             × (result ≡ order_of (stop_step self.new.steering.course.requested_at when.moment status.is_quiet))
             × HasTurned (M.says self.old.machine) self.old.first_lines self.old.losses self.old.steering.lasts self.old.steering.course
-            self.new.steering.course (W.contents self.old.changes.log.out) (W.contents self.new.changes.log.out) self.old.changes.log.pace
+            self.new.steering.course (W.contents self.old.changes.log.out.out) (W.contents self.new.changes.log.out.out) self.old.changes.log.pace
             self.new.changes.log.pace when (length self.old.routes.shown.items) status) }
         ensures pages { ShowedTwice M.facts (P.shown self.old.page.server) (P.shown self.new.page.server) self.old.overview self.new.overview
             self.old.changes.counts self.old.page.version self.old.routes.shown.items (used_of self.old.routes.routes.items)
             self.old.changes.log.events.events.items self.new.changes.log.events.events.items }
         ensures kept { (self.new.routes ≡ self.old.routes) × (self.new.following ≡ self.old.following) × (self.new.form ≡ self.old.form)
-            × (self.new.changes.counts ≡ self.old.changes.counts) × (self.new.page.version ≡ self.old.page.version) }
+            × (self.new.changes.counts ≡ self.old.changes.counts) × (self.new.page.version ≡ self.old.page.version)
+            × (self.new.repeats ≡ self.old.repeats) × (self.new.steering.lasts ≡ None) }
     {
         self.page.rest(
             &mut self.machine,
@@ -465,9 +484,10 @@ where
     fn wants_routes(&mut self) -> bool
         ensures course { ShowedAt (M.says self.old.machine) self.old.form (λ when. (result ≡ is_due self.old.steering.course when.moment)
             × (self.new.steering.course ≡ after_due self.old.steering.course when.moment)
-            × HasLooked (M.says self.old.machine) self.old.overview self.new.overview self.old.losses self.new.losses
-            (W.contents self.old.changes.log.out) (W.contents self.new.changes.log.out) self.old.changes.log.pace self.new.changes.log.pace when result) }
-        ensures others { self.new.first_lines ≡ self.old.first_lines }
+            × HasLooked (M.says self.old.machine) self.old.overview self.new.overview self.old.losses self.new.losses (known_by self.old.repeats)
+            (known_by self.new.repeats) (W.contents self.old.changes.log.out.out) (W.contents self.new.changes.log.out.out) self.old.changes.log.pace
+            self.new.changes.log.pace when result) }
+        ensures others { (self.new.first_lines ≡ self.old.first_lines) × (self.new.steering.lasts ≡ self.old.steering.lasts) }
         ensures kept { (self.new.routes ≡ self.old.routes) × (self.new.following ≡ self.old.following) × (self.new.form ≡ self.old.form)
             × (self.new.changes.counts ≡ self.old.changes.counts) × (self.new.page ≡ self.old.page) }
     {
@@ -476,18 +496,19 @@ where
             return false;
         }
         self.log_losses(when);
-        self.overview.memory = self.machine.memory();
+        log_repeats(&mut self.repeats, &mut self.changes.log, when, when.moment);
+        read_use(&self.machine, &mut self.overview);
         true
     }
 
     fn show_route(&mut self, index: usize, route: &Route)
         ensures shown { ShowedAt (M.says self.old.machine) self.old.form
             (HasShown self.old.routes self.new.routes index route.now (is_stopping self.old.steering.course)
-            (W.contents self.old.changes.log.out) (W.contents self.new.changes.log.out) self.old.changes.log.pace self.new.changes.log.pace) }
+            (W.contents self.old.changes.log.out.out) (W.contents self.new.changes.log.out.out) self.old.changes.log.pace self.new.changes.log.pace) }
         ensures others { (self.new.steering ≡ self.old.steering) × (self.new.first_lines ≡ self.old.first_lines) × (self.new.losses ≡ self.old.losses)
             × (self.new.overview ≡ self.old.overview) }
         ensures kept { (self.new.following ≡ self.old.following) × (self.new.form ≡ self.old.form)
-            × (self.new.changes.counts ≡ self.old.changes.counts) × (self.new.page ≡ self.old.page) }
+            × (self.new.changes.counts ≡ self.old.changes.counts) × (self.new.page ≡ self.old.page) × (self.new.repeats ≡ self.old.repeats) }
     {
         let when = When::now(&mut self.machine, self.form);
         let stops = self.steering.is_stopping();
@@ -503,9 +524,10 @@ where
 
     fn refused(&mut self, refusal: &Refusal)
         ensures overview { self.new.overview ≡ after_refusal self.old.overview refusal.now }
-        ensures logged { ShowedAt (M.says self.old.machine) self.old.form (λ when. Logged (W.contents self.old.changes.log.out)
-            (W.contents self.new.changes.log.out) self.old.changes.log.pace self.new.changes.log.pace
-            (refused_call when (requested_by self.old.routes refusal.now.name.items refusal.now.route) refusal.now ∷ [])) }
+        ensures logged { ShowedAt (M.says self.old.machine) self.old.form (λ when. (known_by self.new.repeats
+            ≡ known_after (known_by self.old.repeats) when (requested_by self.old.routes refusal.now.name.items refusal.now.route) refusal.now)
+            × Logged (W.contents self.old.changes.log.out.out) (W.contents self.new.changes.log.out.out) self.old.changes.log.pace self.new.changes.log.pace
+            (refused_calls (known_by self.old.repeats) when (requested_by self.old.routes refusal.now.name.items refusal.now.route) refusal.now)) }
         ensures others { (self.new.steering ≡ self.old.steering) × (self.new.first_lines ≡ self.old.first_lines) × (self.new.losses ≡ self.old.losses) }
         ensures kept { (self.new.routes ≡ self.old.routes) × (self.new.following ≡ self.old.following) × (self.new.form ≡ self.old.form)
             × (self.new.changes.counts ≡ self.old.changes.counts) × (self.new.page ≡ self.old.page) }
@@ -520,11 +542,11 @@ where
             (option_map (λ f. file_with (F.says f.file.file) f.file.polling (option_map (λ v. v.items) f.file.content) f.in_force) self.old.following)
             (option_map (λ f. file_with (F.says f.file.file) f.file.polling (option_map (λ v. v.items) f.file.content) f.in_force) self.new.following)
             (C.asked run.old) (C.asked run.new) when self.old.routes self.new.routes
-            (W.contents self.old.changes.log.out) (W.contents self.new.changes.log.out) self.old.changes.log.pace self.new.changes.log.pace
+            (W.contents self.old.changes.log.out.out) (W.contents self.new.changes.log.out.out) self.old.changes.log.pace self.new.changes.log.pace
             self.old.changes.counts self.new.changes.counts) }
         ensures others { (self.new.steering ≡ self.old.steering) × (self.new.first_lines ≡ self.old.first_lines) × (self.new.losses ≡ self.old.losses)
             × (self.new.overview ≡ self.old.overview) }
-        ensures kept { (self.new.form ≡ self.old.form) × (self.new.page ≡ self.old.page) }
+        ensures kept { (self.new.form ≡ self.old.form) × (self.new.page ≡ self.old.page) × (self.new.repeats ≡ self.old.repeats) }
     {
         let when = When::now(&mut self.machine, self.form);
         let Some(following) = &mut self.following else {

@@ -25,11 +25,6 @@ abbrev pub offline_end : Result (Unit {0}) OfflineFault → Result (Unit {0}) Fa
 offline_end (Ok done) = Ok done
 offline_end (Err fault) = Err (Offline fault)
 
--- how two parts of a task end: with the first fault
-abbrev pub first_end : Result (Unit {0}) Fault → Result (Unit {0}) Fault → Result (Unit {0}) Fault
-first_end (Ok done) second = second
-first_end (Err fault) second = Err fault
-
 -- a fault of the routes' threads or their memory, and no other
 abbrev pub IsOfRouting : Fault → Type 0
 IsOfRouting (Offline fault) = ⊥

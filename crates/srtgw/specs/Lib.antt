@@ -1,3 +1,4 @@
 pub mod Bindings
 pub mod Clocks
 pub mod Ends
+pub mod Reports

@@ -1,7 +1,8 @@
 //! The gateway's UDP socket, at the address of its configuration.
 
-ghost use Rattle.std.specs.Prelude.{◌≡◌, IfOk};
+ghost use Rattle.std.specs.Prelude.{◌≡◌, IfOk, IfErr};
 ghost use Rattle.srtgw.specs.Bindings.{IsAtBind};
+ghost use Rattle.srtgw.specs.Ends.{IsOfServing};
 
 use crate::clocks::ClockPoller;
 use crate::faults::Fault;
@@ -64,6 +65,7 @@ where
     R: Eprint + AllocGlobal + Net + Clock + HostClocks,
     ensures at { IfOk result (λ bound. IsAtBind config.now.bind bound.source bound.wire) }
     ensures start { IfOk result (λ bound. R.was_instant bound.start) }
+    ensures fault { IfErr result IsOfServing }
 {
     match bind(rt, config) {
         Ok(bound) => Ok(bound),

@@ -1,48 +1,84 @@
 //! `srtgw check CONFIG --addresses`: whether a configuration's addresses can be bound.
 
-ghost use Rattle.std.specs.Prelude.{◌≡◌};
-ghost use Rattle.srtgw.specs.Ends.{first_end, offline_end};
+ghost use Rattle.std.specs.Prelude.{◌≡◌, IfOk, length};
+ghost use Rattle.std.specs.Io.KnownBytes.{Appends};
+ghost use Rattle.srt_host.specs.Pages.{IsPageAt};
+ghost use Rattle.srt_offline.specs.Configurations.{routes_line};
+ghost use Rattle.srtgw.specs.Bindings.{IsAtBind};
+ghost use Rattle.srtgw.specs.Ends.{offline_end};
 
-use crate::binding::bind_explained;
+use crate::binding::{Bound, bind_explained};
 use crate::faults::Fault;
 use srt_config::Config;
-use srt_host::{HostClocks, open_page};
-use srt_offline::{OfflineFault, checked_at, print_routes};
+use srt_host::{HostClocks, StatusPage, open_page};
+use srt_offline::{OfflineFault, checked_at, write_routes};
+use std::io::Write;
 use std::net::Net;
 use std::rt::{Clock, Files};
 
-/// How a task of two parts ended: with the first fault.
-fn first_end(first: Result<(), Fault>, second: Result<(), Fault>) -> Result<(), Fault>
-    ensures { result ≡ first_end first second }
-{
-    match first {
-        Ok(()) => second,
-        Err(fault) => Err(fault),
-    }
+/// The sockets of a configuration, bound once.
+#[derive(Drop)]
+struct Sockets<'a, R: Clock> {
+    /// The gateway's UDP socket.
+    bound: Bound<'a, R>,
+    /// The status page; without an address it has no socket.
+    page: StatusPage,
 }
 
-/// Binds the UDP socket of a configuration once, as `run` does. Standard error gets why it can't be bound.
-fn try_socket<R>(rt: &R, config: &Config) -> Result<(), Fault>
+/// Binds both addresses of a configuration, one after the other, as `run` does. Standard error gets why one can't be bound, also if none
+/// can.
+fn bind_both<'a, R>(
+    rt: &'a R,
+    machine: &HostRuntime,
+    config: &Config,
+) -> Result<Sockets<'a, R>, Fault>
 where
     R: Eprint + AllocGlobal + Net + Clock + HostClocks,
+    ensures at { IfOk result (λ sockets. IsAtBind config.now.bind sockets.bound.source sockets.bound.wire) }
+    ensures page { IfOk result (λ sockets. IsPageAt config.now.status sockets.page) }
 {
-    match bind_explained(rt, config) {
-        Ok(_) => Ok(()),
-        Err(fault) => Err(fault),
-    }
-}
-
-/// Binds both addresses of a configuration, one after the other. Standard error gets why one can't be bound, also if none can.
-fn try_addresses<R>(rt: &R, machine: &HostRuntime, config: &Config) -> Result<(), Fault>
-where
-    R: Eprint + AllocGlobal + Net + Clock + HostClocks,
-{
-    let socket = try_socket(rt, config);
-    let page = match open_page(machine, config) {
-        Ok(_) => Ok(()),
+    let bound = bind_explained(rt, config);
+    let page = open_page(machine, config);
+    let bound = bound?;
+    match page {
+        Ok(page) => Ok(Sockets { bound, page }),
         Err(fault) => Err(Fault::of_watcher(fault)),
+    }
+}
+
+/// A configuration and its sockets, bound once.
+#[derive(Drop)]
+pub struct Tried<'a, R: Clock> {
+    /// The configuration.
+    pub config: Config,
+    /// The gateway's UDP socket.
+    pub bound: Bound<'a, R>,
+    /// The status page; without an address it has no socket.
+    pub page: StatusPage,
+}
+
+/// Reads a configuration's file as `check` does, and binds its addresses once. Standard error gets why one can't be bound.
+fn tried_at<'a, R>(
+    rt: &'a R,
+    machine: &HostRuntime,
+    path: &str,
+    explains: bool,
+) -> Result<Tried<'a, R>, Fault>
+where
+    R: Eprint + Files + AllocGlobal + Net + Clock + HostClocks,
+    ensures at { IfOk result (λ tried. IsAtBind tried.config.bind tried.bound.source tried.bound.wire) }
+    ensures page { IfOk result (λ tried. IsPageAt tried.config.status tried.page) }
+{
+    let config = match checked_at(rt, path, explains) {
+        Ok(config) => config,
+        Err(fault) => return Err(Fault::Offline(fault)),
     };
-    first_end(socket, page)
+    let Sockets { bound, page } = bind_both(rt, machine, &config)?;
+    Ok(Tried {
+        config,
+        bound,
+        page,
+    })
 }
 
 /// How a command ended that opens no socket.
@@ -55,21 +91,26 @@ pub fn offline(ended: Result<(), OfflineFault>) -> Result<(), Fault>
     }
 }
 
-/// `srtgw check CONFIG --addresses`: reads the configuration as `check` does, binds its addresses once, and prints the number of its
-/// routes. The program without sockets doesn't do it.
-pub fn check_addresses<R>(
-    rt: &R,
+/// `srtgw check CONFIG --addresses`: reads the configuration as `check` does, binds its addresses once, and writes the number of its
+/// routes as one line. Returns what was bound. The program without sockets doesn't do it.
+pub fn check_addresses<'a, R, W>(
+    rt: &'a R,
     machine: &HostRuntime,
+    out: &mut W,
     path: &str,
     explains: bool,
-) -> Result<(), Fault>
+) -> Result<Tried<'a, R>, Fault>
 where
-    R: Print + Eprint + Files + AllocGlobal + Net + Clock + HostClocks,
+    R: Eprint + Files + AllocGlobal + Net + Clock + HostClocks,
+    W: Write,
+    ensures at { IfOk result (λ tried. IsAtBind tried.config.bind tried.bound.source tried.bound.wire) }
+    ensures page { IfOk result (λ tried. IsPageAt tried.config.status tried.page) }
+    ensures printed { IfOk result
+        (λ tried. Appends (W.contents out.old) (W.contents out.new) (routes_line (length tried.config.entries.items))) }
 {
-    let config = match checked_at(rt, path, explains) {
-        Ok(config) => config,
-        Err(fault) => return Err(Fault::Offline(fault)),
-    };
-    try_addresses(rt, machine, &config)?;
-    offline(print_routes(rt, &config))
+    let tried = tried_at(rt, machine, path, explains)?;
+    match write_routes(out, &tried.config) {
+        Ok(()) => Ok(tried),
+        Err(_) => Err(Fault::Offline(OfflineFault::Output)),
+    }
 }

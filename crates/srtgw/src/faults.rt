@@ -4,7 +4,7 @@ ghost use Rattle.std.specs.Prelude.{◌≡◌};
 ghost use Rattle.srtgw.specs.Ends.{is_printed, fault_of};
 
 use srt_host::WatcherFault;
-use srt_offline::OfflineFault;
+use srt_offline::{OfflineFault, PrintedFault};
 use srt_poller::BindFault;
 use srt_serve::RunFault;
 use thiserror::Error;
@@ -43,5 +43,13 @@ impl Fault {
             Fault::Offline(fault) => fault.is_printed(),
             Fault::Bind(_) | Fault::Run(_) => true,
         }
+    }
+}
+
+impl PrintedFault for Fault {
+    ghost printed = { is_printed };
+
+    fn has_line(&self) -> bool {
+        self.is_printed()
     }
 }

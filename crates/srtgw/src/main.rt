@@ -8,19 +8,23 @@
 //!
 //! Calls: `main` takes the words, and `run` does their task: `check`, `replay` and `explain` are `srt_offline`'s,
 //! but `check --addresses` (`checking.rt`), which binds sockets; `serve` (`serving.rt`) runs threads at the UDP socket (`binding.rt`)
-//! until the rounds are over, `run` (`running.rt`) until it is told to stop, with a watcher over `srt_host`. `clocks.rt` has the
-//! routes' clock. `srtgw_offline` is the same program without sockets. docs/OPERATING.md has the commands, docs/PROTOCOL.md each
-//! line of output and each status.
+//! until the rounds are over, `run` (`running.rt`) until it is told to stop, with a watcher over `srt_host`. `printing.rt` has the
+//! lines of the report, and `clocks.rt` the routes' clock. `srtgw_offline` is the same program without sockets. docs/OPERATING.md
+//! has the commands, docs/PROTOCOL.md each line of output and each status.
 #![tactic(auto)]
 
-ghost use Rattle.std.specs.Prelude.{◌≡◌};
+ghost use Rattle.std.specs.Prelude.{◌≡◌, OnOk};
+ghost use Rattle.std.specs.Io.KnownBytes.{Appends};
 ghost use Rattle.std.specs.Process.{exit_status};
 ghost use Rattle.srt_offline.specs.Ends.{status_after};
+ghost use Rattle.srt_supervision.specs.declared.report.Report.{Report as TheReport};
+ghost use Rattle.srtgw.specs.Reports.{report_line, HasReported};
 
 mod binding;
 mod checking;
 mod clocks;
 mod faults;
+mod printing;
 mod running;
 mod serving;
 #[cfg(test)]
@@ -28,48 +32,64 @@ mod tests;
 
 use checking::{check_addresses, offline};
 use faults::Fault;
+use printing::write_report;
 use running::run_gateway;
-use serving::{print_report, serve};
+use serving::serve;
 use srt_command_line::{CommandLine, Manner, Task, WordsFault, read_words, words_given};
 use srt_config::Config;
 use srt_host::HostClocks;
-use srt_offline::{OfflineFault, check_file, config_at, explain_file, explained_at, replay_file};
+use srt_offline::{
+    OfflineFault, check_file, config_at, explain_file, explained_at, replay_file, write_end,
+};
+use std::io::{self, Write};
 use std::net::Net;
 use std::process::ExitCode;
 use std::rt::{Clock, Env, Files};
 use std::sync::Wait;
 use std::thread::Threads;
 
-/// `srtgw run CONFIG`: serves callers until the gateway is told to stop, with a log on standard error.
-fn run_file<R>(rt: &R, machine: &HostRuntime, path: &str, manner: Manner) -> Result<(), Fault>
+/// `srtgw run CONFIG`: serves callers until the gateway is told to stop, with a log on standard error, and writes the report.
+fn run_file<R, W>(
+    rt: &R,
+    machine: &HostRuntime,
+    out: &mut W,
+    path: &str,
+    manner: Manner,
+) -> Result<(), Fault>
 where
-    R: Print + Eprint + Files + AllocGlobal + Net + Clock + HostClocks + Threads + Wait + Sync,
+    R: Eprint + Files + AllocGlobal + Net + Clock + HostClocks + Threads + Wait + Sync,
+    W: Write,
+    ensures { OnOk result (HasReported (W.contents out.old) (W.contents out.new)) }
 {
     match explained_at(rt, path) {
-        Ok(explained) => run_gateway(rt, machine, path, &explained, manner),
+        Ok(explained) => run_gateway(rt, machine, out, path, &explained, manner),
         Err(fault) => Err(Fault::Offline(fault)),
     }
 }
 
-/// Serves the routes of a configuration for this number of rounds, and prints the report.
-fn serve_config<R>(rt: &R, config: &Config, rounds: u32) -> Result<(), Fault>
+/// Serves the routes of a configuration for this number of rounds, and writes the report.
+fn serve_config<R, W>(rt: &R, out: &mut W, config: &Config, rounds: u32) -> Result<(), Fault>
 where
-    R: Print + AllocGlobal + Net + Clock + HostClocks + Threads + Wait + Sync,
+    R: AllocGlobal + Net + Clock + HostClocks + Threads + Wait + Sync,
+    W: Write,
+    ensures { OnOk result ((report : TheReport) × Appends (W.contents out.old) (W.contents out.new) (report_line report)) }
 {
     let report = serve(rt, config, rounds)?;
-    match print_report(rt, &report) {
+    match write_report(out, &report) {
         Ok(()) => Ok(()),
         Err(_) => Err(Fault::Offline(OfflineFault::Output)),
     }
 }
 
-/// `srtgw serve CONFIG --rounds N`: serves callers for N rounds, and then prints the report.
-fn serve_file<R>(rt: &R, config: &str, rounds: u32) -> Result<(), Fault>
+/// `srtgw serve CONFIG --rounds N`: serves callers for N rounds, and then writes the report.
+fn serve_file<R, W>(rt: &R, out: &mut W, config: &str, rounds: u32) -> Result<(), Fault>
 where
-    R: Print + Files + AllocGlobal + Net + Clock + HostClocks + Threads + Wait + Sync,
+    R: Files + AllocGlobal + Net + Clock + HostClocks + Threads + Wait + Sync,
+    W: Write,
+    ensures { OnOk result ((report : TheReport) × Appends (W.contents out.old) (W.contents out.new) (report_line report)) }
 {
     match config_at(rt, config) {
-        Ok(config) => serve_config(rt, &config, rounds),
+        Ok(config) => serve_config(rt, out, &config, rounds),
         Err(fault) => Err(Fault::Offline(fault)),
     }
 }
@@ -86,7 +106,10 @@ where
     R: Print + Eprint + Files + AllocGlobal + Net + Clock + HostClocks,
 {
     if tries_addresses {
-        return check_addresses(rt, machine, path, explains);
+        return match check_addresses(rt, machine, &mut io::writer(rt), path, explains) {
+            Ok(_) => Ok(()),
+            Err(fault) => Err(fault),
+        };
     }
     offline(check_file(rt, path, explains))
 }
@@ -104,24 +127,19 @@ where
         } => check(rt, machine, config, explains, tries_addresses),
         Task::Replay { config, tape } => offline(replay_file(rt, config, tape)),
         Task::Explain { tape, output } => offline(explain_file(rt, tape, output)),
-        Task::Serve { config, rounds } => serve_file(rt, config, rounds),
-        Task::Run { config, manner } => run_file(rt, machine, config, manner),
+        Task::Serve { config, rounds } => { serve_file(rt, &mut io::writer(rt), config, rounds) }
+        Task::Run { config, manner } => {
+            run_file(rt, machine, &mut io::writer(rt), config, manner)
+        }
     }
 }
 
-/// The exit status of a run: 0, or 1 after a fault, whose line is printed.
+/// The exit status of a run: 0, or 1 after a fault, whose line is printed on standard output.
 fn status_of(rt: &impl Print, ended: Result<(), Fault>) -> ExitCode
     ensures { exit_status result ≡ status_after ended }
 {
-    match ended {
-        Ok(()) => ExitCode::SUCCESS,
-        Err(fault) => {
-            if fault.is_printed() {
-                let _ = rt.println(&fault);
-            }
-            ExitCode::FAILURE
-        }
-    }
+    let ending = write_end(&mut io::writer(rt), ended);
+    ending.status
 }
 
 /// Does the task of these words. A text for whoever called is printed, and its status returned.

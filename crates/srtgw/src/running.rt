@@ -1,27 +1,29 @@
 //! `srtgw run`: the gateway at a UDP socket, until it is told to stop.
 
-ghost use Rattle.std.specs.Prelude.{◌≡◌, ◌≤◌, ◌^◌};
+ghost use Rattle.std.specs.Prelude.{◌≡◌, ◌≤◌, ◌^◌, OnOk, IfErr};
 ghost use Rattle.std.specs.Vec.{vec_len};
 ghost use Rattle.srt_host.specs.Clock.{start_of};
 ghost use Rattle.srtgw.specs.Bindings.{IsAtBind, IsOfRun};
 ghost use Rattle.srtgw.specs.Clocks.{ticked_by};
+ghost use Rattle.srtgw.specs.Ends.{IsOfServing};
+ghost use Rattle.srtgw.specs.Reports.{HasReported};
 
 use crate::binding::{Bound, bind_explained};
 use crate::clocks::ClockTicker;
 use crate::faults::Fault;
-use crate::serving::{gates, print_report};
+use crate::printing::write_end;
+use crate::serving::gates;
 use srt_command_line::Manner;
 use srt_config::Config;
 use srt_cookie::Secret;
 use srt_explain::Explained;
-use srt_host::{HostClocks, HostWatcher, open_watcher, time_now};
-use srt_mailbox::Account;
+use srt_host::{HostClocks, HostWatcher, ServedSocket, open_watcher, time_now};
 use srt_offline::OfflineFault;
-use srt_poller::{Report, Ungated};
+use srt_poller::Ungated;
 use srt_serve::{Crew, Gates, RunFault, RunPlan, Watched, run_until};
-use std::io;
+use std::io::Write;
 use std::net::Net;
-use std::rt::{Clock, Files};
+use std::rt::Clock;
 use std::sync::Wait;
 use std::thread::Threads;
 
@@ -41,48 +43,21 @@ fn explain_run(rt: &impl Eprint, path: &str, fault: RunFault) {
     let _ = eprintln!(rt; "srtgw: {path}: {why}");
 }
 
-/// Prints the account of each route, a line each, in the order of the routes' indexes.
-fn print_accounts(
-    rt: &impl Print,
-    watcher: &HostWatcher<'_>,
-    accounts: &[Account],
-) -> io::Result<()> {
-    for (index, account) in accounts.iter().enumerate() {
-        let name = watcher.name_of(index);
-        let Account {
-            taken,
-            left,
-            waiting,
-            queued,
-            drained,
-        } = *account;
-        println!(rt;
-            "route {name} taken {taken} left {left} waiting {waiting} queued {queued} drained {drained}"
-        )?;
-    }
-    Ok(())
-}
-
-/// Prints the report and an account of each route.
-fn print_end(
-    rt: &impl Print,
-    watcher: &HostWatcher<'_>,
-    report: &Report,
-    accounts: &[Account],
-) -> io::Result<()> {
-    print_report(rt, report)?;
-    print_accounts(rt, watcher, accounts)
-}
-
-/// Ends the log, and prints the report and an account of each route.
-fn tell_end(
-    rt: &impl Print,
-    mut watcher: HostWatcher<'_>,
-    report: &Report,
-    accounts: &[Account],
-) -> Result<(), Fault> {
-    watcher.end();
-    match print_end(rt, &watcher, report, accounts) {
+/// Ends the log of a run, and writes the report and an account of each route.
+fn tell_end<'a, R: Clock, W: Write>(
+    out: &mut W,
+    watched: Watched<ClockTicker<'a, R>, HostWatcher<'_>>,
+) -> Result<(), Fault>
+    ensures { OnOk result (HasReported (W.contents out.old) (W.contents out.new)) }
+{
+    let Watched {
+        report,
+        accounts,
+        mut watch,
+        ..
+    } = watched;
+    watch.end();
+    match write_end(out, &watch, &report, &accounts) {
         Ok(()) => Ok(()),
         Err(_) => Err(Fault::Offline(OfflineFault::Output)),
     }
@@ -136,17 +111,16 @@ fn secret_now<R: HostClocks>(rt: &R, config: &Config) -> Secret
     config.secret.of_run(time_now(rt))
 }
 
-/// Runs the gateway at this socket with this watcher, and tells how it ended.
-fn run_watched<R>(
-    rt: &R,
-    path: &str,
+/// Runs the gateway at this socket with this watcher.
+fn run_watched<'a, 'b, R>(
+    rt: &'a R,
     config: &Config,
     bound: &mut Bound<'_, R>,
     gates: Gates<Ungated>,
-    watcher: HostWatcher<'_>,
-) -> Result<(), Fault>
+    watcher: HostWatcher<'b>,
+) -> Result<Watched<ClockTicker<'a, R>, HostWatcher<'b>>, RunFault>
 where
-    R: Print + Eprint + Files + AllocGlobal + Net + Clock + HostClocks + Threads + Wait + Sync,
+    R: AllocGlobal + Clock + HostClocks + Threads + Wait + Sync,
     requires at { IsAtBind config.now.bind bound.old.source bound.old.wire }
     requires start { R.was_instant bound.old.start }
     requires workers { (1 ≤ vec_len gates.workers) × (vec_len gates.workers ≤ 16) }
@@ -157,16 +131,52 @@ where
         gates,
         watch: watcher,
     };
-    match run_planned(rt, config, plan_of(config, &secret), bound, crew) {
-        Ok(watched) => {
-            let Watched {
-                report,
-                accounts,
-                watch,
-                ..
-            } = watched;
-            tell_end(rt, watch, &report, &accounts)
-        }
+    run_planned(rt, config, plan_of(config, &secret), bound, crew)
+}
+
+/// Opens the watcher of a run at this socket, whose watching thread asks `machine`.
+fn watcher_of<'b, R: Clock>(
+    machine: &'b HostRuntime,
+    path: &'b str,
+    explained: &'b Explained,
+    manner: Manner,
+    bound: &Bound<'_, R>,
+) -> Result<HostWatcher<'b>, Fault>
+    ensures { IfErr result IsOfServing }
+{
+    let socket = ServedSocket {
+        start: bound.start,
+        address: bound.source.address(),
+        receive_buffer: match bound.source.receive_buffer() {
+            Some(bytes) => Some(u64::from(bytes)),
+            None => None,
+        },
+    };
+    match open_watcher(machine, path, explained, manner, socket) {
+        Ok(watcher) => Ok(watcher),
+        Err(fault) => Err(Fault::of_watcher(fault)),
+    }
+}
+
+/// Binds the sockets of an explained configuration, and runs the gateway there until it is told to stop. Standard error gets why it
+/// didn't run.
+fn ran<'b, R>(
+    rt: &'b R,
+    machine: &'b HostRuntime,
+    path: &'b str,
+    explained: &'b Explained,
+    manner: Manner,
+) -> Result<Watched<ClockTicker<'b, R>, HostWatcher<'b>>, Fault>
+where
+    R: Eprint + AllocGlobal + Net + Clock + HostClocks + Threads + Wait + Sync,
+    ensures { IfErr result IsOfServing }
+{
+    let config = &explained.config;
+    let mut bound = bind_explained(rt, config)?;
+    let gates = gates(rt.alloc(), config.workers)?;
+    let watcher = watcher_of(machine, path, explained, manner, &bound)?;
+    match run_watched(rt, config, &mut bound, gates, watcher) {
+        Ok(watched) => Ok(watched),
         Err(fault) => {
             explain_run(rt, path, fault);
             Err(Fault::Run(fault))
@@ -176,31 +186,22 @@ where
 
 /// Serves the routes of an explained configuration until SIGINT or SIGTERM is pending or its time is over, and tells a
 /// log on standard error what happens. Then every route is closed, and what is left is sent, for a second at most.
-/// Prints the report and an account of each route. `path` is that of the configuration. The watcher, which has a thread
-/// of its own, asks `machine`.
-pub fn run_gateway<R>(
+/// Writes the report and an account of each route to `out`. `path` is that of the configuration. The watcher, which has a thread
+/// of its own, asks `machine`. Errors: those of the sockets, of memory and of the run, before anything is written, and an output that
+/// can't be written.
+pub fn run_gateway<R, W>(
     rt: &R,
     machine: &HostRuntime,
+    out: &mut W,
     path: &str,
     explained: &Explained,
     manner: Manner,
 ) -> Result<(), Fault>
 where
-    R: Print + Eprint + Files + AllocGlobal + Net + Clock + HostClocks + Threads + Wait + Sync,
+    R: Eprint + AllocGlobal + Net + Clock + HostClocks + Threads + Wait + Sync,
+    W: Write,
+    ensures { OnOk result (HasReported (W.contents out.old) (W.contents out.new)) }
 {
-    let config = &explained.config;
-    let mut bound = bind_explained(rt, config)?;
-    let gates = gates(rt.alloc(), config.workers)?;
-    let watcher = match open_watcher(
-        machine,
-        path,
-        explained,
-        manner,
-        bound.start,
-        bound.source.address(),
-    ) {
-        Ok(watcher) => watcher,
-        Err(fault) => return Err(Fault::of_watcher(fault)),
-    };
-    run_watched(rt, path, config, &mut bound, gates, watcher)
+    let watched = ran(rt, machine, path, explained, manner)?;
+    tell_end(out, watched)
 }

@@ -16,7 +16,6 @@ use srt_offline::OfflineFault;
 use srt_poller::{Report, Ungated};
 use srt_serve::{Gates, run};
 use std::alloc::{AllocError, Global};
-use std::io;
 use std::net::Net;
 use std::sync::Wait;
 use std::thread::Threads;
@@ -90,24 +89,4 @@ pub fn serve<R: AllocGlobal + Net + Clock + HostClocks + Threads + Wait + Sync>(
     };
     let gates = gates(rt.alloc(), config.workers)?;
     serve_bound(rt, config, &mut bound, gates, rounds)
-}
-
-/// Prints a report as one line on standard output: each count after its name. What was dropped is one count.
-pub fn print_report(rt: &impl Print, report: &Report) -> io::Result<()> {
-    let Report {
-        read,
-        answered,
-        accepted,
-        full,
-        dropped,
-        not_allowed: _,
-        memory,
-        sent,
-        lost,
-        faults,
-    } = *report;
-    print!(rt;
-        "read {read} answered {answered} accepted {accepted} full {full} dropped {dropped} "
-    )?;
-    println!(rt; "memory {memory} sent {sent} lost {lost} faults {faults}")
 }

@@ -1,18 +1,11 @@
 //! Why a conclusion is refused with 1002. The test vectors follow from the rules of lists and keys.
 
 use crate::{Names, refusal_cause};
-use srt_samples::{Block, Caller, Offer, conclusion};
-use srt_types::{Access, Entry, Mode, Network, NotAdmitted, Peer, Role, RoleAccess, Rules};
+use srt_samples::{Block, Caller, HSREQ, conclusion};
+use srt_types::{Access, Entry, Network, NotAdmitted, Peer, Role, RoleAccess};
 use std::alloc::Global;
 use std::process::Abort;
 use std::test::Fail;
-
-const OFFER: Offer = Offer {
-    version: 0x0001_0500,
-    flags: 0xbf,
-    receiver_ms: 120,
-    sender_ms: 120,
-};
 
 const CALLER: Caller = Caller {
     id: 1,
@@ -66,17 +59,9 @@ fn guarded(alloc: Global) -> Result<Access, Fail> {
 }
 
 fn entry(alloc: Global, name: &str, access: Access) -> Result<Entry, Fail> {
-    Ok(Entry {
-        name: String::from_str(alloc, name)?,
-        mode: Mode::Live,
-        latency_ms: 120,
-        buffer: 1024,
-        sessions: 5,
-        inbox: 16,
-        outbox: 16,
-        access,
-        rules: Rules::DRAFT,
-    })
+    let mut entry = super::entry(alloc, name)?;
+    entry.access = access;
+    Ok(entry)
 }
 
 /// Returns the names `studio`, with these rules, and `open`, without rules.
@@ -97,7 +82,7 @@ fn assert_cause(
     stream_id: &str,
     cause: Option<NotAdmitted>,
 ) -> Result<(), Fail> {
-    let blocks = [Block::Request(OFFER), Block::StreamId(stream_id)];
+    let blocks = [HSREQ, Block::StreamId(stream_id)];
     let datagram = conclusion(CALLER, &blocks).bytes(rt.alloc())?;
     let found = refusal_cause(&names(rt.alloc())?, peer(ip), &datagram);
     assert_eq!(rt; found, cause, "{stream_id}");
@@ -128,7 +113,7 @@ fn an_unknown_name_is_distinguished_from_none(rt: HostRuntime) -> Result<(), Fai
     let unknown = Some(NotAdmitted::UnknownName);
     assert_cause(&rt, FAR, "#!::r=studi,m=publish,k=in", unknown)?;
     assert_cause(&rt, FAR, "#!::m=publish", Some(NotAdmitted::NoName))?;
-    let alone = [Block::Request(OFFER)];
+    let alone = [HSREQ];
     let datagram = conclusion(CALLER, &alone).bytes(rt.alloc())?;
     let found = refusal_cause(&names(rt.alloc())?, peer(NEAR), &datagram);
     assert_eq!(rt; found, Some(NotAdmitted::NoName));

@@ -7,7 +7,7 @@ ghost use Rattle.srt_mailbox.specs.Identities.{identity_in};
 ghost use Rattle.srt_mailbox.specs.Places.{arrived, places_of};
 ghost use Rattle.srt_mailbox.specs.Seats.{IsNewPoller, IsNewClock};
 
-use crate::slots::take_out;
+use crate::slots::take_over;
 use crate::tests::datagrams::{publisher_answer, publisher_conclusion};
 use crate::tests::observing::Eye;
 use crate::tests::{Fixed, IDLE, assert_drained, assert_visited, entry, offer_times, tick};
@@ -65,7 +65,7 @@ fn is_there(hand: Result<ClockHand, NoneSeated>) -> Result<ClockHand, Fail>
 fn poller_of(seat: &Seat<Mark>) -> Result<PollerEnds<Mark>, Fail>
     ensures { IfOk result (λ e. IsNewPoller (identity_in seat.now.cell) e.ingress e.drain) }
 {
-    match take_out(&seat.poller) {
+    match take_over(&seat.poller) {
         Ok(ends) => Ok(ends),
         Err(_) => Err(Fail::from("the poller's ends are there")),
     }
@@ -75,7 +75,7 @@ fn poller_of(seat: &Seat<Mark>) -> Result<PollerEnds<Mark>, Fail>
 fn clock_of(seat: &Seat<Mark>) -> Result<ClockHand, Fail>
     ensures { IfOk result (λ h. IsNewClock (identity_in seat.now.cell) h.end) }
 {
-    match take_out(&seat.clock) {
+    match take_over(&seat.clock) {
         Ok(hand) => Ok(hand),
         Err(_) => Err(Fail::from("the clock's end is there")),
     }
@@ -86,8 +86,8 @@ fn a_seat_gives_each_end_once(rt: HostRuntime) -> Result<(), Fail> {
     let seat = marked(rt.alloc(), 3, 7)?;
     let ends = poller_of(&seat)?;
     let _hand = clock_of(&seat)?;
-    assert!(rt; take_out(&seat.poller).is_err());
-    assert!(rt; take_out(&seat.clock).is_err());
+    assert!(rt; take_over(&seat.poller).is_err());
+    assert!(rt; take_over(&seat.clock).is_err());
     assert_eq!(rt; ends.companion.0, 7);
     Ok(())
 }

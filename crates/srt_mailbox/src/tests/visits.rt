@@ -3,7 +3,7 @@
 
 use crate::gates::{Gate, Served, Visit};
 use crate::tests::{APPLIED, Ends, IDLE, assert_served, assert_visited, entry, tick};
-use crate::{ClockEnd, Serve, open_route};
+use crate::{ClockEnd, EmptyPlace, Serve, TakenElsewhere, open_route};
 use std::alloc::Global;
 use std::process::Abort;
 use std::sync::Wait;
@@ -44,6 +44,10 @@ impl Gate for Noting {
         self.left -= 1;
         true
     }
+
+    fn is_elsewhere(&self, _route: usize, _taken: TakenElsewhere) {}
+
+    fn seats_nobody(&self, _empty: EmptyPlace) {}
 
     fn held(&self) -> u64 {
         self.held

@@ -7,7 +7,7 @@ ghost use Rattle.std.specs.Net.Socket.{v6_ip, v6_port};
 ghost use Rattle.srt_poller.specs.Addresses.{ipv6_name};
 ghost use Rattle.srt_poller.specs.SystemCalls.{notes_of, binding_notes};
 
-use crate::sockets::called::Socket;
+use crate::sockets::called::{Socket, SystemRefusal};
 use crate::sockets::system::SystemCalls;
 use libc::net;
 use std::net::SocketAddrV6;
@@ -24,8 +24,8 @@ fn name_of(addr: SocketAddrV6) -> [u8; 128]
 }
 
 /// Binds a UDP socket over IPv6 at this address, without a zone. At `::` it also has callers over IPv4, whatever the
-/// system's default is. An error is the system's number of it.
-pub(super) fn bind(calls: &mut SystemCalls, addr: SocketAddrV6) -> Result<Socket, i32>
+/// system's default is.
+pub(super) fn bind(calls: &mut SystemCalls, addr: SocketAddrV6) -> Result<Socket, SystemRefusal>
     ensures { OnOk result (notes_of calls.new ≡ notes_of calls.old ++ binding_notes (V6 addr)) }
 {
     let socket = calls.open_ipv6()?;

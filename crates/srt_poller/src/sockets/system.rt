@@ -2,20 +2,23 @@
 //! calls, and each gives evidence that has to be noted. Nothing else can note a call, so that all else is proved to call with
 //! these values, so often, and to use each answer.
 
-ghost use Rattle.std.specs.Prelude.{◌≡◌, ◌≢◌, ℕ, ◌≤◌, pos, ◌≤ℤ◌, ◌<ℤ◌, ◌∷◌, ◌++◌, [], IfOk, IfErr, OnOk, slice_index};
+ghost use Rattle.std.specs.Prelude.{◌≡◌, ◌≢◌, ℕ, ◌≤◌, pos, ◌∷◌, ◌++◌, [], IfOk, IfErr, OnOk, slice_index};
 ghost use Rattle.std.specs.Duration.{as_nanos};
 ghost use Rattle.std.specs.IoError.{error_kind};
 ghost use Rattle.std.specs.declared.net.socket_addr.SocketAddr.{SocketAddr as TheAddress};
 ghost use Rattle.std.specs.declared.io.ErrorKind.TheVariants.{WouldBlock};
+ghost use Rattle.srt_poller.specs.SystemCalls.{end_of_send, count_of_send, end_of_read, count_of_read, end_of_poll, end_of_opening};
+ghost use Rattle.srt_poller.specs.declared.devices.Polled.TheVariants as ThePolled;
 ghost use Rattle.srt_poller.specs.declared.sockets.system.Handed.TheVariants as TheHanded;
 ghost use Rattle.srt_poller.specs.declared.sockets.system.Received.TheVariants as TheReceived;
 
 use crate::devices::Polled;
-use crate::sockets::called::{self, CallNotes, Called, Marks, Socket, SocketPoll};
+use crate::sockets::called::{
+    self, CallNotes, Called, Marks, RegisteredPoll, Socket, SocketPoll, SystemRefusal,
+};
 use crate::tuning::NAP_NS;
 use libc::types::timespec;
 use mio::Events;
-use os::errno;
 use srt_types::protocol_limits::READ_ROOM;
 use std::alloc::Global;
 use std::io::{self, ErrorKind};
@@ -88,7 +91,7 @@ pub(super) struct SystemCalls {
 }
 
 /// The answer to a send.
-fn answer_to_send(answer: io::Result<usize>) -> Handed
+pub(super) fn answer_to_send(answer: io::Result<usize>) -> Handed
     ensures took { IfOk answer (λ n. result ≡ TheHanded.Took n) }
     ensures later { IfErr answer (λ e. error_kind e ≡ WouldBlock → result ≡ TheHanded.NoRoom) }
     ensures failed { IfErr answer (λ e. error_kind e ≢ WouldBlock → result ≡ TheHanded.Failed) }
@@ -106,7 +109,7 @@ fn answer_to_send(answer: io::Result<usize>) -> Handed
 }
 
 /// The answer to a read.
-fn answer_to_read(answer: io::Result<(usize, SocketAddr)>) -> Received
+pub(super) fn answer_to_read(answer: io::Result<(usize, SocketAddr)>) -> Received
     ensures datagram { IfOk answer (λ a. result ≡ TheReceived.Datagram a.0 a.1) }
     ensures nothing { IfErr answer (λ e. error_kind e ≡ WouldBlock → result ≡ TheReceived.Nothing) }
     ensures failed { IfErr answer (λ e. error_kind e ≢ WouldBlock → result ≡ TheReceived.Failed) }
@@ -123,12 +126,57 @@ fn answer_to_read(answer: io::Result<(usize, SocketAddr)>) -> Received
     }
 }
 
-/// Whether a call of C succeeded; otherwise the system's number of the error.
-fn status_of(status: i32) -> Result<(), i32>
-    ensures done { OnOk result (pos 0 ≤ℤ status) }
-    ensures refused { IfErr result (λ _. status <ℤ pos 0) }
+/// The answer to a wait.
+pub(super) fn answer_to_poll(answer: io::Result<()>) -> Polled
+    ensures ready { OnOk answer (result ≡ ThePolled.Ready) }
+    ensures failed { IfErr answer (λ _. result ≡ ThePolled.Failed) }
 {
-    if status < 0 { Err(errno()) } else { Ok(()) }
+    match answer {
+        Ok(()) => Polled::Ready,
+        Err(_) => Polled::Failed,
+    }
+}
+
+/// How a send ended and the number of its bytes, as its note has them.
+pub(super) fn noted_send(answer: Handed) -> [u64; 2]
+    ensures { result ≡ end_of_send answer ∷ count_of_send answer ∷ [] }
+{
+    match answer {
+        Handed::Took(len) => [DONE, len as u64],
+        Handed::NoRoom => [NONE_NOW, 0],
+        Handed::Failed => [FAILED, 0],
+    }
+}
+
+/// How a read ended and the number of its bytes, as its note has them.
+pub(super) fn noted_read(answer: Received) -> [u64; 2]
+    ensures { result ≡ end_of_read answer ∷ count_of_read answer ∷ [] }
+{
+    match answer {
+        Received::Datagram(len, _) => [DONE, len as u64],
+        Received::Nothing => [NONE_NOW, 0],
+        Received::Failed => [FAILED, 0],
+    }
+}
+
+/// How a wait ended, as its note has it.
+pub(super) fn noted_poll(answer: Polled) -> u64
+    ensures { result ≡ end_of_poll answer }
+{
+    match answer {
+        Polled::Ready => DONE,
+        Polled::Failed => FAILED,
+    }
+}
+
+/// How a call that opens a socket ended, as its note has it.
+pub(super) fn noted_opening<T, E>(answer: &Result<T, E>) -> u64
+    ensures { result ≡ end_of_opening answer.now }
+{
+    match answer {
+        Ok(_) => DONE,
+        Err(_) => FAILED,
+    }
 }
 
 /// A tenth of a millisecond.
@@ -143,7 +191,7 @@ fn short_nap() -> timespec
 
 impl SystemCalls {
     ghost use Rattle.std.specs.Net.Socket.{socket_port, socket_flowinfo, socket_scope_id};
-    ghost use Rattle.srt_poller.specs.SystemCalls.{number_of, notes_of, note_at, send_note, receive_note, poll_note, nap_note};
+    ghost use Rattle.srt_poller.specs.SystemCalls.{IsNoteOf, notes_of, note_at, send_note, receive_note, poll_note, nap_note};
     ghost use Rattle.srt_poller.specs.SystemCalls.{put_off_note, sent_note, mark_note, count_note};
     ghost use Rattle.srt_poller.specs.SystemCalls.{bind_note, open_note, callers_note, name_note, room_note, register_note};
 
@@ -158,7 +206,7 @@ impl SystemCalls {
 
     // Notes a call by numbers alone.
     fn note(&mut self, called: Called, numbers: &[u64])
-        requires { slice_index numbers.now 0 ≡ number_of called.call }
+        requires { IsNoteOf called numbers.now }
         ensures { notes_of self.new ≡ notes_of self.old ++ (numbers.now, [], []) ∷ [] }
     {
         self.notes.note(called, numbers, &[], &[]);
@@ -166,7 +214,7 @@ impl SystemCalls {
 
     // Notes a call by its own number, and how it ended with which number, with an address and bytes.
     fn note_at(&mut self, called: Called, of: [u64; 3], address: SocketAddr, bytes: &[u8])
-        requires { slice_index of 0 ≡ number_of called.call }
+        requires { IsNoteOf called of }
         ensures { notes_of self.new ≡ notes_of self.old ++ note_at (slice_index of 0) (slice_index of 1) (slice_index of 2) address bytes.now ∷ [] }
     {
         let [call, end, number] = of;
@@ -189,13 +237,8 @@ impl SystemCalls {
         ensures { notes_of self.new ≡ notes_of self.old ++ send_note to bytes.now result ∷ [] }
     {
         let (answer, called) = socket.send_to(bytes, to);
-        let answer = answer_to_send(answer);
-        let of = match answer {
-            Handed::Took(len) => [SEND, DONE, len as u64],
-            Handed::NoRoom => [SEND, NONE_NOW, 0],
-            Handed::Failed => [SEND, FAILED, 0],
-        };
-        self.note_at(called, of, to, bytes);
+        let [end, count] = noted_send(answer);
+        self.note_at(called, [SEND, end, count], to, bytes);
         answer
     }
 
@@ -205,7 +248,6 @@ impl SystemCalls {
         ensures within { (n : ℕ) (from : TheAddress) → result ≡ TheReceived.Datagram n from → n ≤ 2048 }
     {
         let (answer, called) = socket.recv_from(buffer);
-        let answer = answer_to_read(answer);
         match answer {
             Received::Datagram(len, from) => {
                 self.note_at(called, [READ, DONE, len as u64], from, buffer)
@@ -219,22 +261,19 @@ impl SystemCalls {
     /// Waits until the socket has a datagram, for at most this time.
     pub(super) fn poll(
         &mut self,
-        poll: &mut SocketPoll,
+        poll: &mut RegisteredPoll,
         events: &mut Events<Global>,
         most: Duration,
     ) -> Polled
         ensures { notes_of self.new ≡ notes_of self.old ++ poll_note (as_nanos most) result ∷ [] }
     {
         let (answer, called) = poll.poll(events, most);
-        let (end, polled) = match answer {
-            Ok(()) => (DONE, Polled::Ready),
-            Err(_) => (FAILED, Polled::Failed),
-        };
+        let end = noted_poll(answer);
         self.note(
             called,
             &[POLL, end, most.as_secs(), u64::from(most.subsec_nanos())],
         );
-        polled
+        answer
     }
 
     /// Sleeps for a tenth of a millisecond, or until a signal.
@@ -283,66 +322,66 @@ impl SystemCalls {
         self.note(called, &[COUNT_SENT]);
     }
 
-    /// Binds a socket at an address of IPv4. An error is the system's number of it, if it gave one.
+    /// Binds a socket at an address of IPv4.
     pub(super) fn bind<N: Net>(
         &mut self,
         net: &N,
         address: SocketAddr,
-    ) -> Result<Socket, Option<i32>>
-        ensures { notes_of self.new ≡ notes_of self.old ++ bind_note address ∷ [] }
+    ) -> Result<Socket, SystemRefusal>
+        ensures { notes_of self.new ≡ notes_of self.old ++ bind_note (end_of_opening result) address ∷ [] }
     {
         let (answer, called) = Socket::bind(net, address);
-        self.note_at(called, [BIND, DONE, 0], address, &[]);
-        match answer {
-            Ok(socket) => Ok(socket),
-            Err(error) => Err(error.raw_os_error()),
-        }
+        self.note_at(called, [BIND, noted_opening(&answer), 0], address, &[]);
+        answer
     }
 
-    /// Opens a socket of IPv6 that isn't bound. An error is the system's number of it.
-    pub(super) fn open_ipv6(&mut self) -> Result<Socket, i32>
-        ensures { notes_of self.new ≡ notes_of self.old ++ open_note ∷ [] }
+    /// Opens a socket of IPv6 that isn't bound.
+    pub(super) fn open_ipv6(&mut self) -> Result<Socket, SystemRefusal>
+        ensures { notes_of self.new ≡ notes_of self.old ++ open_note (end_of_opening result) ∷ [] }
     {
         let (answer, called) = Socket::open_ipv6();
-        self.note(called, &[OPEN_IPV6]);
+        self.note(called, &[OPEN_IPV6, noted_opening(&answer)]);
         answer
     }
 
     /// Lets a socket of IPv6 that isn't bound also have callers over IPv4: IPV6_V6ONLY is off.
-    pub(super) fn let_ipv4_in(&mut self, socket: &Socket) -> Result<(), i32>
-        ensures { notes_of self.new ≡ notes_of self.old ++ callers_note ∷ [] }
+    pub(super) fn let_ipv4_in(&mut self, socket: &Socket) -> Result<(), SystemRefusal>
+        ensures { notes_of self.new ≡ notes_of self.old ++ callers_note (end_of_opening result) ∷ [] }
     {
-        let (status, called) = socket.let_ipv4_in();
-        self.note(called, &[LET_IPV4_IN]);
-        status_of(status)
+        let (answer, called) = socket.let_ipv4_in();
+        self.note(called, &[LET_IPV4_IN, noted_opening(&answer)]);
+        answer
     }
 
     /// Binds a socket of IPv6 at this C name of an address.
-    pub(super) fn bind_at(&mut self, socket: &Socket, name: &[u8; 128]) -> Result<(), i32>
-        ensures { notes_of self.new ≡ notes_of self.old ++ name_note name.now ∷ [] }
+    pub(super) fn bind_at(&mut self, socket: &Socket, name: &[u8; 128]) -> Result<(), SystemRefusal>
+        ensures { notes_of self.new ≡ notes_of self.old ++ name_note (end_of_opening result) name.now ∷ [] }
     {
-        let (status, called) = socket.bind_at(name);
-        self.notes.note(called, &[BIND_IPV6], name, &[]);
-        status_of(status)
+        let (answer, called) = socket.bind_at(name);
+        let end = noted_opening(&answer);
+        self.notes.note(called, &[BIND_IPV6, end], name, &[]);
+        answer
     }
 
     /// Asks for a receive buffer of this many bytes. The system may give less; that isn't checked.
     pub(super) fn ask_for_room(&mut self, socket: &Socket, size: u32)
         ensures { notes_of self.new ≡ notes_of self.old ++ room_note size ∷ [] }
     {
-        let mut value = [0; 16];
-        value[..4].copy_from_slice(&size.to_ne_bytes());
-        let (_, called) = socket.ask_for_room(&value);
+        let (_, called) = socket.ask_for_room(size);
         self.note(called, &[ASK_FOR_ROOM, u64::from(size)]);
     }
 
     /// Has the socket polled for datagrams that may be read.
-    pub(super) fn register(&mut self, poll: &SocketPoll, socket: &mut Socket) -> io::Result<()>
-        ensures noted { notes_of self.new ≡ notes_of self.old ++ register_note ∷ [] }
+    pub(super) fn register(
+        &mut self,
+        poll: SocketPoll,
+        socket: &mut Socket,
+    ) -> Result<RegisteredPoll, SystemRefusal>
+        ensures noted { notes_of self.new ≡ notes_of self.old ++ register_note (end_of_opening result) ∷ [] }
         ensures same { socket.new ≡ socket.old }
     {
         let (answer, called) = poll.register(socket);
-        self.note(called, &[REGISTER]);
+        self.note(called, &[REGISTER, noted_opening(&answer)]);
         answer
     }
 }

@@ -27,7 +27,7 @@ use Rattle.srt_route.specs.Sessions.{publishes}
 use Rattle.srt_route.specs.Route.{Taken, Reply, sent, decision, considered, concluded, is_of, is_for, concludes, without_destination}
 use Rattle.srt_route.specs.Route.{arrived, answered_by, said_by, packet_taken, read_taken, taken, shutdown_to, Route, after, clock_after}
 use Rattle.srt_route.specs.Route.{taken_by, passed_by, replies_at, packets_at, packets_where, RepliesHavePlaces, Verdict, Passes, Ignored, Refused, Repeats}
-use Rattle.srt_route.specs.Route.{Decrypted}
+use Rattle.srt_route.specs.Route.{Answered, Decrypted}
 use Rattle.srt_route.specs.Route.{with_bytes}
 use Rattle.srt_route.specs.Route.{answers_as, heard_as, judgement, reply_with}
 use Rattle.srt_route.specs.Route.{after_delivery, ended, has_whole_file, idle_notified, is_file_over, lost_notified, served, served_at, notified_if}
@@ -351,6 +351,9 @@ answers_few (Refused peer c) e index clock item ss =
     let ts = after_delivery e clock ss in omega (arith, all_said e clock (is_file_over e ts) (by_slot e ts), few_by_slot e ts)
 answers_few (Repeats None) e index clock item ss = taken_few e index clock item ss
 answers_few (Decrypted bytes) e index clock item ss = taken_few e index clock (with_bytes bytes item) ss
+answers_few (Answered answer) e index clock item ss =
+    let ts = after_delivery e clock (taken e index clock item ss).sessions in
+    omega (arith, all_said e clock (is_file_over e ts) (by_slot e ts), few_by_slot e ts)
 answers_few (Repeats (Some request)) e index clock item ss =
     omega (arith, length-map (taken e index clock item ss).answers (reply_with request), taken_few e index clock item ss)
 

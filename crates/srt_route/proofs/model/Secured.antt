@@ -1,5 +1,6 @@
 -- The contents of KMREQ blocks that a route repeats are short, and a route without a secured role is as one without keys.
-use Rattle.std.proofs.Common.{◌≡◌, ℕ, ◌≤◌, Bool, true, false, cond, Option, None, Some, List, [], ◌∷◌, length, Result, Ok, Err, find, refl, ap}
+use Rattle.std.proofs.Common.{◌≡◌, ℕ, ◌≤◌, Bool, true, false, cond, Option, None, Some, List, [], ◌∷◌, length, Result, Ok, Err, find}
+use Rattle.std.proofs.Common.{refl, ap, inl, inr, arith}
 use Rattle.std.specs.Prelude.{⊤, ◌==◌, option_map}
 use Rattle.srt_types.specs.declared.shared.Peer.{Peer}
 use Rattle.srt_types.specs.declared.shared.Role.{Role}
@@ -8,23 +9,30 @@ use Rattle.srt_types.specs.Terms.{Terms}
 use Rattle.srt_types.specs.Items.{Item, Received, Tick, Close}
 use Rattle.srt_packet.specs.declared.reading.PacketFault.{PacketFault}
 use Rattle.srt_packet.specs.Grammar.{Packet}
+use Rattle.srt_session_keys.specs.Publisher.{response_to}
+use Rattle.srt_session_keys.specs.declared.publisher.KeyAnswer.{KeyAnswer}
+use Rattle.srt_session_keys.specs.declared.publisher.KeyAnswer.TheVariants.{Taken, NoSecret, BadSecret}
 use Rattle.srt_packet.specs.Reading.{packet_in}
 use Rattle.srt_hs.specs.declared.key_message.KeyFault.{KeyFault}
 use Rattle.srt_hs.specs.KeyMessage.{KeyMessage, message_in}
 use Rattle.srt_hs.specs.KeyRequest.{Asked, nothing, one, several, key_request_in}
 use Rattle.srt_hs.proofs.Answered.{messages_are_answered}
 use Rattle.srt_hs.proofs.Keys.{key_reading_is_spelling}
-use Rattle.srt_session_keys.specs.Publisher.{Publisher, opened_by}
-use Rattle.srt_session_keys.specs.Wrapping.{StreamKeys, brings}
+use Rattle.srt_session_keys.specs.Publisher.{Publisher, answer_to, opened_by}
+use Rattle.srt_session_keys.specs.Publisher.{answer_by as answer_with_keys}
+use Rattle.srt_session_keys.specs.Wrapping.{StreamKeys, brings, fits}
 use Rattle.srt_session_keys.specs.Limiter.{is_admitted}
 use Rattle.srt_route.specs.declared.conclusion_reading.Conclusion.{Conclusion}
 use Rattle.srt_route.specs.declared.refusals.RefusalCause.{RefusalCause}
 use Rattle.srt_route.specs.declared.slot_keys.KeyOpening.{KeyOpening}
-use Rattle.srt_route.specs.RouteKeys.{Brought, RouteKeys, SlotKeys, OfPublisher, brought_as, brought_by, brought_in, cookie_in}
+use Rattle.srt_route.specs.RouteKeys.{Brought, RouteKeys, SlotKeys, Clear, OfPublisher, OfSubscriber, brought_as, brought_by, brought_in, cookie_in}
 use Rattle.srt_route.specs.RouteKeys.{has_secured_role, kek_for, keys_opened, opened_with, opening_if, passphrase_of, request_of, subscriber_by}
 use Rattle.srt_route.specs.RouteKeys.{derivation_of}
 use Rattle.srt_route.specs.Sessions.{Session, advanced, generation_of, is_open_in}
-use Rattle.srt_route.specs.Route.{Judged, Route, Verdict, Passes, Ignored, Refused, Repeats, Decrypted, is_for, session_judged, after, asked, clock_after}
+use Rattle.srt_route.specs.KeyRefresh.{answer_by, refreshed, request_in}
+use Rattle.srt_route.specs.Sendable.{IsResponse}
+use Rattle.srt_route.specs.Route.{Decrypted, Answered, Output, Answers, AnswersWithKeys, Says, Ends, Responds, answered_judged}
+use Rattle.srt_route.specs.Route.{Judged, Route, Verdict, Passes, Ignored, Refused, Repeats, is_for, session_judged, after, asked, clock_after}
 use Rattle.srt_route.specs.Route.{concludes, conclusion_judged, decision}
 use Rattle.srt_route.specs.Route.{heard_as, heard_by, info_judged, info_of, is_of, item_judged, judged_by, judged_if, judgement, kept_at, key_opening}
 use Rattle.srt_route.specs.Route.{keys_at, keys_kept}
@@ -37,12 +45,21 @@ IsShort (Some request) = length request ≤ 104
 abbrev AreShort : RouteKeys → Type 0
 AreShort keys = (slot : ℕ) → IsShort (request_of (keys.held slot))
 
+-- a KMRSP with a message or with a word that states why there is none
+abbrev pub IsResponseOutput : Output → Type 0
+IsResponseOutput (Answers caller answer) = ⊥
+IsResponseOutput (AnswersWithKeys caller request answer) = ⊥
+IsResponseOutput (Says caller initial time report) = ⊥
+IsResponseOutput (Ends caller time) = ⊥
+IsResponseOutput (Responds caller time contents) = IsResponse contents
+
 abbrev pub IsShortVerdict : Verdict → Type 0
 IsShortVerdict Passes = ⊤
 IsShortVerdict Ignored = ⊤
 IsShortVerdict (Refused peer c) = ⊤
 IsShortVerdict (Repeats request) = IsShort request
 IsShortVerdict (Decrypted bytes) = ⊤
+IsShortVerdict (Answered answer) = IsResponseOutput answer.packet
 
 record IsShortJudged (j : Judged) : Type 0 where
   verdict : IsShortVerdict j.verdict
@@ -126,20 +143,68 @@ info_short (Some c) e index clock peer info ss keys short =
     conclusion_short (passphrase_of e c.role) (brought_in info) (find (is_of peer c.caller) ss) e index clock peer (cookie_in info) c ss keys
     (asked_short (key_request_in info)) short
 
-session_short : (o : Option Session) (p : Packet) (bytes : List ℕ) (keys : RouteKeys) → AreShort keys → IsShortJudged (session_judged p bytes keys o)
-session_short None p bytes keys short = record { verdict = tt; keys = short }
-session_short (Some s) p bytes keys short = record { verdict = tt; keys = short }
+-- a KMREQ
+refreshed_short : (contents : List ℕ) (k : SlotKeys) → IsShort (request_of k) → IsShort (request_of (refreshed contents k))
+refreshed_short contents Clear h = h
+refreshed_short contents (OfPublisher request keys) h = h
+refreshed_short contents (OfSubscriber request keys) h = h
 
-packet_short : (zero : Bool) (e : Terms) (index clock : ℕ) (peer : Peer) (p : Packet) (bytes : List ℕ) (ss : List Session) (keys : RouteKeys)
-    → AreShort keys
+pub response_fits : (contents : List ℕ) → IsResponse contents → length contents ≤ 1456
+response_fits contents (inl message) = omega (arith, message_short contents message.0 message.1)
+response_fits contents (inr (inl is)) = omega (arith, ap length is)
+response_fits contents (inr (inr is)) = omega (arith, ap length is)
+
+publisher_responds : (p : Publisher) (contents : List ℕ) (read : Result KeyMessage KeyFault) → message_in contents ≡ read
+    → IsResponse (response_to (answer_to p read) contents)
+publisher_responds p contents (Err fault) is = inr (inl refl)
+publisher_responds p contents (Ok m) is = by (fits p.kek p.salt (length p.kek) m)
+  where
+    taken_by : (brought : Option StreamKeys) → IsResponse (response_to (answer_with_keys brought) contents)
+    taken_by None = inr (inr refl)
+    taken_by (Some keys) = inl (m, is)
+
+    by : (b : Bool) → IsResponse (response_to (cond b (answer_with_keys (brings p.kek m)) NoSecret) contents)
+    by true = taken_by (brings p.kek m)
+    by false = inr (inl refl)
+
+abbrev IsAnswer : (contents : List ℕ) → Option KeyAnswer → Type 0
+IsAnswer contents None = ⊤
+IsAnswer contents (Some answer) = IsResponse (response_to answer contents)
+
+slot_responds : (contents : List ℕ) (k : SlotKeys) → IsAnswer contents (answer_by contents k)
+slot_responds contents Clear = tt
+slot_responds contents (OfPublisher request keys) = publisher_responds keys contents (message_in contents) refl
+slot_responds contents (OfSubscriber request keys) = tt
+
+answered_short : (a : Option KeyAnswer) (contents : List ℕ) (clock : ℕ) (p : Packet) (bytes : List ℕ) (keys : RouteKeys) (s : Session)
+    → IsAnswer contents a → AreShort keys → IsShortJudged (answered_judged a contents clock p bytes keys s)
+answered_short None contents clock p bytes keys s is short = record { verdict = tt; keys = short }
+answered_short (Some a) contents clock p bytes keys s is short =
+    record {
+      verdict = is;
+      keys = λ slot. held_short (slot == s.slot) (refreshed contents (keys.held s.slot)) (keys.held slot)
+          (refreshed_short contents (keys.held s.slot) (short s.slot)) (short slot);
+    }
+
+session_short : (o : Option Session) (request : Option (List ℕ)) (clock : ℕ) (p : Packet) (bytes : List ℕ) (keys : RouteKeys)
+    → AreShort keys → IsShortJudged (session_judged request clock p bytes keys o)
+session_short None request clock p bytes keys short = record { verdict = tt; keys = short }
+session_short (Some s) None clock p bytes keys short = record { verdict = tt; keys = short }
+session_short (Some s) (Some contents) clock p bytes keys short =
+    answered_short (answer_by contents (keys.held s.slot)) contents clock p bytes keys s (slot_responds contents (keys.held s.slot)) short
+
+packet_short : (zero : Bool) (e : Terms) (index clock : ℕ) (peer : Peer) (request : Option (List ℕ)) (p : Packet) (bytes : List ℕ) (ss : List Session)
+    (keys : RouteKeys) → AreShort keys
     → IsShortJudged (cond zero (info_judged e index clock peer (info_of p.body) ss keys (concludes p.body))
-    (session_judged p bytes keys (find (is_for index peer p.dest) ss)))
-packet_short true e index clock peer p bytes ss keys short = info_short (concludes p.body) e index clock peer (info_of p.body) ss keys short
-packet_short false e index clock peer p bytes ss keys short = session_short (find (is_for index peer p.dest) ss) p bytes keys short
+    (session_judged request clock p bytes keys (find (is_for index peer p.dest) ss)))
+packet_short true e index clock peer request p bytes ss keys short = info_short (concludes p.body) e index clock peer (info_of p.body) ss keys short
+packet_short false e index clock peer request p bytes ss keys short =
+    session_short (find (is_for index peer p.dest) ss) request clock p bytes keys short
 
 packet_read_short : (read : Result Packet PacketFault) (e : Terms) (index clock : ℕ) (peer : Peer) (bytes : List ℕ) (ss : List Session)
     (keys : RouteKeys) → AreShort keys → IsShortJudged (read_judged e index clock peer read bytes ss keys)
-packet_read_short (Ok p) e index clock peer bytes ss keys short = packet_short (p.dest == 0) e index clock peer p bytes ss keys short
+packet_read_short (Ok p) e index clock peer bytes ss keys short =
+    packet_short (p.dest == 0) e index clock peer (request_in bytes) p bytes ss keys short
 packet_read_short (Err fault) e index clock peer bytes ss keys short = record { verdict = tt; keys = short }
 
 item_short : (e : Terms) (index clock : ℕ) (item : Item) (ss : List Session) (keys : RouteKeys) → AreShort keys

@@ -1,5 +1,6 @@
 -- Each reply is written as a packet that can be sent.
-use Rattle.std.proofs.Common.{Some, None, ◌≡◌, ℕ, ◌+◌, ◌%◌, ◌^◌, ◌<◌, ◌≤◌, Bool, true, false, cond, List, [], ◌∷◌, ◌++◌, length, map, ap, ◌∙◌, arith}
+use Rattle.std.proofs.Common.{Some, None, ◌≡◌, ℕ, ◌+◌, ◌%◌, ◌^◌, ◌<◌, ◌≤◌, Bool, true, false, cond, List, [], ◌∷◌, ◌++◌, length, map, ap, ◌∙◌, inl, inr, arith}
+use Rattle.std.proofs.Common.{refl}
 use Rattle.std.specs.Prelude.{All}
 use Rattle.std.proofs.lemmas.List.{length-append}
 use Rattle.std.proofs.lemmas.List.Elements.{All-nil, All-cons}
@@ -15,6 +16,9 @@ use Rattle.srt_packet.specs.Text.{text}
 use Rattle.srt_packet.specs.Sent.{CanBeSent}
 use Rattle.srt_packet.specs.Reading.{packet_in}
 use Rattle.srt_packet.proofs.Sent.{sent_is_read}
+use Rattle.srt_packet.proofs.KeyPackets.{reads_back}
+use Rattle.srt_packet.specs.KeyPacket.{CanBeSentWithKeys, KeyPacket, key_packet_in, key_packet_text}
+use Rattle.srt_packet.specs.declared.key_packet.KeyPacketKind.TheVariants as messages
 use Rattle.srt_hs.specs.declared.writing.AnswerKind.{AnswerKind}
 use Rattle.srt_hs.specs.declared.writing.AnswerKind.TheVariants.{Induction, Refusal, Conclusion}
 use Rattle.srt_hs.specs.declared.writing.HsAnswer.{HsAnswer}
@@ -26,15 +30,18 @@ use Rattle.srt_pub.specs.Says.{losses_said, says}
 use Rattle.srt_sub.specs.Subscribing as subscriber
 use Rattle.srt_sub.specs.Says.{packet_text}
 use Rattle.srt_route.specs.Past.{ToPublisher, ToSubscriber}
-use Rattle.srt_route.specs.Route.{Output, Answers, AnswersWithKeys, Says, Ends, Reply, output_text, sent, after, replies_to}
+use Rattle.srt_route.specs.Route.{Output, Answers, AnswersWithKeys, Says, Ends, Responds, Reply, output_text, sent, after, replies_to}
 use Rattle.srt_route.specs.ShiftLaws.{IsReadable}
-use Rattle.srt_route.specs.Sendable.{IsSendable, PublishersSendPackets, SubscribersSendPackets, AnswersArePackets, RepliesArePackets}
+use Rattle.srt_route.specs.Sendable.{IsResponse, IsSendable, IsSendablePacket, IsSendableResponse, PublishersSendPackets, SubscribersSendPackets}
+use Rattle.srt_route.specs.Sendable.{AnswersArePackets}
+use Rattle.srt_route.specs.Sendable.{RepliesArePackets, ClearRepliesArePackets}
 use Rattle.srt_route.proofs.model.Lists.{Each, each_mapped}
 use Rattle.srt_route.proofs.renumbering.ShiftedOutput.{same_four, losses_some, losses_few}
 use Rattle.srt_route.proofs.renumbering.ShiftedAnswers.{what_fits}
-use Rattle.srt_route.proofs.model.Sound.{IsSent, replies_sent}
+use Rattle.srt_route.proofs.model.Secured.{response_fits}
+use Rattle.srt_route.proofs.model.Sound.{IsSaid, IsSent, replies_said, replies_sent}
 
-made : (bytes : List ℕ) (p : Packet) → CanBeSent p → bytes ≡ text p → IsSendable bytes
+made : (bytes : List ℕ) (p : Packet) → CanBeSent p → bytes ≡ text p → IsSendablePacket bytes
 made bytes p can e = record { packet = p; can_be_sent = can; text_is = e; read_is = ap packet_in e ∙ sent_is_read p can }
 
 -- a word is written by its low 32 bits
@@ -53,7 +60,7 @@ message_for : (k : ℕ) → Msg26
 message_for k = record { number = message_number k; some = omega arith; small = omega arith }
 
 naks : (caller initial time : ℕ) (rs : List Run)
-    → 0 < length rs → length rs ≤ 182 → IsSendable (packet_text 0x8003_0000 0 (time % 2 ^ 32) caller (words (losses_said initial rs)))
+    → 0 < length rs → length rs ≤ 182 → IsSendablePacket (packet_text 0x8003_0000 0 (time % 2 ^ 32) caller (words (losses_said initial rs)))
 naks caller initial time rs some few =
     made _ (record { stamp = time % 2 ^ 32; dest = caller % 2 ^ 32; body = out.Nak (record { items = losses_said initial rs }) })
     (record {
@@ -148,22 +155,47 @@ keyed_fits request initial (Conclusion mtu window id mode recv_ms send_ms (Some 
     omega (arith, h, short, length_of_words (text_words words), length-append request (congestion_text (Some (text_words words))))
 
 keyed_send : (caller : ℕ) (request : List ℕ) (a : HsAnswer) → IsReadable a.what → length request ≤ 104
-    → IsSendable (output_text (AnswersWithKeys caller request a))
+    → IsSendablePacket (output_text (AnswersWithKeys caller request a))
 unfolding answer_with
 keyed_send caller request a h short =
     made _ (record { stamp = 0; dest = caller % 2 ^ 32; body = out.Handshake (record { items = keyed_text request a.initial a.what }) })
     (record { stamp = omega arith; dest = omega arith; word1 = omega arith; rest = keyed_fits request a.initial a.what h short; body = tt })
     (lows 0x8000_0000 0 0 caller (keyed_text request a.initial a.what))
 
-outputs_send : (output : Output) → IsSent output → IsSendable (output_text output)
-outputs_send (Answers caller answer) h = answers_send caller answer h
-outputs_send (AnswersWithKeys caller request answer) h = keyed_send caller request answer h.0 h.1
-outputs_send (Says caller initial time (ToPublisher report)) h = publishers_send caller initial time report h
-outputs_send (Says caller initial time (ToSubscriber report)) h = subscribers_send caller initial time report h
-outputs_send (Ends caller time) h =
+-- a KMRSP
+response_sends : (caller time : ℕ) (contents : List ℕ) → IsResponse contents → IsSendableResponse (output_text (Responds caller time contents))
+response_sends caller time contents is =
+    let p : KeyPacket = record { stamp = time % 2 ^ 32; dest = caller % 2 ^ 32; kind = messages.Response; info = contents } in
+    let can : CanBeSentWithKeys p = record { stamp = omega arith; dest = omega arith; info = response_fits contents is } in
+    let same : output_text (Responds caller time contents) ≡ key_packet_text p =
+    ap (λ four. word 0xffff_0004 ++ word 0 ++ word (time % 2 ^ 32) ++ four ++ contents) (low caller) in
+    record {
+      packet = p;
+      kind_is = refl;
+      contents = is;
+      can_be_sent = can;
+      text_is = same;
+      read_is = ap key_packet_in same ∙ reads_back p can;
+    }
+
+-- without keys
+said_sends : (output : Output) → IsSaid output → IsSendablePacket (output_text output)
+said_sends (Answers caller answer) h = answers_send caller answer h
+said_sends (AnswersWithKeys caller request answer) h = absurd h
+said_sends (Says caller initial time (ToPublisher report)) h = publishers_send caller initial time report h
+said_sends (Says caller initial time (ToSubscriber report)) h = subscribers_send caller initial time report h
+said_sends (Ends caller time) h =
     made _ (record { stamp = time % 2 ^ 32; dest = caller % 2 ^ 32; body = out.Shutdown })
     (record { stamp = omega arith; dest = omega arith; word1 = omega arith; rest = omega arith; body = tt })
     (lows 0x8005_0000 0 (time % 2 ^ 32) caller [])
+said_sends (Responds caller time contents) h = absurd h
+
+outputs_send : (output : Output) → IsSent output → IsSendable (output_text output)
+outputs_send (Answers caller answer) h = inl (said_sends (Answers caller answer) h)
+outputs_send (AnswersWithKeys caller request answer) h = inl (keyed_send caller request answer h.0 h.1)
+outputs_send (Says caller initial time report) h = inl (said_sends (Says caller initial time report) h)
+outputs_send (Ends caller time) h = inl (said_sends (Ends caller time) h)
+outputs_send (Responds caller time contents) h = inr (response_sends caller time contents h)
 
 each_all : {A : Type 0} (P : A → Type 0) (xs : List A) → Each P xs → All P xs
 each_all P [] h = All-nil P
@@ -175,3 +207,11 @@ replies_send e index (item ∷ items) =
     let replies = replies_to e index item (after e index items) in
     each_all (λ d. IsSendable d.bytes) (map sent replies)
     (each_mapped (λ (x : Reply). IsSent x.packet) (λ d. IsSendable d.bytes) sent (λ x h. outputs_send x.packet h) replies (replies_sent e index items item))
+
+pub clear_replies_send : ClearRepliesArePackets
+clear_replies_send e index [] clear = All-nil (λ d. IsSendablePacket d.bytes)
+clear_replies_send e index (item ∷ items) clear =
+    let replies = replies_to e index item (after e index items) in
+    each_all (λ d. IsSendablePacket d.bytes) (map sent replies)
+    (each_mapped (λ (x : Reply). IsSaid x.packet) (λ d. IsSendablePacket d.bytes) sent (λ x h. said_sends x.packet h) replies
+    (replies_said e index items item clear))

@@ -35,7 +35,8 @@ use Rattle.srt_route.specs.Sessions.{Session, is_publisher, is_subscriber, activ
 use Rattle.srt_route.specs.Sessions.{time_in, stamp_in, is_idle, is_over, terms_of, aged_at, aged, advanced, marked, marked_if, takes_over}
 use Rattle.srt_route.specs.Sessions.{is_recent, passed_at, passed, reported_at}
 use Rattle.srt_route.specs.RouteKeys.{has_secured_role}
-use Rattle.srt_route.specs.Route.{Verdict, Passes, Ignored, Refused, Repeats, Decrypted, answers_as, judgement, output_with, reply_with}
+use Rattle.srt_route.specs.Route.{Verdict, Passes, Ignored, Refused, Repeats, Decrypted, Answered, answers_as, judgement, output_with, reply_with}
+use Rattle.srt_route.specs.Route.{Responds}
 use Rattle.srt_route.specs.Route.{Output, Answers, AnswersWithKeys, Says, Ends, Reply, Taken, closed, ended, shutdown_to, decision, is_of, heard_if, opens}
 use Rattle.srt_route.specs.Route.{finished, finished_at, has_whole_file, idle_notified, is_file_over, lost_notified, packet_end, served, served_at, notified_if}
 use Rattle.srt_route.specs.Route.{drain_end, drain_of, gives_some, settled_by, took_packet}
@@ -46,7 +47,8 @@ use Rattle.srt_route.specs.Route.{packets_where, clock_after, taken_by, passed_b
 use Rattle.srt_route.specs.ShiftLaws.{IsPublishersReport, IsSubscribersReport, HasFewWords, IsReadable}
 use Rattle.srt_packet.proofs.Agreement.{packet_found}
 use Rattle.srt_route.proofs.renumbering.ShiftedAnswers.{conclusions_have_few}
-use Rattle.srt_route.proofs.model.Secured.{IsShortVerdict, clear_passes, verdict_short}
+use Rattle.srt_route.specs.Sendable.{IsResponse}
+use Rattle.srt_route.proofs.model.Secured.{IsResponseOutput, IsShortVerdict, clear_passes, verdict_short}
 use Rattle.srt_route.proofs.model.Standbys.{each_active}
 use Rattle.srt_route.proofs.model.Lists.{Each, each_append, each_take, each_while, each_mapped, each_flat, each_found, each_picked, each_at}
 use Rattle.srt_route.proofs.renumbering.Relabelled.{all_replies}
@@ -78,6 +80,7 @@ IsSaid (Answers caller answer) = IsReadable answer.what
 IsSaid (AnswersWithKeys caller request answer) = ⊥
 IsSaid (Says caller initial time report) = IsSaidReport report
 IsSaid (Ends caller time) = ⊤
+IsSaid (Responds caller time contents) = ⊥
 
 abbrev pub IsSaidReply : Reply → Type 0
 IsSaidReply x = IsSaid x.packet
@@ -88,6 +91,7 @@ IsSent (Answers caller answer) = IsReadable answer.what
 IsSent (AnswersWithKeys caller request answer) = IsReadable answer.what × (length request ≤ 104)
 IsSent (Says caller initial time report) = IsSaidReport report
 IsSent (Ends caller time) = ⊤
+IsSent (Responds caller time contents) = IsResponse contents
 
 abbrev pub IsSentReply : Reply → Type 0
 IsSentReply x = IsSent x.packet
@@ -97,6 +101,7 @@ said_is_sent (Answers caller answer) h = h
 said_is_sent (AnswersWithKeys caller request answer) h = absurd h
 said_is_sent (Says caller initial time report) h = h
 said_is_sent (Ends caller time) h = tt
+said_is_sent (Responds caller time contents) h = absurd h
 
 all_sent : (xs : List Reply) → Each IsSaidReply xs → Each IsSentReply xs
 all_sent [] h = tt
@@ -107,10 +112,18 @@ with_sent request (Answers caller answer) short h = (h, short)
 with_sent request (AnswersWithKeys caller other answer) short h = absurd h
 with_sent request (Says caller initial time report) short h = h
 with_sent request (Ends caller time) short h = tt
+with_sent request (Responds caller time contents) short h = absurd h
 
 all_with_sent : (request : List ℕ) (xs : List Reply) → length request ≤ 104 → Each IsSaidReply xs → Each IsSentReply (map (reply_with request) xs)
 all_with_sent request [] short h = tt
 all_with_sent request (x ∷ xs) short h = (with_sent request x.packet short h.0, all_with_sent request xs short h.1)
+
+response_sent : (o : Output) → IsResponseOutput o → IsSent o
+response_sent (Answers caller answer) h = absurd h
+response_sent (AnswersWithKeys caller request answer) h = absurd h
+response_sent (Says caller initial time report) h = absurd h
+response_sent (Ends caller time) h = absurd h
+response_sent (Responds caller time contents) h = h
 
 answers_sent : (v : Verdict) (xs : List Reply) → IsShortVerdict v → Each IsSaidReply xs → Each IsSentReply (answers_as v xs)
 answers_sent Passes xs short h = all_sent xs h
@@ -118,6 +131,7 @@ answers_sent Ignored xs short h = all_sent xs h
 answers_sent (Refused peer c) xs short h = (tt, tt)
 answers_sent (Repeats None) xs short h = all_sent xs h
 answers_sent (Decrypted bytes) xs short h = all_sent xs h
+answers_sent (Answered answer) xs short h = (response_sent answer.packet short, tt)
 answers_sent (Repeats (Some request)) xs short h = all_with_sent request xs short h
 
 -- a session ages
@@ -684,7 +698,7 @@ replies_sent e index items item =
     (verdict_short e index items item) (heard_item_sound e index items item (after_sound e index items)).answers)
 
 -- of a route without a secured role, without keys
-replies_said : (e : Terms) (index : ℕ) (items : List Item) (item : Item) → has_secured_role e ≡ false
+pub replies_said : (e : Terms) (index : ℕ) (items : List Item) (item : Item) → has_secured_role e ≡ false
     → Each (λ (x : Reply). IsSaid x.packet) (replies_to e index item (after e index items))
 replies_said e index items item clear =
     let m = after e index items in

@@ -35,6 +35,10 @@ use Rattle.srt_route.specs.Sessions.{Session, is_publisher, is_subscriber, open_
 use Rattle.srt_route.specs.Sessions.{free_slot, generation_of, time_in, stamp_in, is_idle, aged_at, aged, terms_of, took_at, took}
 use Rattle.srt_route.specs.Sessions.{advanced, free_slots, has_failed, is_from, is_silent, is_standby, marked, marked_if, sessions_from, standby}
 use Rattle.srt_route.specs.Sessions.{takeover_us, takes_over, takes_over_after, answered_at_once, passed_at, passed, reports_at, reported_at, reported}
+use Rattle.srt_route.specs.KeyRefresh.{answer_by, refreshed, request_in}
+use Rattle.srt_session_keys.specs.Publisher.{response_to}
+use Rattle.srt_session_keys.specs.declared.publisher.KeyAnswer.{KeyAnswer}
+use Rattle.srt_route.specs.Route.{Responds, answered_judged, decrypted_judged}
 use Rattle.srt_route.specs.Route.{Route, Taken, Output, Answers, AnswersWithKeys, Says, Ends, Reply, clock_after, closes, ended, shutdown_to, closed}
 use Rattle.srt_route.specs.Route.{decided, decision, idle_notified, is_crowded, is_reserved, lost_notified, notified_if}
 use Rattle.srt_route.specs.Route.{session_opened, with_session, opens, considered, refused, is_of, heard_if, concluded, is_for, took_if}
@@ -56,7 +60,7 @@ use Rattle.srt_route.specs.RouteKeys.{opened_with, opening, opening_if, passphra
 use Rattle.srt_route.specs.Route.{Judged, Verdict, Passes, Ignored, Refused, Repeats, answers_as, asked, conclusion_judged, heard_as, info_judged}
 use Rattle.srt_route.specs.Route.{info_of, item_judged, judged_by, judged_if, judgement, kept_at, key_opening, keys_at, keys_kept, output_with, packet_judged}
 use Rattle.srt_route.specs.Route.{read_judged, reply_with, taken_as as taken_with}
-use Rattle.srt_route.specs.Route.{Decrypted, session_judged, with_bytes}
+use Rattle.srt_route.specs.Route.{Decrypted, Answered, session_judged, with_bytes}
 use Rattle.srt_route.specs.RouteKeys.{Clear, OfPublisher, OfSubscriber}
 use Rattle.srt_route.specs.Decryption.{clear_bytes, in_clear}
 use Rattle.srt_session_keys.specs.Publisher.{Publisher, decrypted_body, decrypted_data, named_key}
@@ -101,6 +105,7 @@ changed_output r (Answers caller answer) = Answers caller (changed_answer r answ
 changed_output r (AnswersWithKeys caller request answer) = AnswersWithKeys caller request (changed_answer r answer)
 changed_output r (Says caller initial time report) = Says caller (r.initial initial) time report
 changed_output r (Ends caller time) = Ends caller time
+changed_output r (Responds caller time contents) = Responds caller time contents
 
 abbrev pub changed_reply : Change → Reply → Reply
 changed_reply r x = record { peer = x.peer; packet = changed_output r x.packet }
@@ -138,9 +143,19 @@ IsChangedItem r (Tick n) (Close m) = ⊥
 IsChangedItem r (Close n) (Received c m) = ⊥
 IsChangedItem r (Close n) (Tick m) = ⊥
 
+-- the contents of the KMREQ that an item is, if it is one
+abbrev pub item_request : Item → Option (List ℕ)
+item_request (Received d n) = request_in d.bytes
+item_request (Tick n) = None
+item_request (Close n) = None
+
+pub record IsChangedInput (r : Change) (j i : Item) : Type 0 where
+  pub item_is : IsChangedItem r j i
+  pub asks_the_same : r.secured ≡ true → item_request j ≡ item_request i
+
 abbrev pub AreChanged : Change → List Item → List Item → Type 0
 AreChanged r [] [] = ⊤
-AreChanged r (j ∷ js) (i ∷ is) = IsChangedItem r j i × AreChanged r js is
+AreChanged r (j ∷ js) (i ∷ is) = IsChangedInput r j i × AreChanged r js is
 AreChanged r [] (i ∷ is) = ⊥
 AreChanged r (j ∷ js) [] = ⊥
 
@@ -815,6 +830,7 @@ IsChangedVerdict r w Ignored = w ≡ Ignored
 IsChangedVerdict r w (Refused peer c) = w ≡ Refused peer (changed_conclusion r c)
 IsChangedVerdict r w (Repeats request) = w ≡ Repeats request
 IsChangedVerdict r w (Decrypted bytes) = HasReading r w bytes
+IsChangedVerdict r w (Answered answer) = w ≡ Answered (changed_reply r answer)
 
 record IsChangedJudged (r : Change) (k j : Judged) : Type 0 where
   verdict_is : IsChangedVerdict r k.verdict j.verdict
@@ -974,11 +990,10 @@ clear_same r (OfPublisher request keys) q p secured h =
       body_is = λ also. body;
     }
 
-session_judged_same : (r : Change) (q p : Packet) (others bytes : List ℕ) (n m : RouteKeys) (o : Option Session) → r.secured ≡ true
+decrypted_same : (r : Change) (q p : Packet) (others bytes : List ℕ) (n m : RouteKeys) (s : Session) → r.secured ≡ true
     → packet_in others ≡ Ok q → packet_in bytes ≡ Ok p → IsChangedPacket r q p → AreChangedKeys r n m
-    → IsChangedJudged r (session_judged q others n (option_map (changed_session r) o)) (session_judged p bytes m o)
-session_judged_same r q p others bytes n m None secured theirs ours h k = record { verdict_is = refl; keys_are = k }
-session_judged_same r q p others bytes n m (Some s) secured theirs ours h k =
+    → IsChangedJudged r (decrypted_judged q others n (changed_session r s)) (decrypted_judged p bytes m s)
+decrypted_same r q p others bytes n m s secured theirs ours h k =
     let key = m.held s.slot in
     record {
       verdict_is = record {
@@ -989,14 +1004,45 @@ session_judged_same r q p others bytes n m (Some s) secured theirs ours h k =
       keys_are = k;
     }
 
-packet_judged_same : (e : Terms) (index : ℕ) (r : Change) (clock : ℕ) (peer : Peer) (q p : Packet) (theirs bytes : List ℕ) (ss : List Session)
-    (n m : RouteKeys) → r.secured ≡ true → packet_in theirs ≡ Ok q → packet_in bytes ≡ Ok p → IsChangedPacket r q p → AreChangedKeys r n m
-    → IsChangedJudged r (packet_judged e index (clock + r.later) peer q theirs (map (changed_session r) ss) n) (packet_judged e index clock peer p bytes ss m)
-packet_judged_same e index r clock peer q p theirs bytes ss n m secured reads read h k =
+-- a KMREQ
+request_answered_same : (a : Option KeyAnswer) (contents : List ℕ) (r : Change) (clock : ℕ) (q p : Packet) (others bytes : List ℕ) (n m : RouteKeys)
+    (s : Session)
+    → r.secured ≡ true → packet_in others ≡ Ok q → packet_in bytes ≡ Ok p → IsChangedPacket r q p → AreChangedKeys r n m
+    → IsChangedJudged r (answered_judged a contents (clock + r.later) q others n (changed_session r s)) (answered_judged a contents clock p bytes m s)
+request_answered_same None contents r clock q p others bytes n m s secured theirs ours h k = decrypted_same r q p others bytes n m s secured theirs ours h k
+request_answered_same (Some a) contents r clock q p others bytes n m s secured theirs ours h k =
+    record {
+      verdict_is = ap (λ (t : ℕ). Answered (record { peer = s.peer; packet = Responds s.conclusion.caller t (response_to a contents) })) (own_time r clock s);
+      keys_are = record {
+        moments_are = k.moments_are;
+        pool_is = k.pool_is;
+        held_is = λ slot. ap (λ (x : SlotKeys). cond (slot == s.slot) (refreshed contents x) (n.held slot)) (k.held_is s.slot)
+            ∙ ap (λ (x : SlotKeys). cond (slot == s.slot) (refreshed contents (m.held s.slot)) x) (k.held_is slot);
+      };
+    }
+
+session_judged_same : (r : Change) (request : Option (List ℕ)) (clock : ℕ) (q p : Packet) (others bytes : List ℕ) (n m : RouteKeys) (o : Option Session)
+    → r.secured ≡ true → packet_in others ≡ Ok q → packet_in bytes ≡ Ok p → IsChangedPacket r q p → AreChangedKeys r n m
+    → IsChangedJudged r (session_judged request (clock + r.later) q others n (option_map (changed_session r) o)) (session_judged request clock p bytes m o)
+session_judged_same r request clock q p others bytes n m None secured theirs ours h k = record { verdict_is = refl; keys_are = k }
+session_judged_same r None clock q p others bytes n m (Some s) secured theirs ours h k = decrypted_same r q p others bytes n m s secured theirs ours h k
+session_judged_same r (Some contents) clock q p others bytes n m (Some s) secured theirs ours h k =
+    subst
+    (λ (x : SlotKeys). IsChangedJudged r (answered_judged (answer_by contents x) contents (clock + r.later) q others n (changed_session r s))
+    (answered_judged (answer_by contents (m.held s.slot)) contents clock p bytes m s))
+    (sym (k.held_is s.slot))
+    (request_answered_same (answer_by contents (m.held s.slot)) contents r clock q p others bytes n m s secured theirs ours h k)
+
+packet_judged_same : (e : Terms) (index : ℕ) (r : Change) (clock : ℕ) (peer : Peer) (request : Option (List ℕ)) (q p : Packet)
+    (theirs bytes : List ℕ) (ss : List Session) (n m : RouteKeys) → r.secured ≡ true → packet_in theirs ≡ Ok q → packet_in bytes ≡ Ok p
+    → IsChangedPacket r q p → AreChangedKeys r n m
+    → IsChangedJudged r (packet_judged e index (clock + r.later) peer request q theirs (map (changed_session r) ss) n)
+    (packet_judged e index clock peer request p bytes ss m)
+packet_judged_same e index r clock peer request q p theirs bytes ss n m secured reads read h k =
     subst
     (λ (d : ℕ). IsChangedJudged r
-    (cond (d == 0) (others (concludes q.body)) (session_judged q theirs n (find (is_for index peer d) (map (changed_session r) ss))))
-    (packet_judged e index clock peer p bytes ss m))
+    (cond (d == 0) (others (concludes q.body)) (session_judged request (clock + r.later) q theirs n (find (is_for index peer d) (map (changed_session r) ss))))
+    (packet_judged e index clock peer request p bytes ss m))
     (sym h.dest_is) (by (p.dest == 0))
   where
     others : Option Conclusion → Judged
@@ -1004,45 +1050,52 @@ packet_judged_same e index r clock peer q p theirs bytes ss n m secured reads re
 
     by : (b : Bool)
         → IsChangedJudged r
-        (cond b (others (concludes q.body)) (session_judged q theirs n (find (is_for index peer p.dest) (map (changed_session r) ss))))
+        (cond b (others (concludes q.body))
+        (session_judged request (clock + r.later) q theirs n (find (is_for index peer p.dest) (map (changed_session r) ss))))
         (cond b (info_judged e index clock peer (info_of p.body) ss m (concludes p.body))
-        (session_judged p bytes m (find (is_for index peer p.dest) ss)))
+        (session_judged request clock p bytes m (find (is_for index peer p.dest) ss)))
     by true =
         subst (λ (o : Option Conclusion). IsChangedJudged r (others o) (info_judged e index clock peer (info_of p.body) ss m (concludes p.body)))
         (sym h.concludes_is)
         (info_same e index r clock peer (info_of q.body) (info_of p.body) ss n m (concludes p.body) h.brought_is h.cookie_is k)
     by false =
-        subst (λ (o : Option Session). IsChangedJudged r (session_judged q theirs n o) (session_judged p bytes m (find (is_for index peer p.dest) ss)))
+        subst
+        (λ (o : Option Session). IsChangedJudged r (session_judged request (clock + r.later) q theirs n o)
+        (session_judged request clock p bytes m (find (is_for index peer p.dest) ss)))
         (sym (find_through (changed_session r) (is_for index peer p.dest) (is_for index peer p.dest) (for_same r index peer p.dest) ss))
-        (session_judged_same r q p theirs bytes n m (find (is_for index peer p.dest) ss) secured reads read h k)
+        (session_judged_same r request clock q p theirs bytes n m (find (is_for index peer p.dest) ss) secured reads read h k)
 
 read_judged_same : (e : Terms) (index : ℕ) (r : Change) (clock : ℕ) (peer : Peer) (q p : Result Packet PacketFault) (theirs bytes : List ℕ)
     (ss : List Session) (n m : RouteKeys) → r.secured ≡ true → packet_in theirs ≡ q → packet_in bytes ≡ p → IsChangedReading r q p
-    → AreChangedKeys r n m
+    → request_in theirs ≡ request_in bytes → AreChangedKeys r n m
     → IsChangedJudged r (read_judged e index (clock + r.later) peer q theirs (map (changed_session r) ss) n) (read_judged e index clock peer p bytes ss m)
-read_judged_same e index r clock peer (Ok q) (Ok p) theirs bytes ss n m secured reads read h k =
-    packet_judged_same e index r clock peer q p theirs bytes ss n m secured reads read h k
-read_judged_same e index r clock peer (Err f) (Err g) theirs bytes ss n m secured reads read h k = record { verdict_is = refl; keys_are = k }
-read_judged_same e index r clock peer (Ok q) (Err g) theirs bytes ss n m secured reads read h k = absurd h
-read_judged_same e index r clock peer (Err f) (Ok p) theirs bytes ss n m secured reads read h k = absurd h
+read_judged_same e index r clock peer (Ok q) (Ok p) theirs bytes ss n m secured reads read h asks k =
+    subst
+    (λ (request : Option (List ℕ)). IsChangedJudged r (packet_judged e index (clock + r.later) peer request q theirs (map (changed_session r) ss) n)
+    (packet_judged e index clock peer (request_in bytes) p bytes ss m))
+    (sym asks) (packet_judged_same e index r clock peer (request_in bytes) q p theirs bytes ss n m secured reads read h k)
+read_judged_same e index r clock peer (Err f) (Err g) theirs bytes ss n m secured reads read h asks k = record { verdict_is = refl; keys_are = k }
+read_judged_same e index r clock peer (Ok q) (Err g) theirs bytes ss n m secured reads read h asks k = absurd h
+read_judged_same e index r clock peer (Err f) (Ok p) theirs bytes ss n m secured reads read h asks k = absurd h
 
 item_judged_same : (e : Terms) (index : ℕ) (r : Change) (clock : ℕ) (j i : Item) (ss : List Session) (n m : RouteKeys) → r.secured ≡ true
-    → IsChangedItem r j i → AreChangedKeys r n m
+    → IsChangedInput r j i → AreChangedKeys r n m
     → IsChangedJudged r (item_judged e index (clock + r.later) j (map (changed_session r) ss) n) (item_judged e index clock i ss m)
 item_judged_same e index r clock (Received d y) (Received c x) ss n m secured h k =
     subst
     (λ (peer : Peer). IsChangedJudged r (read_judged e index (clock + r.later) peer (packet_in d.bytes) d.bytes (map (changed_session r) ss) n)
     (read_judged e index clock c.peer (packet_in c.bytes) c.bytes ss m))
-    (sym h.0.peer_is)
-    (read_judged_same e index r clock c.peer (packet_in d.bytes) (packet_in c.bytes) d.bytes c.bytes ss n m secured refl refl h.0.reading_is k)
+    (sym h.item_is.0.peer_is)
+    (read_judged_same e index r clock c.peer (packet_in d.bytes) (packet_in c.bytes) d.bytes c.bytes ss n m secured refl refl h.item_is.0.reading_is
+    (h.asks_the_same secured) k)
 item_judged_same e index r clock (Tick y) (Tick x) ss n m secured h k = record { verdict_is = refl; keys_are = k }
 item_judged_same e index r clock (Close y) (Close x) ss n m secured h k = record { verdict_is = refl; keys_are = k }
-item_judged_same e index r clock (Received d y) (Tick x) ss n m secured h k = absurd h
-item_judged_same e index r clock (Tick y) (Received c x) ss n m secured h k = absurd h
-item_judged_same e index r clock (Received d y) (Close x) ss n m secured h k = absurd h
-item_judged_same e index r clock (Tick y) (Close x) ss n m secured h k = absurd h
-item_judged_same e index r clock (Close y) (Received c x) ss n m secured h k = absurd h
-item_judged_same e index r clock (Close y) (Tick x) ss n m secured h k = absurd h
+item_judged_same e index r clock (Received d y) (Tick x) ss n m secured h k = absurd h.item_is
+item_judged_same e index r clock (Tick y) (Received c x) ss n m secured h k = absurd h.item_is
+item_judged_same e index r clock (Received d y) (Close x) ss n m secured h k = absurd h.item_is
+item_judged_same e index r clock (Tick y) (Close x) ss n m secured h k = absurd h.item_is
+item_judged_same e index r clock (Close y) (Received c x) ss n m secured h k = absurd h.item_is
+item_judged_same e index r clock (Close y) (Tick x) ss n m secured h k = absurd h.item_is
 
 kept_here : (r : Change) (o : Option Session) (k : SlotKeys) → kept_at (option_map (changed_session r) o) k ≡ kept_at o k
 kept_here r None k = refl
@@ -1062,7 +1115,7 @@ kept_same r ss n m h =
 
 judged_same : (secured : Bool) (e : Terms) (index : ℕ) (r : Change) (clock : ℕ) (j i : Item) (ss : List Session) (n m : RouteKeys)
     → (secured ≡ true → r.secured ≡ true)
-    → IsChangedItem r j i → AreChangedKeys r n m
+    → IsChangedInput r j i → AreChangedKeys r n m
     → IsChangedJudged r (judged_if secured e index (clock + r.later) j (map (changed_session r) ss) n) (judged_if secured e index clock i ss m)
 judged_same false e index r clock j i ss n m fits h k = record { verdict_is = refl; keys_are = k }
 judged_same true e index r clock j i ss n m fits h k =
@@ -1097,6 +1150,7 @@ heard_same r w Passes j i is h = subst (λ (x : Verdict). IsChangedItem r (heard
 heard_same r w Ignored j i is h = subst (λ (x : Verdict). IsChangedItem r (heard_as x j) (Tick (moment_of i))) (sym is) (moment_same r j i h)
 heard_same r w (Refused peer c) j i is h = subst (λ (x : Verdict). IsChangedItem r (heard_as x j) (Tick (moment_of i))) (sym is) (moment_same r j i h)
 heard_same r w (Repeats request) j i is h = subst (λ (x : Verdict). IsChangedItem r (heard_as x j) i) (sym is) h
+heard_same r w (Answered answer) j i is h = subst (λ (x : Verdict). IsChangedItem r (heard_as x j) i) (sym is) h
 heard_same r w (Decrypted bytes) j i is h =
     subst (λ (x : Verdict). IsChangedItem r (heard_as x j) (with_bytes bytes i)) (sym is.verdict_is)
     (bytes_same r is.other bytes j i is.reading_is h)
@@ -1106,6 +1160,7 @@ with_keys_same r request (Answers caller answer) = refl
 with_keys_same r request (AnswersWithKeys caller other answer) = refl
 with_keys_same r request (Says caller initial time report) = refl
 with_keys_same r request (Ends caller time) = refl
+with_keys_same r request (Responds caller time contents) = refl
 
 answers_with_same : (r : Change) (w v : Verdict) (xs : List Reply) → IsChangedVerdict r w v
     → answers_as w (map (changed_reply r) xs) ≡ map (changed_reply r) (answers_as v xs)
@@ -1117,6 +1172,7 @@ answers_with_same r w (Repeats (Some request)) xs is =
     ap (λ (x : Verdict). answers_as x (map (changed_reply r) xs)) is
     ∙ map_through (changed_reply r) (reply_with request) (reply_with request) (changed_reply r)
     (λ x. ap (λ (o : Output). record { peer = x.peer; packet = o }) (with_keys_same r request x.packet)) xs
+answers_with_same r w (Answered answer) xs is = ap (λ (x : Verdict). answers_as x (map (changed_reply r) xs)) is
 answers_with_same r w (Decrypted bytes) xs is = ap (λ (x : Verdict). answers_as x (map (changed_reply r) xs)) is.verdict_is
 
 -- before the first item the clock is 0 in both
@@ -1149,36 +1205,36 @@ closes_same r (Close y) (Received c x) h = absurd h
 closes_same r (Close y) (Tick x) h = absurd h
 
 judgement_same : (e : Terms) (index : ℕ) (r : Change) (fits : has_secured_role e ≡ true → r.secured ≡ true) (j i : Item) (n m : Route)
-    → IsChangedItem r j i → IsChangedRoute r n m → IsChangedJudged r (judgement e index j n) (judgement e index i m)
+    → IsChangedInput r j i → IsChangedRoute r n m → IsChangedJudged r (judgement e index j n) (judgement e index i m)
 judgement_same e index r fits j i n m h k =
     let clock = clock_after i m in
     let is = judgement e index i m in
     subst (λ (t : ℕ). IsChangedJudged r (judged_if (has_secured_role e) e index t j (advanced e t n.sessions) n.keys) is)
-    (sym (clock_same r j i n m h k))
+    (sym (clock_same r j i n m h.item_is k))
     (subst (λ (ss : List Session). IsChangedJudged r (judged_if (has_secured_role e) e index (clock + r.later) j ss n.keys) is)
     (sym (ap (λ ss. advanced e (clock + r.later) ss) k.sessions_are ∙ advanced_same e r clock m.sessions))
     (judged_same (has_secured_role e) e index r clock j i (advanced e clock m.sessions) n.keys m.keys fits h k.keys_are))
 
 taken_by_same : (e : Terms) (index : ℕ) (r : Change) (fits : has_secured_role e ≡ true → r.secured ≡ true) (j i : Item) (n m : Route)
-    → IsChangedItem r j i → IsChangedRoute r n m → taken_by e index j n ≡ changed_taken r (taken_by e index i m)
+    → IsChangedInput r j i → IsChangedRoute r n m → taken_by e index j n ≡ changed_taken r (taken_by e index i m)
 taken_by_same e index r fits j i n m h k =
     let clock = clock_after i m in
     let ss = advanced e clock m.sessions in
     let v = (judgement e index i m).verdict in
     let w = (judgement e index j n).verdict in
     let is = (judgement_same e index r fits j i n m h k).verdict_is in
-    ap (λ t. taken_with w (taken e index t (heard_as w j) (advanced e t n.sessions))) (clock_same r j i n m h k)
+    ap (λ t. taken_with w (taken e index t (heard_as w j) (advanced e t n.sessions))) (clock_same r j i n m h.item_is k)
     ∙ ap (λ xs. taken_with w (taken e index (clock + r.later) (heard_as w j) (advanced e (clock + r.later) xs))) k.sessions_are
     ∙ ap (λ xs. taken_with w (taken e index (clock + r.later) (heard_as w j) xs)) (advanced_same e r clock m.sessions)
-    ∙ ap (taken_with w) (taken_same e index r clock (heard_as w j) (heard_as v i) (heard_same r w v j i is h) ss)
+    ∙ ap (taken_with w) (taken_same e index r clock (heard_as w j) (heard_as v i) (heard_same r w v j i is h.item_is) ss)
     ∙ ap (λ (xs : List Reply). taken_as (map (changed_session r) (taken e index clock (heard_as v i) ss).sessions) xs)
     (answers_with_same r w v (taken e index clock (heard_as v i) ss).answers is)
 
 passed_by_same : (e : Terms) (index : ℕ) (r : Change) (fits : has_secured_role e ≡ true → r.secured ≡ true) (j i : Item) (n m : Route)
-    → IsChangedItem r j i → IsChangedRoute r n m → passed_by e index j n ≡ map (changed_session r) (passed_by e index i m)
+    → IsChangedInput r j i → IsChangedRoute r n m → passed_by e index j n ≡ map (changed_session r) (passed_by e index i m)
 passed_by_same e index r fits j i n m h k =
     let clock = clock_after i m in
-    ap (λ t. after_delivery e t (taken_by e index j n).sessions) (clock_same r j i n m h k)
+    ap (λ t. after_delivery e t (taken_by e index j n).sessions) (clock_same r j i n m h.item_is k)
     ∙ ap (λ (t : Taken). after_delivery e (clock + r.later) t.sessions) (taken_by_same e index r fits j i n m h k)
     ∙ after_delivery_same e r clock (taken_by e index i m).sessions
 
@@ -1186,7 +1242,7 @@ goes_on : (a b later moment : ℕ) → a ≡ b + later → max a (moment + later
 goes_on a b later moment same = omega (arith, same)
 
 sessions_same : (is_closed : Bool) (e : Terms) (index : ℕ) (r : Change) (fits : has_secured_role e ≡ true → r.secured ≡ true) (j i : Item)
-    (n m : Route) → IsChangedItem r j i
+    (n m : Route) → IsChangedInput r j i
     → IsChangedRoute r n m
     → sessions_at is_closed e index j n ≡ map (changed_session r) (sessions_at is_closed e index i m)
 sessions_same true e index r fits j i n m h k = k.sessions_are
@@ -1195,31 +1251,31 @@ sessions_same false e index r fits j i n m h k =
     let others = passed_by e index j n in
     let ss = passed_by e index i m in
     let over = is_file_over e ss in
-    ap (λ t. map (finished e t (is_file_over e others)) others) (clock_same r j i n m h k)
+    ap (λ t. map (finished e t (is_file_over e others)) others) (clock_same r j i n m h.item_is k)
     ∙ ap (λ xs. map (finished e (clock + r.later) (is_file_over e xs)) xs) (passed_by_same e index r fits j i n m h k)
     ∙ ap (λ b. map (finished e (clock + r.later) b) (map (changed_session r) ss)) (over_same e r ss)
     ∙ map_through (changed_session r) (finished e (clock + r.later) over) (finished e clock over) (changed_session r)
     (λ s. finished_here e r clock (has_whole_file over s) s) ss
 
 keys_same : (is_closed : Bool) (e : Terms) (index : ℕ) (r : Change) (fits : has_secured_role e ≡ true → r.secured ≡ true) (j i : Item)
-    (n m : Route) → IsChangedItem r j i → IsChangedRoute r n m
+    (n m : Route) → IsChangedInput r j i → IsChangedRoute r n m
     → AreChangedKeys r (keys_at is_closed e index j n) (keys_at is_closed e index i m)
 keys_same true e index r fits j i n m h k = k.keys_are
 keys_same false e index r fits j i n m h k = (judgement_same e index r fits j i n m h k).keys_are
 
 notified_same : (e : Terms) (index : ℕ) (r : Change) (fits : has_secured_role e ≡ true → r.secured ≡ true) (j i : Item) (n m : Route)
-    → IsChangedItem r j i → IsChangedRoute r n m → IsChangedRoute r (with_input e index j n) (with_input e index i m)
+    → IsChangedInput r j i → IsChangedRoute r n m → IsChangedRoute r (with_input e index j n) (with_input e index i m)
 notified_same e index r fits j i n m h k =
     record {
-      clock_is = λ moment. goes_on (clock_after j n) (clock_after i m) r.later moment (clock_same r j i n m h k);
+      clock_is = λ moment. goes_on (clock_after j n) (clock_after i m) r.later moment (clock_same r j i n m h.item_is k);
       sessions_are = ap (λ b. sessions_at b e index j n) k.closed_is ∙ sessions_same m.is_closed e index r fits j i n m h k;
-      closed_is = ap (λ b. b || closes j) k.closed_is ∙ ap (λ b. m.is_closed || b) (closes_same r j i h);
+      closed_is = ap (λ b. b || closes j) k.closed_is ∙ ap (λ b. m.is_closed || b) (closes_same r j i h.item_is);
       keys_are = subst (λ (b : Bool). AreChangedKeys r (keys_at b e index j n) (keys_at m.is_closed e index i m)) (sym k.closed_is)
           (keys_same m.is_closed e index r fits j i n m h k);
     }
 
 replies_at_same : (is_closed : Bool) (e : Terms) (index : ℕ) (r : Change) (fits : has_secured_role e ≡ true → r.secured ≡ true) (j i : Item)
-    (n m : Route) → IsChangedItem r j i
+    (n m : Route) → IsChangedInput r j i
     → IsChangedRoute r n m
     → replies_at is_closed e index j n ≡ map (changed_reply r) (replies_at is_closed e index i m)
 replies_at_same true e index r fits j i n m h k = refl
@@ -1235,7 +1291,7 @@ replies_at_same false e index r fits j i n m h k =
     ap
     (λ t.
     idle_notified e t n.sessions ++ (taken_by e index j n).answers ++ packets_where e t speaks others ++ served e t (is_file_over e others) others)
-    (clock_same r j i n m h k)
+    (clock_same r j i n m h.item_is k)
     ∙ ap
     (λ xs.
     idle_notified e (clock + r.later) xs ++ (taken_by e index j n).answers ++ packets_where e (clock + r.later) speaks others
@@ -1272,7 +1328,7 @@ replies_at_same false e index r fits j i n m h k =
     ∙ sym (map-append (changed_reply r) (idle ++ first ++ second) third)
 
 replies_same : (e : Terms) (index : ℕ) (r : Change) (fits : has_secured_role e ≡ true → r.secured ≡ true) (j i : Item) (n m : Route)
-    → IsChangedItem r j i → IsChangedRoute r n m → replies_to e index j n ≡ map (changed_reply r) (replies_to e index i m)
+    → IsChangedInput r j i → IsChangedRoute r n m → replies_to e index j n ≡ map (changed_reply r) (replies_to e index i m)
 replies_same e index r fits j i n m h k = ap (λ b. replies_at b e index j n) k.closed_is ∙ replies_at_same m.is_closed e index r fits j i n m h k
 
 at_first : (later moment : ℕ) → max 0 (moment + later) ≡ max 0 moment + later

@@ -15,18 +15,19 @@ use Rattle.srt_route.specs.declared.conclusion_reading.Conclusion.{Conclusion}
 use Rattle.srt_route.specs.Past.{is_shutdown, ToPublisher, ToSubscriber}
 use Rattle.srt_route.specs.RouteKeys.{brought_in, cookie_in, has_secured_role}
 use Rattle.srt_route.specs.Route.{info_of}
-use Rattle.srt_route.specs.Route.{Output, Answers, AnswersWithKeys, Says, Ends, Reply, output_text, sent, concludes, after, replies_to, reply, solo}
+use Rattle.srt_route.specs.Route.{Output, Answers, AnswersWithKeys, Says, Ends, Responds, Reply, output_text, sent, concludes, after, replies_to, reply, solo}
 use Rattle.srt_route.specs.Shifted.{shifted, shifted_body, shifted_reading, renumbered, renumbered_datagram, renumbered_item}
 use Rattle.srt_route.specs.Shifted.{restamped_datagram, restamped_item, moved_item}
 use Rattle.srt_route.specs.ShiftLaws.{restamped_reading}
 use Rattle.srt_route.specs.Relabel.{Renumbers, Restamps, Moves}
 use Rattle.srt_route.proofs.renumbering.ShiftedWords.{stamps_stay}
 use Rattle.srt_route.proofs.renumbering.ShiftedPackets.{packets_shift}
-use Rattle.srt_route.proofs.renumbering.Restamped.{packets_restamp}
+use Rattle.srt_route.proofs.renumbering.Restamped.{requests_restamp, packets_restamp}
 use Rattle.srt_route.proofs.renumbering.ShiftedHandshakes.{conclusions_shift, cookie_stays, keys_stay}
 use Rattle.srt_route.proofs.renumbering.ShiftedHeard.{publishers_hear, subscribers_hear}
 use Rattle.srt_route.proofs.renumbering.ShiftedOutput.{publishers_say, subscribers_say}
 use Rattle.srt_route.proofs.renumbering.ShiftedAnswers.{answers_say}
+use Rattle.srt_route.proofs.renumbering.Relabelled.{IsChangedInput, item_request}
 use Rattle.srt_route.proofs.renumbering.Relabelled.{Change, IsChangedReading, IsChangedDatagram, IsChangedItem, AreChanged, changed_conclusion}
 use Rattle.srt_route.proofs.renumbering.Relabelled.{changed_output, changed_reply, all_replies, all_same}
 use Rattle.srt_route.proofs.model.Lists.{Each}
@@ -208,8 +209,29 @@ renumbered_item_is by (Received d m) = (renumbered_notified by d, not_later m)
 renumbered_item_is by (Tick m) = not_later m
 renumbered_item_is by (Close m) = not_later m
 
+-- a KMREQ with another timestamp has the same contents
+restamped_asks : (by : ℕ) (item : Item) → item_request (restamped_item by item) ≡ item_request item
+restamped_asks by (Received d m) = requests_restamp by d.bytes
+restamped_asks by (Tick m) = refl
+restamped_asks by (Close m) = refl
+
+moved_asks : (by : ℕ) (item : Item) → item_request (moved_item by item) ≡ item_request item
+moved_asks by (Received d m) = refl
+moved_asks by (Tick m) = refl
+moved_asks by (Close m) = refl
+
+restamped_input_is : (by : ℕ) (item : Item) → IsChangedInput (restamp by) (restamped_item by item) item
+restamped_input_is by item = record { item_is = restamped_item_is by item; asks_the_same = λ secured. restamped_asks by item }
+
+moved_input_is : (by : ℕ) (item : Item) → IsChangedInput (move by) (moved_item by item) item
+moved_input_is by item = record { item_is = moved_item_is by item; asks_the_same = λ secured. moved_asks by item }
+
+renumbered_input_is : (by : ℕ) (item : Item) → IsChangedInput (renumber by) (renumbered_item by item) item
+renumbered_input_is by item =
+    record { item_is = renumbered_item_is by item; asks_the_same = λ secured. absurd (let bad : false ≡ true = secured in cc) }
+
 all_changed : (r : Change) (change : Item → Item)
-    → ((item : Item) → IsChangedItem r (change item) item) → (items : List Item) → AreChanged r (map change items) items
+    → ((item : Item) → IsChangedInput r (change item) item) → (items : List Item) → AreChanged r (map change items) items
 all_changed r change is [] = tt
 all_changed r change is (item ∷ items) = (is item, all_changed r change is items)
 
@@ -219,6 +241,7 @@ same_output r numbers (Answers caller a) = ap (λ n. Answers caller (record a { 
 same_output r numbers (AnswersWithKeys caller request a) = ap (λ n. AnswersWithKeys caller request (record a { initial = n })) (numbers a.initial)
 same_output r numbers (Says caller initial time report) = ap (λ n. Says caller n time report) (numbers initial)
 same_output r numbers (Ends caller time) = refl
+same_output r numbers (Responds caller time contents) = refl
 
 same_replies : (r : Change) → ((n : ℕ) → r.initial n ≡ n) → (xs : List Reply) → map (changed_reply r) xs ≡ xs
 same_replies r numbers [] = refl
@@ -233,12 +256,12 @@ alike e index r fits numbers js is h =
 pub restamps : Restamps
 restamps e index by items =
     alike e index (restamp by) (λ secured. refl) (λ n. refl) (map (restamped_item by) items) items
-    (all_changed (restamp by) (restamped_item by) (restamped_item_is by) items)
+    (all_changed (restamp by) (restamped_item by) (restamped_input_is by) items)
 
 pub moves : Moves
 moves e index by items =
     alike e index (move by) (λ secured. refl) (λ n. refl) (map (moved_item by) items) items
-    (all_changed (move by) (moved_item by) (moved_item_is by) items)
+    (all_changed (move by) (moved_item by) (moved_input_is by) items)
 
 -- a SHUTDOWN has no numbers
 shutdown_says : (by stamp dest : ℕ)
@@ -253,6 +276,7 @@ output_shifts by (Answers caller a) h = sym (answers_say by caller a h)
 output_shifts by (AnswersWithKeys caller request a) h = absurd h
 output_shifts by (Says caller initial time (ToPublisher report)) h = sym (publishers_say by caller initial time report h)
 output_shifts by (Says caller initial time (ToSubscriber report)) h = sym (subscribers_say by caller initial time report h)
+output_shifts by (Responds caller time contents) h = absurd h
 output_shifts by (Ends caller time) h = sym (shutdown_says by (time % 2 ^ 32) caller)
 
 all_shift : (by : ℕ) (xs : List Reply) → Each (λ (x : Reply). IsSaid x.packet) xs
@@ -264,7 +288,7 @@ all_shift by (x ∷ xs) h =
 
 pub renumbers : Renumbers
 renumbers e index by items clear =
-    let changed = all_changed (renumber by) (renumbered_item by) (renumbered_item_is by) items in
+    let changed = all_changed (renumber by) (renumbered_item by) (renumbered_input_is by) items in
     solo_is e index (map (renumbered_item by) items)
     ∙ ap (λ xs. map sent xs)
     (all_same e index (renumber by) (λ secured. absurd (let bad : true ≡ false = sym secured ∙ clear in cc)) (map (renumbered_item by) items) items

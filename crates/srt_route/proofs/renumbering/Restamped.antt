@@ -1,9 +1,13 @@
 -- A restamped datagram is the packet with another timestamp.
-use Rattle.std.proofs.Common.{◌≡◌, ℕ, ◌+◌, ◌%◌, ◌^◌, ◌<◌, ◌≤◌, Bool, true, false, cond, List, length, drop, Result, Ok, Err, nat_lt, ltb}
+use Rattle.std.proofs.Common.{◌≡◌, ℕ, ◌+◌, ◌%◌, ◌^◌, ◌<◌, ◌≤◌, Bool, true, false, cond, Option, None, Some, List, length, drop, Result, Ok, Err, nat_lt, ltb}
 use Rattle.std.proofs.Common.{refl, sym, ap, inl, inr, ◌∙◌, arith}
 use Rattle.std.proofs.lemmas.Bool.{cases_lt, cond-true, cond-false, lt-ltb, le-ltb}
 use Rattle.srt_types.specs.Words.{word_at}
 use Rattle.srt_packet.specs.declared.reading.PacketFault.{PacketFault}
+use Rattle.srt_packet.specs.KeyPacket.{key_kind_of, key_packet_with}
+use Rattle.srt_packet.specs.declared.key_packet.KeyPacketKind.{KeyPacketKind}
+use Rattle.srt_packet.specs.declared.key_packet.KeyPacketKind.TheVariants as messages
+use Rattle.srt_route.specs.KeyRefresh.{request_in, request_read}
 use Rattle.srt_packet.specs.declared.reading.PacketFault.TheVariants.{Short, Long}
 use Rattle.srt_packet.specs.Grammar.{Packet, Body}
 use Rattle.srt_packet.specs.Reading.{packet_with, packet_in, body_in}
@@ -84,3 +88,40 @@ length_restamped by bytes =
 
 pub lengths_stay : LengthsStay
 lengths_stay by bytes = (length_renumbered by bytes, length_restamped by bytes)
+
+-- a KMREQ with another timestamp has the same contents
+abbrev asked_with : (rest : List ℕ) → Option KeyPacketKind → Option (List ℕ)
+asked_with rest None = None
+asked_with rest (Some messages.Request) = Some rest
+asked_with rest (Some messages.Response) = None
+
+abbrev asked_by : (long word0 : ℕ) (rest : List ℕ) → Option (List ℕ)
+asked_by long word0 rest = cond (nat_lt long 16) None (cond (nat_lt 1472 long) None (asked_with rest (key_kind_of word0)))
+
+request_parts : (bytes : List ℕ) → request_in bytes ≡ asked_by (length bytes) (word_at bytes 0) (drop 16 bytes)
+request_parts bytes = by (nat_lt (length bytes) 16) (nat_lt 1472 (length bytes)) (key_kind_of (word_at bytes 0))
+  where
+    by : (short over : Bool) (kind : Option KeyPacketKind)
+        → request_read (cond short None (cond over None (key_packet_with bytes (drop 16 bytes) kind)))
+        ≡ cond short None (cond over None (asked_with (drop 16 bytes) kind))
+    by true over kind = refl
+    by false true kind = refl
+    by false false None = refl
+    by false false (Some messages.Request) = refl
+    by false false (Some messages.Response) = refl
+
+same_request : (bytes : List ℕ) (n : ℕ) → 16 ≤ length bytes → request_in (with_word 8 n bytes) ≡ request_in bytes
+same_request bytes n h =
+    let inside : 8 ≤ length bytes = omega (arith, h) in
+    request_parts (with_word 8 n bytes)
+    ∙ ap (λ long. asked_by long (word_at (with_word 8 n bytes) 0) (drop 16 (with_word 8 n bytes))) (length_with 8 n bytes (omega (arith, h)))
+    ∙ ap (λ first. asked_by (length bytes) first (drop 16 (with_word 8 n bytes))) (word_before 8 n 0 bytes inside (omega arith))
+    ∙ ap (λ rest. asked_by (length bytes) (word_at bytes 0) rest) (rest_after 8 n 16 bytes (omega (arith, h)) (omega arith))
+    ∙ sym (request_parts bytes)
+
+pub requests_restamp : (by : ℕ) (bytes : List ℕ) → request_in (restamped by bytes) ≡ request_in bytes
+requests_restamp by bytes =
+    elim (cases_lt (length bytes) 16) [
+      | inl short ↦ ap request_in (restamped_short by bytes short)
+      | inr long ↦ ap request_in (restamped_long by bytes long) ∙ same_request bytes ((word_at bytes 8 + by) % 2 ^ 32) long
+    ]

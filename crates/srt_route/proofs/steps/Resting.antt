@@ -17,6 +17,7 @@ use Rattle.srt_route.specs.declared.table.Table.{Table}
 use Rattle.srt_types.specs.declared.shared.OpenFault.{OpenFault}
 use Rattle.srt_types.specs.declared.shared.OpenFault.TheVariants.{Limits}
 use Rattle.srt_route.specs.Opening.{fault_at_rest, fault_of}
+use Rattle.srt_route.specs.RouteKeys.{has_secured_role}
 use Rattle.srt_route.specs.Route.{Route}
 use Rattle.srt_route.specs.Rests.{is_any_open, IsResting}
 use Rattle.srt_route.specs.Sessions.{Session, is_open_in}
@@ -162,8 +163,14 @@ rest_holds e index clock count = by (fault_of e index) refl
     early true false is h = absurd (let bad : Some Limits ≡ None = h in cc)
     early false false is h = absurd (let bad : Some Limits ≡ None = h in cc)
 
+    unsecured : (secured : Bool)
+        → cond secured (Some Limits) (cond (count == e.sessions && nat_lt clock (2 ^ 62)) None (Some Limits)) ≡ None → clock < 2 ^ 62
+    unsecured true h = absurd (let bad : Some Limits ≡ None = h in cc)
+    unsecured false h = early (count == e.sessions) (nat_lt clock (2 ^ 62)) refl h
+
     by : (fault : Option OpenFault) → fault_of e index ≡ fault
-        → option_or fault (cond (count == e.sessions && nat_lt clock (2 ^ 62)) None (Some Limits)) ≡ None
+        → option_or fault
+        (cond (has_secured_role e) (Some Limits) (cond (count == e.sessions && nat_lt clock (2 ^ 62)) None (Some Limits))) ≡ None
         → (fault_of e index ≡ None) × (clock < 2 ^ 62)
-    by None is h = (is, early (count == e.sessions) (nat_lt clock (2 ^ 62)) refl h)
+    by None is h = (is, unsecured (has_secured_role e) h)
     by (Some fault) is h = absurd (let bad : Some fault ≡ None = h in cc)

@@ -47,7 +47,7 @@ use Rattle.srt_route.specs.Sessions.{Session, answer_of, generation_of, is_open_
 use Rattle.srt_hs.specs.declared.writing.HsAnswer.{HsAnswer}
 use Rattle.srt_packet.specs.declared.reading.PacketFault.{PacketFault}
 use Rattle.srt_route.specs.Decryption.{clear_bytes, in_clear}
-use Rattle.srt_route.specs.Route.{Decrypted, is_for, session_judged}
+use Rattle.srt_route.specs.Route.{Answered, Decrypted, is_for, session_judged}
 use Rattle.srt_route.specs.Route.{as_before, concludes, info_of, item_judged, judged, judged_if}
 use Rattle.srt_route.specs.Route.{Judged, Verdict, Passes, Ignored, Refused, heard_as, info_judged, packet_judged, packet_taken, read_taken, taken, taken_as}
 use Rattle.srt_route.specs.Ends.{Ending, EndsAre, destined_ending, item_ending, kept_of, read_ending}
@@ -343,7 +343,7 @@ secured_by e index clock ss j v t ending later table keys replies old new is tab
 -- a packet that is a conclusion
 pub judged_here : (e : Terms) (index clock : ℕ) (peer : Peer) (p : Packet) (bytes info : List ℕ) (c : Conclusion) (ss : List Session) (keys : RouteKeys)
     → p.dest ≡ 0 → p.body ≡ Handshake info → conclusion_in info ≡ Some c
-    → packet_judged e index clock peer p bytes ss keys ≡ info_judged e index clock peer info ss keys (Some c)
+    → packet_judged e index clock peer None p bytes ss keys ≡ info_judged e index clock peer info ss keys (Some c)
 judged_here e index clock peer p bytes info c ss keys zero is reads = rw (zero, is, reads) refl
 
 pub taken_here : (e : Terms) (index clock : ℕ) (peer : Peer) (p : Packet) (info : List ℕ) (c : Conclusion) (ss : List Session)
@@ -368,6 +368,9 @@ none_end Ignored e index clock peer p ss old new zero stays =
 none_end (Refused q d) e index clock peer p ss old new zero stays =
     none_notified e index none_ends clock ss (kept_of old) (kept_of new) (λ at s found. refl)
     (λ at. ap (λ (xs : List (Option EndedSession)). get_or xs at None) stays.0) stays.1
+none_end (Answered answer) e index clock peer p ss old new zero stays =
+    none_notified e index (destined_ending e index clock peer p ss) clock ss (kept_of old) (kept_of new)
+    (λ at s found. rw (zero) refl) (λ at. ap (λ (xs : List (Option EndedSession)). get_or xs at None) stays.0) stays.1
 none_end (Decrypted bytes) e index clock peer p ss old new zero stays =
     none_notified e index (destined_ending e index clock peer p ss) clock ss (kept_of old) (kept_of new)
     (λ at s found. rw (zero) refl) (λ at. ap (λ (xs : List (Option EndedSession)). get_or xs at None) stays.0) stays.1
@@ -388,7 +391,7 @@ pub plain_secured : (e : Terms) (index : ℕ) (arrival : Arrival) (p : Packet) (
     → (let v = verdict_in arrival.peer c (λ slot. Clear) verdict in
     tally_of new ≡ verdict_tally v (heard_tally v (tally_of old) (conclusion_tally e arrival.peer ss (Some c) (tally_of old))))
     → IsPlain verdict
-    → IsSecured e index arrival.clock ss (packet_judged e index arrival.clock arrival.peer p bytes ss keys)
+    → IsSecured e index arrival.clock ss (packet_judged e index arrival.clock arrival.peer None p bytes ss keys)
     (packet_taken e index arrival.clock arrival.peer p ss) (destined_ending e index arrival.clock arrival.peer p ss) (packet_tally e arrival.peer p ss)
     table stored replies old new
 plain_secured e index arrival p bytes info c ss keys verdict table stored replies old new zero is reads stamp judged taken stays counts plain =
@@ -398,7 +401,7 @@ plain_secured e index arrival p bytes info c ss keys verdict table stored replie
     let here = judged_here e index clock peer p bytes info c ss keys zero is reads in
     let took : concluded e index clock peer arrival.stamp c ss (find (is_of peer c.caller) ss) ≡ packet_taken e index clock peer p ss =
     ap (λ (n : ℕ). concluded e index clock peer n c ss (find (is_of peer c.caller) ss)) stamp ∙ sym (taken_here e index clock peer p info c ss zero is reads) in
-    secured_by e index clock ss (packet_judged e index clock peer p bytes ss keys) v (packet_taken e index clock peer p ss)
+    secured_by e index clock ss (packet_judged e index clock peer None p bytes ss keys) v (packet_taken e index clock peer p ss)
     (destined_ending e index clock peer p ss) (packet_tally e peer p ss) table stored replies old new
     (ap (λ (j : Judged). j.verdict) here ∙ judged.verdict_is
     ∙ same_verdict peer c (info_judged e index clock peer info ss keys (Some c)).keys.held verdict plain)
@@ -427,7 +430,7 @@ pub repeat_secured : (e : Terms) (index : ℕ) (arrival : Arrival) (p : Packet) 
     → (new.ended ≡ old.ended) × (new.totals ≡ old.totals)
     → tally_of new ≡ conclusion_tally e arrival.peer ss (Some c) (tally_of old)
     → RepeatsRequest table stored slot arrival.peer before after
-    → IsSecured e index arrival.clock ss (packet_judged e index arrival.clock arrival.peer p bytes ss keys)
+    → IsSecured e index arrival.clock ss (packet_judged e index arrival.clock arrival.peer None p bytes ss keys)
     (packet_taken e index arrival.clock arrival.peer p ss) (destined_ending e index arrival.clock arrival.peer p ss) (packet_tally e arrival.peer p ss)
     table stored (written_of (given answered after)) old new
 repeat_secured e index arrival p bytes info c ss keys slot first table stored answered before after old new zero is reads stamp secured first_is inside
@@ -443,7 +446,7 @@ repeat_secured e index arrival p bytes info c ss keys slot first table stored an
     let answer = concluded_answer e index clock peer arrival.stamp c ss slot (find (is_of peer c.caller) ss) refl repeats in
     let s = answer.session in
     let a : Reply = record { peer = peer; packet = Answers s.conclusion.caller (answer_of e index s) } in
-    secured_by e index clock ss (packet_judged e index clock peer p bytes ss keys) (Repeats request) (packet_taken e index clock peer p ss)
+    secured_by e index clock ss (packet_judged e index clock peer None p bytes ss keys) (Repeats request) (packet_taken e index clock peer p ss)
     (destined_ending e index clock peer p ss) (packet_tally e peer p ss) table stored (written_of (given answered after)) old new
     (ap (λ (x : Judged). x.verdict) here ∙ judged.verdict_is)
     (subst (λ (x : Taken). IsTable e index clock table x.sessions) took taken.table_is)
@@ -477,6 +480,7 @@ heard_is Ignored e index clock d moment ss = refl
 heard_is (Refused peer c) e index clock d moment ss = refl
 heard_is (Repeats request) e index clock d moment ss = refl
 heard_is (Decrypted bytes) e index clock d moment ss = refl
+heard_is (Answered answer) e index clock d moment ss = refl
 
 ending_is : (v : Verdict) (e : Terms) (index clock : ℕ) (d : Datagram) (moment : ℕ) (ss : List Session)
     → heard_ending v (read_ending e index clock d.peer (packet_in (heard_bytes v d.bytes)) ss) ≡ item_ending e index clock (heard_as v (Received d moment)) ss
@@ -485,6 +489,7 @@ ending_is Ignored e index clock d moment ss = refl
 ending_is (Refused peer c) e index clock d moment ss = refl
 ending_is (Repeats request) e index clock d moment ss = refl
 ending_is (Decrypted bytes) e index clock d moment ss = refl
+ending_is (Answered answer) e index clock d moment ss = refl
 
 tally_is : (v : Verdict) (e : Terms) (d : Datagram) (moment : ℕ) (ss : List Session) (t : Tally)
     → heard_tally v t (read_tally e d.peer (packet_in (heard_bytes v d.bytes)) ss t) ≡ item_tally e (heard_as v (Received d moment)) ss t
@@ -493,6 +498,7 @@ tally_is Ignored e d moment ss t = refl
 tally_is (Refused peer c) e d moment ss t = refl
 tally_is (Repeats request) e d moment ss t = refl
 tally_is (Decrypted bytes) e d moment ss t = refl
+tally_is (Answered answer) e d moment ss t = refl
 
 pub datagram_dispatched : (e : Terms) (index clock : ℕ) (ss : List Session) (d : Datagram) (moment : ℕ) (j : Judged) (table : Table)
     (keys : TheRouteKeys) (before later : ReplyQueue) (replies : List Datagram) (old new : Ledger)
@@ -575,32 +581,33 @@ heard_plainly e index clock peer p bytes ss j table stored replies old new reads
 -- a packet about which keys change nothing
 pub passes_packet : (e : Terms) (index clock : ℕ) (peer : Peer) (p : Packet) (bytes : List ℕ) (ss : List Session) (keys : RouteKeys)
     (stored : TheRouteKeys) (table : Table) (replies : List Datagram) (old new : Ledger) → packet_in bytes ≡ Ok p
-    → packet_judged e index clock peer p bytes ss keys ≡ as_before keys
+    → packet_judged e index clock peer None p bytes ss keys ≡ as_before keys
     → AreKeys e stored keys → IsTable e index clock table (packet_taken e index clock peer p ss).sessions
     → replies ≡ map sent (packet_taken e index clock peer p ss).answers
     → EndsAre e index (destined_ending e index clock peer p ss) clock ss (kept_of old) (kept_of new)
     → tally_of new ≡ packet_tally e peer p ss (tally_of old)
-    → IsHeard e index clock peer bytes ss (packet_judged e index clock peer p bytes ss keys) table stored replies old new
+    → IsHeard e index clock peer bytes ss (packet_judged e index clock peer None p bytes ss keys) table stored replies old new
 passes_packet e index clock peer p bytes ss keys stored table replies old new reads is are table_is replies_are ends tally =
-    heard_plainly e index clock peer p bytes ss (packet_judged e index clock peer p bytes ss keys) table stored replies old new reads
+    heard_plainly e index clock peer p bytes ss (packet_judged e index clock peer None p bytes ss keys) table stored replies old new reads
     (ap (λ (j : Judged). heard_bytes j.verdict bytes) is)
-    (secured_by e index clock ss (packet_judged e index clock peer p bytes ss keys) Passes (packet_taken e index clock peer p ss)
+    (secured_by e index clock ss (packet_judged e index clock peer None p bytes ss keys) Passes (packet_taken e index clock peer p ss)
     (destined_ending e index clock peer p ss) (packet_tally e peer p ss) table stored replies old new (ap (λ (j : Judged). j.verdict) is)
     table_is replies_are (subst (λ (j : Judged). AreKeys e stored j.keys) (sym is) are) ends tally)
 
 -- one for no session, and one for a session
-for_session : (e : Terms) (index clock : ℕ) (peer : Peer) (p : Packet) (bytes : List ℕ) (ss : List Session) (keys : RouteKeys) (o : Option Session)
-    → p.dest ≢ 0 → find (is_for index peer p.dest) ss ≡ o → packet_judged e index clock peer p bytes ss keys ≡ session_judged p bytes keys o
-for_session e index clock peer p bytes ss keys o other found =
+pub for_session : (e : Terms) (index clock : ℕ) (peer : Peer) (request : Option (List ℕ)) (p : Packet) (bytes : List ℕ) (ss : List Session) (keys : RouteKeys)
+    (o : Option Session) → p.dest ≢ 0 → find (is_for index peer p.dest) ss ≡ o
+    → packet_judged e index clock peer request p bytes ss keys ≡ session_judged request clock p bytes keys o
+for_session e index clock peer request p bytes ss keys o other found =
     ap (λ (b : Bool). cond b (info_judged e index clock peer (info_of p.body) ss keys (concludes p.body))
-    (session_judged p bytes keys (find (is_for index peer p.dest) ss)))
+    (session_judged request clock p bytes keys (find (is_for index peer p.dest) ss)))
     (sym (has_destination p other))
-    ∙ ap (session_judged p bytes keys) found
+    ∙ ap (session_judged request clock p bytes keys) found
 
 pub none_passes : (e : Terms) (index clock : ℕ) (peer : Peer) (p : Packet) (bytes : List ℕ) (ss : List Session) (keys : RouteKeys) → p.dest ≢ 0
-    → AreAlone e.sessions ss → IsForNone index peer p.dest e.sessions ss → packet_judged e index clock peer p bytes ss keys ≡ as_before keys
+    → AreAlone e.sessions ss → IsForNone index peer p.dest e.sessions ss → packet_judged e index clock peer None p bytes ss keys ≡ as_before keys
 none_passes e index clock peer p bytes ss keys other alone none =
-    for_session e index clock peer p bytes ss keys None other
+    for_session e index clock peer None p bytes ss keys None other
     (none_found_for index peer p.dest e.sessions ss alone none (find (is_for index peer p.dest) ss) refl)
 
 pub session_heard : (e : Terms) (index clock : ℕ) (peer : Peer) (p clear : Packet) (bytes : List ℕ) (ss : List Session) (keys : RouteKeys) (s : Session)
@@ -610,13 +617,13 @@ pub session_heard : (e : Terms) (index clock : ℕ) (peer : Peer) (p clear : Pac
     → replies ≡ map sent (packet_taken e index clock peer clear ss).answers
     → EndsAre e index (destined_ending e index clock peer clear ss) clock ss (kept_of old) (kept_of new)
     → tally_of new ≡ packet_tally e peer clear ss (tally_of old)
-    → IsHeard e index clock peer bytes ss (packet_judged e index clock peer p bytes ss keys) table stored replies old new
+    → IsHeard e index clock peer bytes ss (packet_judged e index clock peer None p bytes ss keys) table stored replies old new
 session_heard e index clock peer p clear bytes ss keys s stored table replies old new reads other found clear_is are table_is replies_are ends tally =
     let other_bytes = clear_bytes (keys.held s.slot) p bytes in
     let j : Judged = record { verdict = Decrypted other_bytes; keys = keys } in
     let read : Ok clear ≡ packet_in other_bytes = ap Ok clear_is ∙ sym (clear_read (keys.held s.slot) p bytes reads) in
     subst (λ (x : Judged). IsHeard e index clock peer bytes ss x table stored replies old new)
-    (sym (for_session e index clock peer p bytes ss keys (Some s) other found))
+    (sym (for_session e index clock peer None p bytes ss keys (Some s) other found))
     (subst
     (λ (r : Result Packet PacketFault). IsSecured e index clock ss j (read_taken e index clock peer r ss) (read_ending e index clock peer r ss)
     (read_tally e peer r ss) table stored replies old new)
@@ -634,12 +641,12 @@ pub conclusion_heard : (e : Terms) (index : ℕ) (arrival : Arrival) (p : Packet
     (keys : RouteKeys) (verdict : TheVerdict) (table : Table) (stored : TheRouteKeys) (replies : List Datagram) (old new : Ledger)
     → packet_in bytes ≡ Ok p → p.dest ≡ 0 → p.body ≡ Handshake info → conclusion_in info ≡ Some c
     → IsJudged e arrival.peer c verdict stored (info_judged e index arrival.clock arrival.peer info ss keys (Some c))
-    → IsSecured e index arrival.clock ss (packet_judged e index arrival.clock arrival.peer p bytes ss keys)
+    → IsSecured e index arrival.clock ss (packet_judged e index arrival.clock arrival.peer None p bytes ss keys)
     (packet_taken e index arrival.clock arrival.peer p ss) (destined_ending e index arrival.clock arrival.peer p ss) (packet_tally e arrival.peer p ss)
     table stored replies old new
-    → IsHeard e index arrival.clock arrival.peer bytes ss (packet_judged e index arrival.clock arrival.peer p bytes ss keys) table stored replies old new
+    → IsHeard e index arrival.clock arrival.peer bytes ss (packet_judged e index arrival.clock arrival.peer None p bytes ss keys) table stored replies old new
 conclusion_heard e index arrival p bytes info c ss keys verdict table stored replies old new here zero is reads judged secured =
-    heard_plainly e index arrival.clock arrival.peer p bytes ss (packet_judged e index arrival.clock arrival.peer p bytes ss keys) table stored replies
+    heard_plainly e index arrival.clock arrival.peer p bytes ss (packet_judged e index arrival.clock arrival.peer None p bytes ss keys) table stored replies
     old new here
     (ap (λ (j : Judged). heard_bytes j.verdict bytes) (judged_here e index arrival.clock arrival.peer p bytes info c ss keys zero is reads)
     ∙ ap (λ (v : Verdict). heard_bytes v bytes) judged.verdict_is
@@ -650,7 +657,7 @@ conclusion_heard e index arrival p bytes info c ss keys verdict table stored rep
 pub ignored_packet : (e : Terms) (index clock : ℕ) (peer : Peer) (p : Packet) (bytes : List ℕ) (ss : List Session) (keys : RouteKeys)
     (stored : TheRouteKeys) (table : Table) (ledger : Ledger) → packet_in bytes ≡ Ok p → p.dest ≡ 0 → concludes p.body ≡ None
     → IsTable e index clock table ss → AreKeys e stored keys
-    → IsHeard e index clock peer bytes ss (packet_judged e index clock peer p bytes ss keys) table stored [] ledger ledger
+    → IsHeard e index clock peer bytes ss (packet_judged e index clock peer None p bytes ss keys) table stored [] ledger ledger
 ignored_packet e index clock peer p bytes ss keys stored table ledger reads zero none is are =
     passes_packet e index clock peer p bytes ss keys stored table [] ledger ledger reads (rw (zero, none) refl) are (rw (zero, none) is)
     (rw (zero, none) refl) (none_end Passes e index clock peer p ss ledger ledger zero (refl, refl)) (rw (zero, none) refl)

@@ -7,6 +7,7 @@ use Rattle.srt_packet.specs.Grammar.{Packet}
 use Rattle.srt_packet.specs.Reading.{packet_in}
 use Rattle.srt_route.specs.declared.arrival.Arrival.{Arrival}
 use Rattle.srt_route.specs.declared.conclusion_reading.Conclusion.{Conclusion}
+use Rattle.srt_route.specs.declared.key_refresh.KeyResponse.{KeyResponse}
 use Rattle.srt_route.specs.declared.ledger.Ledger.{Ledger}
 use Rattle.srt_route.specs.declared.reply_queue.ReplyQueue.{ReplyQueue}
 use Rattle.srt_route.specs.declared.route_keys.RouteKeys.{RouteKeys as TheRouteKeys}
@@ -19,9 +20,10 @@ use Rattle.srt_route.specs.declared.secured.Verdict.TheVariants as code
 use Rattle.srt_route.specs.declared.table.Table.{Table}
 use Rattle.srt_route.specs.RouteKeys.{Brought, RouteKeys, SlotKeys, Clear, brought_in, cookie_in, has_secured_role, passphrase_of, request_of}
 use Rattle.srt_route.specs.Sessions.{Session, answer_of, is_open_in}
-use Rattle.srt_route.specs.Route.{Answers, Judged, Reply, Taken, Verdict, Passes, Ignored, Refused, Repeats, Decrypted, answers_as, asked, concluded}
+use Rattle.srt_route.specs.Route.{Answers, Judged, Reply, Taken, Verdict, Passes, Ignored, Refused, Repeats, Decrypted, Answered, answers_as, asked, concluded}
 use Rattle.srt_route.specs.Route.{conclusion_judged}
-use Rattle.srt_route.specs.Route.{decision}
+use Rattle.srt_route.specs.Route.{Responds, decision}
+use Rattle.srt_session_keys.specs.Publisher.{response_to}
 use Rattle.srt_route.specs.Route.{heard_as, info_judged, is_of, item_judged, judged, kept_at, keys_kept, nothing_taken, packet_judged}
 use Rattle.srt_route.specs.Route.{read_judged, read_taken}
 use Rattle.srt_route.specs.Route.{reply_with, sent, taken, taken_as}
@@ -118,6 +120,7 @@ heard_taken Ignored sessions t = nothing_taken sessions
 heard_taken (Refused peer c) sessions t = nothing_taken sessions
 heard_taken (Repeats request) sessions t = t
 heard_taken (Decrypted bytes) sessions t = t
+heard_taken (Answered answer) sessions t = t
 
 -- counts after a verdict, from those before and after what the sessions make of the item
 abbrev pub heard_tally : Verdict → (before after : Tally) → Tally
@@ -126,6 +129,7 @@ heard_tally Ignored before after = before
 heard_tally (Refused peer c) before after = before
 heard_tally (Repeats request) before after = after
 heard_tally (Decrypted bytes) before after = after
+heard_tally (Answered answer) before after = after
 
 -- how sessions end by an item after a verdict
 abbrev pub none_ends : Ending
@@ -137,6 +141,7 @@ heard_ending Ignored ending = none_ends
 heard_ending (Refused peer c) ending = none_ends
 heard_ending (Repeats request) ending = ending
 heard_ending (Decrypted bytes) ending = ending
+heard_ending (Answered answer) ending = ending
 
 -- a conclusion as judged, without the contents of a KMREQ block in its answer
 abbrev pub ConcludesAs : TheVerdict → Arrival → Conclusion → (old new : Table) → List Datagram → Type 0
@@ -185,6 +190,7 @@ heard_bytes Ignored bytes = bytes
 heard_bytes (Refused peer c) bytes = bytes
 heard_bytes (Repeats request) bytes = bytes
 heard_bytes (Decrypted other) bytes = other
+heard_bytes (Answered answer) bytes = bytes
 
 -- a datagram with these bytes was processed so
 abbrev pub IsHeard : Terms → (index clock : ℕ) → Peer → (bytes : List ℕ) → List Session → Judged → Table → TheRouteKeys → List Datagram
@@ -194,13 +200,35 @@ IsHeard e index clock peer bytes sessions j table keys replies old new =
     IsSecured e index clock sessions j (read_taken e index clock peer read sessions) (read_ending e index clock peer read sessions)
     (read_tally e peer read sessions) table keys replies old new
 
--- a packet was processed so, whatever its bytes are, and a datagram with these bytes
-abbrev pub SecuresPacket : Arrival → Packet → (old new : Table) → (before after : TheRouteKeys) → List Datagram → (earlier later : Ledger) → Type 0
-SecuresPacket arrival packet old new before after replies earlier later =
+-- a packet was processed so, whatever its bytes are: a KMREQ, if it has contents
+abbrev pub SecuresRequest : Arrival → (request : Option (List ℕ)) → Packet → (old new : Table) → (before after : TheRouteKeys) → List Datagram
+    → (earlier later : Ledger) → Type 0
+SecuresRequest arrival request packet old new before after replies earlier later =
     (e : Terms) (index : ℕ) (sessions : List Session) (keys : RouteKeys) (bytes : List ℕ)
     → IsTable e index arrival.clock old sessions → AreKeys e before keys → has_secured_role e ≡ true → packet_in bytes ≡ Ok packet
-    → IsHeard e index arrival.clock arrival.peer bytes sessions (packet_judged e index arrival.clock arrival.peer packet bytes sessions keys) new after
-    replies earlier later
+    → IsHeard e index arrival.clock arrival.peer bytes sessions (packet_judged e index arrival.clock arrival.peer request packet bytes sessions keys) new
+    after replies earlier later
+
+-- the same of one that is no KMREQ, and of a datagram with these bytes
+abbrev pub SecuresPacket : Arrival → Packet → (old new : Table) → (before after : TheRouteKeys) → List Datagram → (earlier later : Ledger) → Type 0
+SecuresPacket arrival packet old new before after replies earlier later =
+    SecuresRequest arrival None packet old new before after replies earlier later
+
+-- a KMRSP of the code, to a KMREQ with these contents
+abbrev pub response_of : KeyResponse → (contents : List ℕ) → Reply
+response_of r contents = record { peer = r.peer; packet = Responds r.caller r.time (response_to r.answer contents) }
+
+-- what a KMREQ is answered, if it is for a session that answers it
+abbrev pub IsAnswered : Terms → RouteKeys → (asked plain : Judged) → TheRouteKeys → (contents : List ℕ) → Option KeyResponse → Type 0
+IsAnswered e keys asked plain new contents None = (asked ≡ plain) × AreKeys e new keys
+IsAnswered e keys asked plain new contents (Some r) = (asked.verdict ≡ Answered (response_of r contents)) × AreKeys e new asked.keys
+
+abbrev pub AnswersRequest : Arrival → (contents : List ℕ) → Packet → Table → (before after : TheRouteKeys) → Option KeyResponse → Type 0
+AnswersRequest arrival contents packet table before after response =
+    (e : Terms) (index : ℕ) (sessions : List Session) (keys : RouteKeys) (bytes : List ℕ)
+    → IsTable e index arrival.clock table sessions → AreKeys e before keys → has_secured_role e ≡ true
+    → let judged_with = λ (request : Option (List ℕ)). packet_judged e index arrival.clock arrival.peer request packet bytes sessions keys in
+    IsAnswered e keys (judged_with (Some contents)) (judged_with None) after contents response
 
 abbrev pub SecuresDatagram : (clock : ℕ) → Peer → (bytes : List ℕ) → (old new : Table) → (before after : TheRouteKeys) → List Datagram
     → (earlier later : Ledger) → Type 0

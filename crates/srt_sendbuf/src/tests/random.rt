@@ -5,6 +5,7 @@ ghost use Rattle.std.specs.Prelude.{◌≤◌};
 use crate::tests::plain::{Due, Gone, Plain, Requested};
 use crate::{DropRun, Out, SendBuf};
 use srt_loss::read;
+use srt_samples::Dice;
 use srt_types::Seq31;
 use std::alloc::{AllocError, Global};
 use std::test::Fail;
@@ -15,24 +16,6 @@ enum Peer {
     Acknowledges,
     /// It sends nothing for a long time, and everything expires.
     Sleeps,
-}
-
-/// A linear congruential generator.
-#[derive(Drop)]
-struct Dice {
-    state: u64,
-}
-
-impl Dice {
-    /// Returns a number below a count; 0 if the count is 0.
-    fn below(&mut self, count: u32) -> u32 {
-        self.state = self
-            .state
-            .wrapping_mul(6364136223846793005)
-            .wrapping_add(1442695040888963407);
-        let high = (self.state >> 33) as u32;
-        if count == 0 { 0 } else { high % count }
-    }
 }
 
 /// One stream in both implementations.
@@ -86,7 +69,7 @@ impl Both {
     {
         Ok(Both {
             alloc,
-            dice: Dice { state: seed },
+            dice: Dice::new(seed),
             peer,
             width,
             now: 0,

@@ -28,6 +28,6 @@ module _ {A : Type 0} where
 
   -- what became of a request to close this route: its word states one more than its index, and its mark is set; or that was so before; or it has no word
   abbrev pub IsNoticed : RouteNotices A → (route : ℕ) → CloseNotice A → Type 0
-  IsNoticed notices route (Left word marked) = (word.number ≡ (route + 1) % 2 ^ 64) × IsMarked route marked
+  IsNoticed notices route (Left left) = (left.word.number ≡ (route + 1) % 2 ^ 64) × IsMarked route left.marked
   IsNoticed notices route (Repeated before) = before.route ≡ route
   IsNoticed notices route NoSuchRoute = length notices.words.items ≤ route

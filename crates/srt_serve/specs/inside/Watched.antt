@@ -1,10 +1,11 @@
 -- What is known between two rests of a watcher.
-use Rattle.std.specs.Prelude.{Bool, true, false, ℕ, nat_lt, ◌+◌, ◌-◌, ◌^◌, min, Result, Ok, Err}
+use Rattle.std.specs.Prelude.{◌≡◌, Bool, true, false, ℕ, nat_lt, ◌+◌, ◌-◌, ◌^◌, min, Result, Ok, Err, List, [], ◌∷◌}
 use Rattle.srt_serve.specs.declared.evidence.FlagSet.{FlagSet}
+use Rattle.srt_supervision.specs.declared.order.Order.{Order}
 use Rattle.srt_supervision.specs.declared.report.Report.{Report}
 use Rattle.srt_serve.specs.declared.shared_report.ReportNoted.{ReportNoted}
 use Rattle.srt_supervision.specs.declared.watch.RunStatus.{RunStatus}
-use Rattle.srt_serve.specs.declared.watching.Known.{Known}
+use Rattle.srt_serve.specs.declared.known.Known.{Known}
 
 -- before the first report
 abbrev pub known_first : Known
@@ -51,3 +52,19 @@ status_of known faults missed =
       counts = known.counts;
       reports = known.reports;
     }
+
+-- A turn of the watching thread: the watcher was given the status of what was known then, with the counts that had been left, and a check followed.
+-- `rested` is what is known of a watcher that was given a status and returned an order
+pub record IsTurn (rested : RunStatus → Order → Type 0) (old new : Known) : Type 0 where
+  pub left : Result ReportNoted FlagSet
+  pub faults : ℕ
+  pub missed : ℕ
+  pub order : Order
+  pub is_quiet : Bool
+  pub rested_is : rested (status_of (known_with left old) faults missed) order
+  pub known_is : new ≡ known_checked is_quiet (known_with left old)
+
+-- turns, one after another; this was known between them, the latest first
+abbrev pub AreTurns : (rested : RunStatus → Order → Type 0) → (between : List Known) → (old new : Known) → Type 0
+AreTurns rested [] old new = new ≡ old
+AreTurns rested (known ∷ between) old new = AreTurns rested between old known × IsTurn rested known new

@@ -1,5 +1,5 @@
 -- What a worker did in a round, and what it does after it.
-use Rattle.std.specs.Prelude.{ℕ, ◌+◌, ◌-◌, ◌^◌, ◌%◌, ◌==◌, ◌&&◌, nat_lt, nat_le, min, max, Bool, true, false, if◌then◌else◌}
+use Rattle.std.specs.Prelude.{ℕ, ◌<◌, ◌≤◌, ◌+◌, ◌-◌, ◌^◌, ◌%◌, ◌==◌, ◌&&◌, nat_lt, nat_le, min, max, Bool, true, false, if◌then◌else◌}
 use Rattle.srt_mailbox.specs.declared.gates.Visit.{Visit}
 use Rattle.srt_serve.specs.declared.working.Round.{Round}
 use Rattle.srt_serve.specs.declared.working.Pause.{Pause}
@@ -42,3 +42,7 @@ sleeps Nap = true
 -- the route at which a worker begins each of its rounds
 abbrev pub first_of : (worker routes : ℕ) → ℕ
 first_of worker routes = if routes == 0 then 0 else worker % routes
+
+-- a worker passed each route from one on and before another one, of this many routes: `passed` is what is known of one then
+abbrev pub ArePassed : (passed : (route : ℕ) → Type 0) → (routes from to : ℕ) → Type 0
+ArePassed passed routes from to = (route : ℕ) → from ≤ route → route < to → route < routes → passed route

@@ -138,7 +138,7 @@ where
         secret: &Secret::new([7; 32]),
         schedules,
         cells: places.as_slice(),
-        routes: entries.len(),
+        routes: MAX_ROUTES,
         notices: &notices,
         wakeups: &wakeups,
         channel: watcher,
@@ -150,7 +150,9 @@ where
         ends,
         openings,
         gate,
+        arrived: None,
         missing: None,
+        ended: None,
     };
     let mut others = OtherThreads {
         clocks: Clocks {
@@ -160,6 +162,7 @@ where
         },
         gates,
         watch: NoWatcher,
+        ended: None,
     };
     wakeups.finish();
     Ok(serve_routes(&context, source, wire, &mut polling, &mut others))

@@ -14,7 +14,7 @@ use crate::{
     Answers, ChangeFault, ChangeRoutes, Gates, Refusal, RouteChanges, RunStatus, Ticker, Watch,
     Watched,
 };
-use srt_mailbox::{Account, Gate, Ungated};
+use srt_mailbox::{Account, EmptyPlace, Gate, TakenElsewhere, Ungated};
 use srt_poller::{Order, Polled, Read, Sent, Source, Wire};
 use srt_route::Route;
 use srt_samples::shutdown;
@@ -377,6 +377,10 @@ impl Gate for Barrier {
         }
         true
     }
+
+    fn is_elsewhere(&self, _route: usize, _taken: TakenElsewhere) {}
+
+    fn seats_nobody(&self, _empty: EmptyPlace) {}
 
     fn held(&self) -> u64 {
         0

@@ -1,13 +1,14 @@
 //! What the polling thread tells a watcher, and what it is asked, without threads.
 
+use crate::evidence::run_over;
 use crate::inline_serving::InlineServer;
+use crate::known::Known;
 use crate::tests::datagrams::{
     SECOND, STUDIA, conclusion_answer, conclusion_of, header_alone, induction_answer, refusal,
 };
 use crate::tests::peer;
 use crate::tests::watched::studio;
 use crate::watcher_channel::{PollerChannel, WatcherChannel};
-use crate::watching::Known;
 use crate::{Answers, ChangeRoutes, Refusal, RunStatus, Watch};
 use srt_lobby::Names;
 use srt_mailbox::{RouteCell, Ungated};
@@ -171,12 +172,16 @@ fn refusals_that_find_no_place_are_counted(rt: HostRuntime) -> Result<(), Fail> 
     Ok(())
 }
 
-/// The report that was left, if one was.
-fn taken(channel: &WatcherChannel<Anything>) -> Option<Report> {
-    match channel.report.take() {
-        Ok(read) => Some(read.note(&mut Known::new()).report),
+/// The report that was left, if one was. `ended` is of a run that is over.
+fn taken(channel: &WatcherChannel<Anything>, ended: &Wakeups) -> Option<Report> {
+    let over = run_over(ended)?;
+    let mut known = Known::new();
+    let report = match channel.report.take() {
+        Ok(read) => Some(read.note(&mut known).report),
         Err(_) => None,
-    }
+    };
+    let _ = known.end(over);
+    report
 }
 
 /// Counts are left once between two takes, the first ones of those that are told.
@@ -187,18 +192,20 @@ fn counts_are_reported_when_they_are_wanted(rt: HostRuntime) -> Result<(), Fail>
     let wakeups = Wakeups::open(alloc, 0, 1)?;
     let channel = WatcherChannel::<Anything>::open(alloc)?;
     let inline = watched_inline(&rt, &cells, &wakeups, &channel);
+    let ended = Wakeups::open(alloc, 0, 1)?;
+    ended.finish();
     let counts = Report {
         read: 5,
         sent: 7,
         ..Report::NOTHING
     };
-    assert!(rt; taken(&channel).is_none());
+    assert!(rt; taken(&channel, &ended).is_none());
     inline.reported(&counts);
     inline.reported(&Report::NOTHING);
-    assert_eq!(rt; taken(&channel), Some(counts));
-    assert!(rt; taken(&channel).is_none());
+    assert_eq!(rt; taken(&channel, &ended), Some(counts));
+    assert!(rt; taken(&channel, &ended).is_none());
     inline.reported(&Report::NOTHING);
-    assert_eq!(rt; taken(&channel), Some(Report::NOTHING));
+    assert_eq!(rt; taken(&channel, &ended), Some(Report::NOTHING));
     Ok(())
 }
 

@@ -3,6 +3,7 @@
 //! by the count of notifications whether one was woken. Threads that really sleep come after that.
 
 use crate::wakeups::Wakeups;
+use srt_samples::Dice;
 use std::alloc::{AllocError, Global};
 use std::process::Abort;
 use std::sync::Wait;
@@ -22,27 +23,9 @@ const WORKERS: u64 = 3;
 
 const STEPS: u32 = 100_000;
 
-/// A linear congruential generator.
-#[derive(Drop)]
-struct Dice {
-    state: u64,
-}
-
-impl Dice {
-    /// A number below a count; 0 if the count is 0.
-    fn below(&mut self, count: u32) -> u32 {
-        self.state = self
-            .state
-            .wrapping_mul(6364136223846793005)
-            .wrapping_add(1442695040888963407);
-        let high = (self.state >> 33) as u32;
-        if count == 0 { 0 } else { high % count }
-    }
-
-    /// The index of a route, or one that is none.
-    fn index(&mut self) -> usize {
-        self.below(INDEXES) as usize
-    }
+/// Returns the index of a route, or one that is none.
+fn random_index(dice: &mut Dice) -> usize {
+    dice.below(INDEXES) as usize
 }
 
 /// A flag for each route.
@@ -128,7 +111,7 @@ impl Both {
     fn open(alloc: Global, seed: u64) -> Result<Both, AllocError> {
         Ok(Both {
             wakeups: Wakeups::open(alloc, ROUTES, WORKERS as usize)?,
-            dice: Dice { state: seed },
+            dice: Dice::new(seed),
             inbox_ready: Flags::none(alloc)?,
             in_service: Flags::none(alloc)?,
             outbox_ready: Flags::none(alloc)?,
@@ -212,7 +195,7 @@ impl Both {
 
     /// The poller offers to a route, serves it itself, or makes its inbox ready.
     fn offer(&mut self, rt: &impl Abort) {
-        let route = self.dice.index();
+        let route = random_index(&mut self.dice);
         match self.dice.below(4) {
             0 => {
                 self.wakeups.clear_polled(route);
@@ -231,7 +214,7 @@ impl Both {
 
     /// A worker enters a route or leaves it.
     fn visit(&mut self, rt: &impl Abort) {
-        let route = self.dice.index();
+        let route = random_index(&mut self.dice);
         if self.dice.below(2) == 0 {
             let is_entered = self.in_service.put(route);
             if is_entered {
@@ -250,7 +233,7 @@ impl Both {
 
     /// A reply is put into an outbox, or the poller asks whether there is one.
     fn tell(&mut self, rt: &impl Abort) {
-        let route = self.dice.index();
+        let route = random_index(&mut self.dice);
         if self.dice.below(2) == 0 {
             self.outbox_ready.put(route);
             self.wakeups.set_outbox_ready(route);
@@ -267,7 +250,7 @@ impl Both {
     fn step(&mut self, rt: &impl Abort) -> bool {
         match self.dice.below(64) {
             0 => {
-                let count = self.dice.index();
+                let count = random_index(&mut self.dice);
                 self.inbox_ready.put_first(count);
                 self.wakeups.ticked(count);
                 !self.is_dozing
@@ -306,7 +289,7 @@ impl Both {
 
     /// Asserts that the wake-ups have the plain program's marks, from some index on.
     fn compare(&mut self, rt: &impl Abort) {
-        let from = self.dice.index();
+        let from = random_index(&mut self.dice);
         assert_eq!(rt;
             self.wakeups.next_inbox_ready(from),
             self.inbox_ready.first_from(from)

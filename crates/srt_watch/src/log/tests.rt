@@ -4,6 +4,7 @@ use crate::log::{Drained, LogWriter, When};
 use crate::machine::Machine;
 use arrayvec::ArrayVec;
 use srt_log::{LineKind, LogEvent};
+use srt_status::ProcessUse;
 use std::io::{self, Error, ErrorKind, Write};
 use std::test::Fail;
 
@@ -83,6 +84,14 @@ impl Machine for Ticking {
     fn drops(&self) -> Option<u64> {
         None
     }
+
+    fn process(&self) -> ProcessUse {
+        ProcessUse::default()
+    }
+
+    fn receive_buffer(&self) -> Option<u64> {
+        None
+    }
 }
 
 /// The time of these lines.
@@ -101,7 +110,7 @@ fn the_end_waits_for_a_reader(rt: HostRuntime) -> Result<(), Fail> {
     }
     assert!(rt; matches!(log.close(&mut machine, WHEN), Drained::All));
     assert_eq!(rt;
-        log.out.read.as_slice(),
+        log.out.out.read.as_slice(),
         "socket faults 1\nsocket faults 2\nlines left out 1\nstopped\n".as_bytes()
     );
     assert!(rt; machine.moment < 3_400_000);
@@ -113,8 +122,8 @@ fn the_end_waits_a_second_at_most(rt: HostRuntime) -> Result<(), Fail> {
     let mut machine = Ticking { moment: 3_000_000 };
     let mut log = LogWriter::new(rt.alloc(), Slow::of(10_000));
     log.append(WHEN, LineKind::Session, LogEvent::Unblocked);
-    let _ = log.out.held.try_extend_from_slice(STOPPED);
+    let _ = log.out.out.held.try_extend_from_slice(STOPPED);
     assert!(rt; matches!(log.close(&mut machine, WHEN), Drained::Over(4_020_000)));
-    assert!(rt; log.out.read.is_empty());
+    assert!(rt; log.out.out.read.is_empty());
     Ok(())
 }

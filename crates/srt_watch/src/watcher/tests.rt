@@ -14,7 +14,10 @@ use crate::{LogForm, Machine, Outlets, Start, StatusServer, Watcher};
 use arrayvec::ArrayVec;
 use changing::Written;
 use srt_route::{Reply, Route, SessionView, Totals, Traffic};
-use srt_status::{CauseCounts, ChangeCounts, EventRing, GatewayStatus, RefusalCounts, RouteStatus};
+use srt_status::{
+    CauseCounts, ChangeCounts, EndCounts, EventRing, GatewayStatus, ProcessUse, RefusalCounts,
+    RouteStatus,
+};
 use srt_supervision::{Order, Refusal, Report, RunStatus, Watch};
 use srt_types::{Access, Entry, Item, Mode, NotAdmitted, Peer, Role, Rules};
 use std::alloc::Global;
@@ -81,6 +84,18 @@ impl Machine for Set {
     fn drops(&self) -> Option<u64> {
         Some(self.drops)
     }
+
+    fn process(&self) -> ProcessUse {
+        ProcessUse {
+            cpu_micros: Some(self.moment / 2),
+            open_descriptors: Some(9),
+            ..ProcessUse::default()
+        }
+    }
+
+    fn receive_buffer(&self) -> Option<u64> {
+        Some(425_984)
+    }
 }
 
 /// A page that keeps some of what it was shown last.
@@ -91,6 +106,8 @@ struct Shown {
     uptime_seconds: u64,
     kernel_drops: Option<u64>,
     resident_bytes: Option<u64>,
+    process: ProcessUse,
+    receive_buffer_bytes: Option<u64>,
     refused: RefusalCounts,
     causes: CauseCounts,
     totals: Option<Totals>,
@@ -111,6 +128,8 @@ impl Shown {
             uptime_seconds: 0,
             kernel_drops: None,
             resident_bytes: None,
+            process: ProcessUse::default(),
+            receive_buffer_bytes: None,
             refused: RefusalCounts::default(),
             causes: CauseCounts::default(),
             totals: None,
@@ -135,6 +154,8 @@ impl StatusServer for Shown {
         self.uptime_seconds = gateway.uptime_seconds;
         self.kernel_drops = gateway.kernel_drops;
         self.resident_bytes = gateway.resident_bytes;
+        self.process = gateway.process;
+        self.receive_buffer_bytes = gateway.receive_buffer_bytes;
         self.refused = gateway.refused;
         self.causes = gateway.causes;
         self.changes = gateway.changes;
@@ -211,8 +232,17 @@ fn watcher<'a>(
 
 /// Asserts that these lines were written since the last such call, and nothing else.
 fn assert_lines(rt: &impl Abort, watcher: &mut Watching<'_>, lines: &str) {
-    assert_eq!(rt; watcher.changes.log.out.as_slice(), lines.as_bytes());
+    assert_eq!(rt; watcher.changes.log.written(), lines.as_bytes());
     watcher.changes.log.clear();
+}
+
+/// Asserts that these sessions of the first route have ended.
+fn assert_ends(rt: &impl Abort, watcher: &Watching<'_>, wanted: EndCounts) {
+    let found = match watcher.routes.shown().first() {
+        Some(status) => status.ends,
+        None => None,
+    };
+    assert!(rt; found == Some(wanted));
 }
 
 /// Applies an item, and takes the replies.
@@ -359,6 +389,12 @@ fn a_session_opens_and_ends(rt: HostRuntime) -> Result<(), Fail> {
         &mut watcher,
         "studio: publisher 127.0.0.1:5000 ended, socket 0x00100100, its route was closed, after 1000 ms, 0 packets, 0 bytes, 0 lost, 0 resent\n",
     );
+    let ends = EndCounts {
+        shutdown: 1,
+        route_closed: 1,
+        ..EndCounts::default()
+    };
+    assert_ends(&rt, &watcher, ends);
     Ok(())
 }
 
@@ -400,6 +436,12 @@ fn what_came_and_went_between_two_looks(rt: HostRuntime) -> Result<(), Fail> {
         &mut watcher,
         "studio: publisher 127.0.0.1:5000 opened, socket 0x00100200, latency 120 ms\nstudio: publisher 127.0.0.1:5000 ended, socket 0x00100200, its peer sent a SHUTDOWN, after 1 ms, 0 packets, 0 bytes, 0 lost, 0 resent\nstudio: 2 sessions opened and ended unseen\n",
     );
+    let ends = EndCounts {
+        shutdown: 1,
+        unknown: 2,
+        ..EndCounts::default()
+    };
+    assert_ends(&rt, &watcher, ends);
     Ok(())
 }
 
@@ -434,21 +476,65 @@ fn refusals_are_reported_with_what_was_asked_for(rt: HostRuntime) -> Result<(), 
     Ok(())
 }
 
+/// Refuses this many callers, each of another address.
+fn play_flood(watcher: &mut Watching<'_>, count: u16) -> Result<(), Fail> {
+    let mut flood = refusal(None, b"x", UNKNOWN)?;
+    for caller in 0..count {
+        let [high, low] = caller.to_be_bytes();
+        flood.peer.ip[14] = high;
+        flood.peer.ip[15] = low;
+        watcher.refused(&flood);
+    }
+    Ok(())
+}
+
+#[test]
+fn a_caller_that_comes_again_is_counted(rt: HostRuntime) -> Result<(), Fail> {
+    let entries = vec![in rt.alloc(); entry(rt.alloc())?]?;
+    let mut watcher = watcher(rt.alloc(), &entries, false, start(true, None))?;
+    assert!(rt; watcher.wants_routes());
+    let again = refusal(None, b"studia", UNKNOWN)?;
+    for second in 0..4u64 {
+        watcher.machine.moment = second * 1_000_000;
+        watcher.refused(&again);
+    }
+    assert_lines(
+        &rt,
+        &mut watcher,
+        "127.0.0.1:5000 refused, 1002 PEER, asked for \"studia\", unknown name\n",
+    );
+    watcher.machine.moment = 9_999_999;
+    assert!(rt; watcher.wants_routes());
+    assert_lines(&rt, &mut watcher, "");
+    watcher.machine.moment = 10_499_999;
+    assert!(rt; watcher.wants_routes());
+    assert_lines(
+        &rt,
+        &mut watcher,
+        "127.0.0.1 refused 3 more times, 1002 PEER, asked for \"studia\", unknown name\n",
+    );
+    watcher.refused(&again);
+    watcher.end();
+    assert_lines(
+        &rt,
+        &mut watcher,
+        "stopping, all rounds were made\n127.0.0.1 refused 1 more times, 1002 PEER, asked for \"studia\", unknown name\nstopped\n",
+    );
+    Ok(())
+}
+
 #[test]
 fn a_flood_of_refusals_has_ten_lines_a_second(rt: HostRuntime) -> Result<(), Fail> {
     let entries = vec![in rt.alloc(); entry(rt.alloc())?]?;
     let mut watcher = watcher(rt.alloc(), &entries, false, start(true, None))?;
-    let flood = refusal(None, b"x", UNKNOWN)?;
     assert_eq!(rt; watcher.next(NOTHING), Order::GoOn);
     watcher.changes.log.clear();
     watcher.machine.moment = 1_000_000;
-    for _ in 0..1_000 {
-        watcher.refused(&flood);
-    }
+    play_flood(&mut watcher, 1_000)?;
     let lines = watcher
         .changes
         .log
-        .out
+        .written()
         .iter()
         .filter(|byte| **byte == b'\n')
         .count();
@@ -498,10 +584,7 @@ fn a_flood_of_refusals_costs_no_line_of_a_session(rt: HostRuntime) -> Result<(),
     watcher.show_route(0, &route);
     hear(rt.alloc(), &mut route, 1_000_000, PUBLISHER)?;
     watcher.machine.moment = 1_000_000;
-    let flood = refusal(None, b"x", UNKNOWN)?;
-    for _ in 0..1_000 {
-        watcher.refused(&flood);
-    }
+    play_flood(&mut watcher, 1_000)?;
     watcher.changes.log.clear();
     watcher.show_route(0, &route);
     assert_lines(
@@ -555,10 +638,7 @@ fn a_flood_hides_no_count(rt: HostRuntime) -> Result<(), Fail> {
     assert_eq!(rt; watcher.next(NOTHING), Order::GoOn);
     watcher.machine.moment = 1_000_000;
     assert_eq!(rt; watcher.next(NOTHING), Order::GoOn);
-    let flood = refusal(None, b"x", UNKNOWN)?;
-    for _ in 0..60 {
-        watcher.refused(&flood);
-    }
+    play_flood(&mut watcher, 60)?;
     watcher.changes.log.clear();
     watcher.machine.drops = 8_395;
     let status = RunStatus {
@@ -668,6 +748,13 @@ fn the_page_is_shown_the_gateway(rt: HostRuntime) -> Result<(), Fail> {
     assert_eq!(rt; watcher.page.server.poller.read, 11);
     assert_eq!(rt; watcher.page.server.kernel_drops, Some(9));
     assert_eq!(rt; watcher.page.server.resident_bytes, Some(73_240_576));
+    assert_eq!(rt; watcher.page.server.receive_buffer_bytes, Some(425_984));
+    let process = ProcessUse {
+        cpu_micros: Some(0),
+        open_descriptors: Some(9),
+        ..ProcessUse::default()
+    };
+    assert!(rt; watcher.page.server.process == process);
     assert_eq!(rt; watcher.page.server.poller.not_allowed, 4);
     assert_eq!(rt; watcher.page.server.refused.peer, 2);
     let causes = CauseCounts {

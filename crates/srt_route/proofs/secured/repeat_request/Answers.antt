@@ -2,7 +2,7 @@ use Rattle.std.proofs.Common.{◌≡◌, ◌<◌, length, sym, ap, ◌∙◌, ar
 use Rattle.srt_route.specs.RouteKeys.{SlotKeys, request_of}
 use Rattle.srt_route.specs.Route.{Answers, Output, sent}
 use Rattle.srt_route.specs.Sessions.{answer_of}
-use Rattle.srt_route.specs.SlotKeys.{slot_keys_of}
+use Rattle.srt_route.specs.SlotKeys.{place_keys_of}
 use Rattle.srt_route.specs.inside.Secured.{repeated}
 use Rattle.srt_route.proofs.stored.Kept.{seat_at, some_buffers}
 use Rattle.srt_route.proofs.steps.Securing.{answer_is, none_is_stored, stored_is}
@@ -17,8 +17,8 @@ returns-in-Some c e index clock ss keys s is are secured below found old =
     let seat = seat_at e index clock c.args.table.now ss slot x (some_buffers c.args.table.now) is inside c.index.ensures in
     let here = stored_is e index slot x.session ss c.in-Some.session s seat.session_is c.in-Some.is found in
     let same = answer_is e index c.in-Some.session s here in
-    let k = slot_keys_of c.index-in-Some.result.now in
-    let held : k ≡ keys.held slot = ap slot_keys_of c.index-in-Some.ensures ∙ are.held_are secured slot c.index-in-Some.result.now below in
+    let k = place_keys_of c.index-in-Some.result.now in
+    let held : k ≡ keys.held slot = ap place_keys_of c.index-in-Some.ensures ∙ are.held_are secured slot c.index-in-Some.result.now below in
     c.repeat.ensures (old ∙ ap (λ (o : Output). sent (record { peer = peer; packet = o })) (sym same))
     ∙ ap (λ (o : Output). sent (repeated (request_of k) (record { peer = peer; packet = o }))) same
     ∙ ap (λ (n : SlotKeys). sent (repeated (request_of n) (record { peer = peer; packet = Answers s.conclusion.caller (answer_of e index s) }))) held

@@ -1,4 +1,4 @@
-use Rattle.std.proofs.Common.{◌∷◌, [], length, refl, ap, arith}
+use Rattle.std.proofs.Common.{◌∷◌, [], false, length, refl, ap, arith}
 use Rattle.std.proofs.lemmas.List.{length-append}
 use Rattle.srt_route.specs.declared.slot_keys.SlotKeys.TheVariants as stored
 use Rattle.srt_route.proofs.stored.HeldKeys.{clear_pushed}
@@ -11,7 +11,8 @@ loop-slots-preserved c = record {
     c.loop-slots-test.true,
     c.len.ensures,
     ap {B = _} length c.in_ok-push.ensures.items,
-    length-append c.loop-slots.slots.items (stored.Clear ∷ []),
+    length-append c.loop-slots.slots.items (record { is_held = false; keys = stored.Clear } ∷ []),
   );
-  clear = clear_pushed c.loop-slots.slots.items c.push.new.self.items stored.Clear c.in_ok-push.ensures.items c.loop-slots.invariant.clear refl;
+  clear = clear_pushed c.loop-slots.slots.items c.push.new.self.items (record { is_held = false; keys = stored.Clear })
+      c.in_ok-push.ensures.items c.loop-slots.invariant.clear refl;
 }

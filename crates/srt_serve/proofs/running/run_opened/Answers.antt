@@ -37,32 +37,24 @@ settle_routes-requires-clause-joined g c =
 pub settle_routes-requires-clause-room : goal.settle_routes-requires-clause-room
 settle_routes-requires-clause-room g c = (c.requires.accounts.0, omega (arith, c.requires.accounts.1, c.in-Ok.ensures.few))
 
-pub returns-clause-fixed : goal.returns-clause-fixed
-returns-clause-fixed g c unknown =
+pub returns-clause-ran : goal.returns-clause-ran
+returns-clause-ran g c =
     let late = polled_late _ _ _ _ _ _ _ _ _ _ _ _ _ c.requires.few c.take_late.ensures.taken c.in-Some.ensures.pumped in
     let grew = c.in-Ok.ensures.began.1 in
-    ran_fixed _ _ _ _ _ _ _ _ _ _ _ _ _ _ _ _ _ _ _ _ _ _ c.in-Ok.ensures.began.0 c.in-Ok.ensures.all.0 _ _ _ _ _
-    unknown c.requires.routes c.requires.names refl c.requires.opened c.take_late.new.openings.indexed
-    (grew ∙ ap (λ (ns : List CellIdentity). ns ++ c.in-Ok.ensures.began.0) c.requires.put.1)
-    late (ap g.K.Ticker.gave c.come_to_all.ensures.ticker ∙ c.in-Some.ensures.ticked.1.1)
-    (all_ticked _ _ _ _ _ _ _ _ _ c.in-Some.ensures.ticked.1 c.requires.clocks c.in-Ok.ensures.taken.1
-    c.in-Ok.ensures.taken.2)
-    c.in-Ok.ensures.all.1 c.in-Ok-settle_routes.ensures.settled
-
-pub returns-clause-changing : goal.returns-clause-changing
-returns-clause-changing g c known =
-    let late = polled_late _ _ _ _ _ _ _ _ _ _ _ _ _ c.requires.few c.take_late.ensures.taken c.in-Some.ensures.pumped in
-    let grew = c.in-Ok.ensures.began.1 in
-    ran_changing _ _ _ _ _ _ _ _ _ _ _ _ _ _ _ _ _ _ _ _ _ _ c.in-Ok.ensures.began.0 c.in-Ok.ensures.all.0 _ _ _ _ _ _ _
-    known c.in-Ok.ensures.few c.requires.names refl c.requires.opened c.take_late.new.openings.indexed
-    (grew ∙ ap (λ (ns : List CellIdentity). ns ++ c.in-Ok.ensures.began.0) c.requires.put.1)
-    late (ap g.K.Ticker.gave c.come_to_all.ensures.ticker ∙ c.in-Some.ensures.ticked.1.1)
-    (all_ticked _ _ _ _ _ _ _ _ _ c.in-Some.ensures.ticked.1 c.requires.clocks c.in-Ok.ensures.taken.1
-    c.in-Ok.ensures.taken.2)
-    c.in-Ok.ensures.all.1 c.in-Ok-settle_routes.ensures.settled g.T.Answers.answered
-    (were_added g.T.Answers.answered g.B.Beginning.first _ _ c.in-Ok.ensures.began.0 c.requires.first
-    (grew ∙ ap (λ (ns : List CellIdentity). ns ++ c.in-Ok.ensures.began.0) c.requires.put.1) c.take_late.new.openings.answered)
-    (all_answered c.take_late.new.openings.requested.items) (λ known. known)
+    let began = grew ∙ ap (λ (ns : List CellIdentity). ns ++ c.in-Ok.ensures.began.0) c.requires.put.1 in
+    let ticked = ap g.K.Ticker.gave c.come_to_all.ensures.ticker ∙ c.in-Some.ensures.ticked.1.1 in
+    let clocked = all_ticked _ _ _ _ _ _ _ _ _ c.in-Some.ensures.ticked.1 c.requires.clocks c.in-Ok.ensures.taken.1 c.in-Ok.ensures.taken.2 in (
+      λ unknown.
+          ran_fixed _ _ _ _ _ _ _ _ _ _ _ _ _ _ _ _ _ _ _ _ _ _ c.in-Ok.ensures.began.0 c.in-Ok.ensures.all.0 _ _ _ _ _
+          unknown c.requires.routes c.requires.names refl c.requires.opened c.take_late.new.openings.indexed began late ticked clocked
+          c.in-Ok.ensures.all.1 c.in-Ok-settle_routes.ensures.settled,
+      λ known.
+          ran_changing _ _ _ _ _ _ _ _ _ _ _ _ _ _ _ _ _ _ _ _ _ _ c.in-Ok.ensures.began.0 c.in-Ok.ensures.all.0 _ _ _ _ _ _ _
+          known c.in-Ok.ensures.few c.requires.names refl c.requires.opened c.take_late.new.openings.indexed began late ticked clocked
+          c.in-Ok.ensures.all.1 c.in-Ok-settle_routes.ensures.settled g.T.Answers.answered
+          (were_added g.T.Answers.answered g.B.Beginning.first _ _ c.in-Ok.ensures.began.0 c.requires.first began c.take_late.new.openings.answered)
+          (all_answered c.take_late.new.openings.requested.items) (λ known. known),
+    )
 
 pub returns-clause-rounds : goal.returns-clause-rounds
 returns-clause-rounds g c = rounds_for _ _ _ _ _ _ _ _ _ _ _ c.in-Some.ensures.pumped

@@ -10,9 +10,9 @@ pub loop-preserved : goal.loop-preserved
 loop-preserved g c = (
   tt,
   tt,
-  c.tick_with_new.ensures.same ∙ c.loop.invariant.2,
-  one_tick_more g.E.TickEnd.inbox g.E.TickEnd.tried _ _ _ _ _ _ _ _ _ c.next-moment.result c.tick_with_new.ensures.ticked.0
-      c.loop.invariant.3 c.next-moment.ensures.records c.tick_with_new.ensures.ticked.1 c.tick_with_new.ensures.ticked.2,
+  c.tick_with_new-offered.ensures.same ∙ c.loop.invariant.2,
+  one_tick_more g.E.TickEnd.inbox g.E.TickEnd.tried _ _ _ _ _ _ _ _ _ c.next-moment.result c.tick_with_new-offered.ensures.ticked.0
+      c.loop.invariant.3 c.next-moment.ensures.records c.tick_with_new-offered.ensures.ticked.1 c.tick_with_new-offered.ensures.ticked.2,
 )
 
 pub returns-in-Some-run_over-clause-ticked : goal.returns-in-Some-run_over-clause-ticked

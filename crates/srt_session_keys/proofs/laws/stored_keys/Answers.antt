@@ -37,4 +37,11 @@ returns c = record {
       let below = confirmed_below s payload e in
       let before = confirmed_before s.confirmed s.announced in
       (omega arith, omega arith);
+  encrypted = λ s queued payload h le e.
+      let below = confirmed_below s payload e in
+      let before = confirmed_before s.confirmed s.announced in
+      let one : index_of payload < made s = omega arith in
+      let two : made s ≤ index_of payload + 2 = omega arith in
+      grind (arith, nat_tests, one, two);
+  used = λ s payload e. (grind (arith, nat_tests, e), grind (arith, nat_tests, e));
 }

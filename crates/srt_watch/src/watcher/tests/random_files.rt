@@ -543,13 +543,10 @@ fn follow_file(
     watcher.change_routes(&mut run);
     let expected = model.read(file)?;
     assert_requested(rt, run.requested, &expected);
-    assert_eq!(rt;
-        watcher.changes.log.out.as_slice(),
-        expected.lines.as_bytes()
-    );
+    assert_eq!(rt; watcher.changes.log.written(), expected.lines.as_bytes());
     watcher.changes.log.clear();
     assert_status(rt, watcher, model);
-    assert_eq!(rt; watcher.changes.log.out.len(), 0);
+    assert_eq!(rt; watcher.changes.log.written().len(), 0);
     Ok(())
 }
 

@@ -1,7 +1,7 @@
 use Rattle.std.proofs.Common.{◌<◌, length, arith, ap, sym, ◌∙◌, Some}
 use Rattle.std.proofs.lemmas.List.{length-map}
 use Rattle.srt_mailbox.specs.Identities.{identity_in}
-use Rattle.srt_mailbox.specs.declared.places.Place.{Place}
+use Rattle.srt_mailbox.specs.declared.added_seats.Place.{Place}
 use Rattle.srt_mailbox.proofs.Tokens.{count_within, place_of, shown_at}
 use Rattle.srt_mailbox.proofs.readers.SeatReader.seat.Goals as goal
 

@@ -21,6 +21,10 @@ returns-in-Wrong-clause-logged g c =
     ∙ sym (ap not_taken_said c.in-Wrong.is)))
     c.refuse.ensures.logged
 
+pub returns-in-NoMemory-clause-logged : goal.returns-in-NoMemory-clause-logged
+returns-in-NoMemory-clause-logged g c =
+    logged_as _ _ _ _ _ _ (ap (λ w. Always c.args.when w ∷ []) (sym (ap not_taken_said c.in-NoMemory.is))) c.refuse_for_memory.ensures.logged
+
 pub returns-in-KeysDiffer-clause-logged : goal.returns-in-KeysDiffer-clause-logged
 returns-in-KeysDiffer-clause-logged g c =
     logged_as _ _ _ _ _ _ (ap (λ w. Always c.args.when w ∷ []) (sym (ap not_taken_said c.in-KeysDiffer.is))) c.refuse-in-KeysDiffer.ensures.logged

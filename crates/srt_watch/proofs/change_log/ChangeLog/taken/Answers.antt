@@ -1,4 +1,4 @@
-use Rattle.std.proofs.Common.{◌∷◌, ap, subst}
+use Rattle.std.proofs.Common.{◌∷◌}
 use Rattle.srt_log.specs.declared.config_events.ConfigEvent.TheVariants as events
 use Rattle.srt_watch.specs.ChangeLines.{config_said, route_calls}
 use Rattle.srt_watch.specs.Log.{Always}

@@ -6,10 +6,10 @@ use Rattle.srt_watch.proofs.first_lines.FirstLines.log.Goals as goal
 
 pub returns-clause-logged : goal.returns-clause-logged
 returns-clause-logged g c =
-    subst (λ o. Logged (g.W.Write.contents c.args.log.now.out) (g.W.Write.contents c.log_warnings.new.log.out) c.args.log.now.pace
+    subst (λ o. Logged (g.W.Write.contents c.args.log.now.out.out) (g.W.Write.contents c.log_warnings.new.log.out.out) c.args.log.now.pace
     c.log_warnings.new.log.pace (first_calls o c.args.self.now.warnings.items c.args.when c.args.routes c.args.memory))
     (sym (sym c.take.ensures.value ∙ c.in-Some.is))
-    (subst (λ w. Logged (g.W.Write.contents c.args.log.now.out) (g.W.Write.contents c.log_warnings.new.log.out) c.args.log.now.pace
+    (subst (λ w. Logged (g.W.Write.contents c.args.log.now.out.out) (g.W.Write.contents c.log_warnings.new.log.out.out) c.args.log.now.pace
     c.log_warnings.new.log.pace
     (Always c.args.when w ∷ (unblocked_calls c.args.when c.in-Some.start.is_blocked ++ warning_calls c.args.when c.args.self.now.warnings.items)))
     c.started.ensures

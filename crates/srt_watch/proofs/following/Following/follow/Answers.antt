@@ -94,7 +94,7 @@ returns-in-Err-clause-told g c =
       polling_is = polled_so _ c.args.when.moment _ _ _ c.poll.ensures.polling (held_or _ _ _ _ c.holds.ensures.polling);
       kept_is = ap (option_map (λ v. v.items)) c.holds.ensures.file.1 ∙ found.kept_is;
       told = NoMemory c.in-Some-Ok.found.wanted c.in-Err.no_room file (c.holds.ensures.in_force ∙ c.poll.ensures.in_force) refl c.of.ensures.routes
-          (subst (λ l. Logged (g.W.Write.contents l.log.out) (g.W.Write.contents c.no_room.new.self.log.out) l.log.pace c.no_room.new.self.log.pace
+          (subst (λ l. Logged (g.W.Write.contents l.log.out.out) (g.W.Write.contents c.no_room.new.self.log.out.out) l.log.pace c.no_room.new.self.log.pace
           (Always c.args.when (no_room_said c.in-Err.no_room) ∷ [])) log c.no_room.ensures.logged)
           (c.no_room.ensures.counts ∙ ap (λ l. one_refused l.counts) log);
     }
@@ -116,15 +116,15 @@ returns-in-Ok-clause-told g c =
           ∙ found.kept_is;
       told = Requested c.in-Some-Ok.found.wanted c.of.new.routes file c.of.ensures.routes
           (subst (λ l. IsAnnounced c.args.self.now.in_force c.request.new.self.in_force c.in-Some-Ok.found.wanted (g.C.ChangeRoutes.asked c.args.run.now)
-          (g.C.ChangeRoutes.asked c.request.new.run) c.args.when c.of.new.routes c.request.new.routes (g.W.Write.contents l.log.out)
-          (g.W.Write.contents c.request.new.log.log.out) l.log.pace c.request.new.log.log.pace l.counts c.request.new.log.counts) log
+          (g.C.ChangeRoutes.asked c.request.new.run) c.args.when c.of.new.routes c.request.new.routes (g.W.Write.contents l.log.out.out)
+          (g.W.Write.contents c.request.new.log.log.out.out) l.log.pace c.request.new.log.log.pace l.counts c.request.new.log.counts) log
           (subst (λ f. IsAnnounced f c.request.new.self.in_force c.in-Some-Ok.found.wanted (g.C.ChangeRoutes.asked c.args.run.now)
-          (g.C.ChangeRoutes.asked c.request.new.run) c.args.when c.of.new.routes c.request.new.routes (g.W.Write.contents c.holds.new.log.log.out)
-          (g.W.Write.contents c.request.new.log.log.out) c.holds.new.log.log.pace c.request.new.log.log.pace c.holds.new.log.counts
+          (g.C.ChangeRoutes.asked c.request.new.run) c.args.when c.of.new.routes c.request.new.routes (g.W.Write.contents c.holds.new.log.log.out.out)
+          (g.W.Write.contents c.request.new.log.log.out.out) c.holds.new.log.log.pace c.request.new.log.log.pace c.holds.new.log.counts
           c.request.new.log.counts) same
           (subst (λ w. IsAnnounced c.holds.new.self.in_force c.request.new.self.in_force w (g.C.ChangeRoutes.asked c.args.run.now)
-          (g.C.ChangeRoutes.asked c.request.new.run) c.args.when c.of.new.routes c.request.new.routes (g.W.Write.contents c.holds.new.log.log.out)
-          (g.W.Write.contents c.request.new.log.log.out) c.holds.new.log.log.pace c.request.new.log.log.pace c.holds.new.log.counts
+          (g.C.ChangeRoutes.asked c.request.new.run) c.args.when c.of.new.routes c.request.new.routes (g.W.Write.contents c.holds.new.log.log.out.out)
+          (g.W.Write.contents c.request.new.log.log.out.out) c.holds.new.log.log.pace c.request.new.log.log.pace c.holds.new.log.counts
           c.request.new.log.counts) c.in-Ok.ensures.wanted c.request.ensures.announced)));
     }
 

@@ -1,4 +1,4 @@
-use Rattle.std.proofs.Common.{◌≡◌, Some, IfSome, Ok, Err, option_map, sym, ap, ◌∙◌, subst, refl}
+use Rattle.std.proofs.Common.{◌≡◌, Some, IfSome, Ok, Err, option_map, ap, subst, refl}
 use Rattle.srt_watch.specs.Configs.{IsConfigOf}
 use Rattle.srt_watch.specs.Following.{IsNotTaken}
 use Rattle.srt_watch.specs.Polls.{seen_of, found_of, news_of}

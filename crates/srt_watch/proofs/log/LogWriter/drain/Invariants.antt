@@ -8,7 +8,7 @@ invariant-loop-rests g l = record {
   few : l.rests ≤ 100;
   machine : g.M.Machine.says l.machine ≡ g.M.Machine.says l.fn.machine;
   events : AreKept l.fn.self.events.events.items l.self.events.events.items;
-  logged : Logged (g.W.Write.contents l.fn.self.out) (g.W.Write.contents l.self.out) l.fn.self.pace l.self.pace [];
+  logged : Logged (g.W.Write.contents l.fn.self.out.out) (g.W.Write.contents l.self.out.out) l.fn.self.pace l.self.pace [];
 }
 
 abbrev pub decreases-loop-rests : goal.decreases-loop-rests

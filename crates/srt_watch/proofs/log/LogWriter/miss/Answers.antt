@@ -10,5 +10,6 @@ returns-clause-logged g c =
       shares_stand = h.shares_stand;
       missed_is = c.saturating_add-self.ensures ∙ ap (λ n. most (n + c.args.count)) h.missed_is;
       second_is = h.second_is;
+      looks_is = h.looks_is;
     })
     (λ s h. refl) (wrote_nothing _ _)

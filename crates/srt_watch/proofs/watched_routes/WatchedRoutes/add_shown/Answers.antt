@@ -1,4 +1,4 @@
-use Rattle.std.proofs.Common.{Some, refl, sym, ap, ◌∙◌, rules}
+use Rattle.std.proofs.Common.{Some, rules}
 use Rattle.srt_watch.proofs.watched_routes.WatchedRoutes.add_shown.Goals as goal
 
 pub returns : goal.returns

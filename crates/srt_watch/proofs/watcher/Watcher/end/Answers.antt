@@ -1,11 +1,12 @@
-use Rattle.std.proofs.Common.{◌≡◌, IfSome, ap, ◌∙◌, subst}
+use Rattle.std.proofs.Common.{◌≡◌, ◌-◌, ◌^◌, IfSome, ap, ◌∙◌, subst}
+use Rattle.srt_watch.specs.Repeating.{known_by, repeat_calls}
 use Rattle.srt_watch.specs.Turns.{rounds_unless}
 use Rattle.srt_watch.specs.Watching.{stop_calls}
 use Rattle.srt_watch.proofs.Logging.{logged_as, logged_both}
 use Rattle.srt_watch.proofs.watcher.Watcher.end.Goals as goal
 
-pub returns : goal.returns
-returns g c = record {
+pub returns-clause-ended : goal.returns-clause-ended
+returns-clause-ended g c = record {
   when = c.now-when.result;
   now_is = c.now-when.ensures.time;
   is_done = record {
@@ -16,6 +17,10 @@ returns g c = record {
         logged_both _ _ _ _ _ _ _ _
         (logged_as _ _ _ _ _ _ (ap (stop_calls c.now-when.result) (c.rounds_unless-by.ensures ∙ ap rounds_unless c.is_stopping.ensures))
         c.log_stop.ensures)
-        (logged_both _ _ _ _ _ _ _ _ c.log_losses.ensures.lost.logged c.close.ensures.logged);
+        (logged_both _ _ _ _ _ _ _ _ c.log_losses.ensures.lost.logged
+        (logged_both _ _ _ _ _ _ _ _
+        (logged_as _ _ _ _ _ _ (ap (λ r. repeat_calls c.now-when.result (known_by r) (2 ^ 64 - 1) 32) c.log_losses.ensures.kept.5)
+        c.log_repeats.ensures.logged)
+        c.close.ensures.logged));
   };
 }

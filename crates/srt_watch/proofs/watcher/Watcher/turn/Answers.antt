@@ -12,17 +12,18 @@ returns-clause-turned g c =
     record {
       memory = c.begin.ensures.logged.memory;
       memory_is = c.begin.ensures.logged.memory_is;
-      requested = c.check_stop.ensures.requested;
+      requested = c.check_stop.ensures.checked.requested;
       requested_is =
-          subst (λ z. IfSome z (λ s. c.check_stop.ensures.requested ≡ s.stops)) (c.note_status.ensures.machine ∙ c.begin.ensures.machine)
-          c.check_stop.ensures.said;
-      course_is = c.check_stop.ensures.course_is ∙ ap (λ k. after_stop k c.check_stop.ensures.requested c.args.when.moment) course;
+          subst (λ z. IfSome z (λ s. c.check_stop.ensures.checked.requested ≡ s.stops)) (c.note_status.ensures.machine ∙ c.begin.ensures.machine)
+          c.check_stop.ensures.checked.said;
+      course_is = c.check_stop.ensures.checked.course_is ∙ ap (λ k. after_stop k c.check_stop.ensures.checked.requested c.args.when.moment) course;
       logged =
           logged_both _ _ _ _ _ _ _ _ c.begin.ensures.logged.logged
           (logged_both _ _ _ _ _ _ _ _
           (logged_as _ _ _ _ _ _ (ap (λ l. Missed (more_missed l c.args.status.missed) ∷ []) c.begin.ensures.others.1) c.note_status.ensures.logged)
           (logged_both _ _ _ _ _ _ _ _ c.end_second.ensures.logged
-          (logged_both _ _ _ _ _ _ _ _ c.catch_up.ensures.logged
+          (logged_both _ _ _ _ _ _ _ _ c.look.ensures.logged
           (logged_as _ _ _ _ _ _
-          (ap (λ k. stop_calls c.args.when (stop_of k c.check_stop.ensures.requested c.args.when.moment)) course) c.check_stop.ensures.logged))));
+          (ap (λ k. stop_calls c.args.when (stop_of k c.check_stop.ensures.checked.requested c.args.when.moment)) course)
+          c.check_stop.ensures.checked.logged))));
     }

@@ -1,0 +1,187 @@
+//! Where the lines of a log are written, which calls the writer got, and how many lines found no room there.
+
+ghost use Rattle.std.specs.Prelude.{◌≡◌, ◌≤◌, ◌+◌, true, OnOk};
+ghost use Rattle.std.specs.Io.KnownBytes.{Appends, Keeps};
+ghost use Rattle.srt_log.specs.Objects.{object_text};
+ghost use Rattle.srt_watch.specs.Log.{most, words_at, object_at, line_at, said};
+ghost use Rattle.srt_watch.specs.Writes.{is_passing, refused_after, lines_of, GotObject, GotLine};
+
+use crate::log::When;
+use srt_log::{LogEvent, put_object, write_line};
+use std::alloc::Global;
+use std::io::{self, Error, ErrorKind, Write};
+use std::mem;
+
+/// Where the lines of a log are written.
+#[derive(Drop)]
+pub(crate) struct Output<W: Drop> {
+    pub(crate) out: W,
+    // room for the object of a line
+    object: Vec<u8>,
+    // lines that there was no room for, and that weren't told as left out since
+    refused: u64,
+    // the lines that were to be written so far; nothing reads it
+    given: u64,
+    // how often the writer was called with a line, and how often it was to write what waits in it; nothing reads these
+    writes: u64,
+    flushes: u64,
+}
+
+// Whether a write that failed so may succeed later: there was no room for the line, or no memory.
+fn is_passing(kind: ErrorKind) -> bool
+    ensures { result ≡ is_passing kind }
+{
+    matches!(kind, ErrorKind::WouldBlock | ErrorKind::OutOfMemory)
+}
+
+// The number of lines that the line of an event stands for.
+fn lines_of(event: LogEvent<'_>) -> u64
+    ensures { result ≡ lines_of event.entry }
+{
+    match event {
+        LogEvent::LeftOut { count } => count,
+        _ => 1,
+    }
+}
+
+// Calls the writer with the line of an event, and counts that.
+fn put_words<W: Write>(
+    out: &mut W,
+    writes: &mut u64,
+    when: When,
+    event: LogEvent<'_>,
+) -> io::Result<()>
+    ensures line { OnOk result (Appends (W.contents out.old) (W.contents out.new) (words_at when.stamp (said event.entry))) }
+    ensures writes { writes.new ≡ most (writes.old + 1) }
+{
+    *writes = writes.saturating_add(1);
+    write_line(out, when.stamp, event)
+}
+
+// Calls the writer with these bytes, and counts that.
+fn put_bytes<W: Write>(out: &mut W, writes: &mut u64, bytes: &[u8]) -> io::Result<()>
+    ensures bytes { OnOk result (Appends (W.contents out.old) (W.contents out.new) bytes.now) }
+    ensures writes { writes.new ≡ most (writes.old + 1) }
+{
+    *writes = writes.saturating_add(1);
+    out.write_all(bytes)
+}
+
+// Calls the writer to write what waits in it, and counts that. Returns whether nothing waits.
+fn flush_once<W: Write>(out: &mut W, flushes: &mut u64) -> bool
+    ensures bytes { Keeps (W.contents out.old) (W.contents out.new) }
+    ensures flushes { flushes.new ≡ most (flushes.old + 1) }
+{
+    *flushes = flushes.saturating_add(1);
+    out.flush().is_ok()
+}
+
+// Makes the object of an event in place of another one, and calls the writer with it. Only if memory for it is refused the writer isn't called.
+#[tactic(auto, using(crate::proofs::Logging::got_object), unfolding(srt_log::specs::Objects::object_text))]
+fn put_json<W: Write>(
+    out: &mut W,
+    writes: &mut u64,
+    object: &mut Vec<u8>,
+    when: When,
+    event: LogEvent<'_>,
+) -> io::Result<()>
+    ensures line { OnOk result (Appends (W.contents out.old) (W.contents out.new) (object_at when.stamp (said event.entry))) }
+    ensures writes { GotObject result writes.old writes.new }
+{
+    object.clear();
+    if put_object(object, when.stamp, event).is_err() {
+        return Err(Error::from(ErrorKind::OutOfMemory));
+    }
+    put_bytes(out, writes, object.as_slice())
+}
+
+impl<W: Write + Drop> Output<W> {
+    /// Returns one that was given no line yet.
+    pub(crate) fn new(alloc: Global, out: W) -> Output<W>
+        ensures out { result.out ≡ out }
+        ensures refused { result.refused ≡ 0 }
+    {
+        Output {
+            out,
+            object: Vec::new(alloc),
+            refused: 0,
+            given: 0,
+            writes: 0,
+            flushes: 0,
+        }
+    }
+
+    // Makes the line of an event, and writes it. An error is the writer's, or that memory for an object was refused.
+    fn put_line(&mut self, when: When, event: LogEvent<'_>) -> io::Result<()>
+        ensures line { OnOk result (Appends (W.contents self.old.out) (W.contents self.new.out) (line_at when (said event.entry))) }
+        ensures refused { self.new.refused ≡ self.old.refused }
+        ensures given { self.new.given ≡ self.old.given }
+        ensures writes { GotLine when.is_json result self.old.writes self.new.writes }
+        ensures flushes { self.new.flushes ≡ self.old.flushes }
+    {
+        if when.is_json {
+            put_json(
+                &mut self.out,
+                &mut self.writes,
+                &mut self.object,
+                when,
+                event,
+            )
+        } else {
+            put_words(&mut self.out, &mut self.writes, when, event)
+        }
+    }
+
+    // Notes how the write of a line ended that stands for so many. If there was no room for it, or no memory, they are counted; any other
+    // failed write is ignored: the gateway continues without a log.
+    fn note(&mut self, outcome: &io::Result<()>, lines: u64)
+        ensures out { self.new.out ≡ self.old.out }
+        ensures refused { self.new.refused ≡ refused_after outcome.now self.old.refused lines }
+        ensures grows { self.old.refused ≤ self.new.refused }
+        ensures given { self.new.given ≡ self.old.given }
+        ensures calls { (self.new.writes ≡ self.old.writes) × (self.new.flushes ≡ self.old.flushes) }
+    {
+        if let Err(error) = outcome {
+            if is_passing(error.kind()) {
+                self.refused = self.refused.saturating_add(lines);
+            }
+        }
+    }
+
+    /// Writes the line of an event, and returns how that ended. If there was no room for it now, or no memory, the lines that it stands for
+    /// are counted.
+    pub(crate) fn write(&mut self, when: When, event: LogEvent<'_>) -> io::Result<()>
+        ensures line { OnOk result (Appends (W.contents self.old.out) (W.contents self.new.out) (line_at when (said event.entry))) }
+        ensures refused { self.new.refused ≡ refused_after result self.old.refused (lines_of event.entry) }
+        ensures grows { self.old.refused ≤ self.new.refused }
+        ensures given { self.new.given ≡ most (self.old.given + 1) }
+        ensures writes { GotLine when.is_json result self.old.writes self.new.writes }
+        ensures flushes { self.new.flushes ≡ self.old.flushes }
+    {
+        self.given = self.given.saturating_add(1);
+        let outcome = self.put_line(when, event);
+        self.note(&outcome, lines_of(event));
+        outcome
+    }
+
+    /// Lets the writer write what waits in it. Returns whether nothing waits.
+    pub(crate) fn flush(&mut self) -> bool
+        ensures bytes { Keeps (W.contents self.old.out) (W.contents self.new.out) }
+        ensures refused { self.new.refused ≡ self.old.refused }
+        ensures given { self.new.given ≡ self.old.given }
+        ensures flushes { self.new.flushes ≡ most (self.old.flushes + 1) }
+    {
+        flush_once(&mut self.out, &mut self.flushes)
+    }
+
+    /// Returns the number of lines that there was no room for since the last such call.
+    pub(crate) fn take_refused(&mut self) -> u64
+        ensures result { result ≡ self.old.refused }
+        ensures refused { self.new.refused ≡ 0 }
+        ensures out { self.new.out ≡ self.old.out }
+        ensures given { self.new.given ≡ self.old.given }
+        ensures flushes { self.new.flushes ≡ self.old.flushes }
+    {
+        mem::replace(&mut self.refused, 0)
+    }
+}
