@@ -107,6 +107,8 @@ class Called(Compared):
         verdict, route, first = self.model.verdict(call), self.model.route(call.name), len(self.run.lines)
         caller = self.caller(call, kind)
         code = self.code_of(caller, call)
+        if verdict.code and not code:
+            self.raise_if_slow(2)  # A session that was silent leaves its place to others.
         self.expect(code == verdict.code, f"{call} gets {code or 'a session'}, and not {verdict}; {route}")
         cause = self.cause_of(caller, code, call, first, verdict.cause) if code else ""
         self.note(call, verdict, route, caller)
@@ -211,8 +213,10 @@ class Called(Compared):
         """Opens sessions until the route's limits have refused some. Ends them, the subscribers first and then the publisher that stands
         by, so that none takes over."""
         calls = [it for it in calls_to(route) if not route.admits(it).code]
-        opened = []
+        opened: list[tuple[Caller, Call]] = []
         for _ in range(FILL if calls else 0):
+            for caller, _ in opened:
+                caller.send_control(packets.KEEPALIVE)  # A repeated refusal is waited for, and five silent seconds end a session.
             call = self.chance.choice(calls)
             caller = self.try_call(call)
             if caller:
