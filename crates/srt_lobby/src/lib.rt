@@ -20,16 +20,18 @@
 //!
 //! Files: `lobby.rt` has the checks in their order (docs/PROTOCOL.md, "Where a datagram goes"): destination, handshake,
 //! cookie; `refusals.rt` those of a conclusion: 1008, 1004, 1011, 1014, 1015 and 1002, and 1011 again for keys that a
-//! secured role lacks. `access_lists.rt` has the rule of packets to a session, whose sender has to be in a list. `classes.rt`
-//! has the classes and causes, `causes_for_monitoring.rt` the causes of a 1002, `names.rt` the names and their table,
-//! `new_name.rt` the name of a route to be added, `new_access.rt` the lists and keys that replace others, `entry_faults.rt`
-//! the entries that a gateway can't be opened with, and `laws.rt` what is proved of all of it. The definition is
-//! `specs/Lobby.antt`.
+//! secured role lacks. `encryption_refusals.rt` has both cases of 1011: keys without a passphrase, and a passphrase without
+//! keys. `access_lists.rt` has who is admitted: a conclusion by the list and key of its role, a packet to a session by the
+//! lists. `classes.rt` has the classes and causes, `causes_for_monitoring.rt` the causes of a 1002, `names.rt` the names and
+//! their table, `new_name.rt` the name of a route to be added, `new_access.rt` the lists and keys that replace others,
+//! `entry_faults.rt` the entries that a gateway can't be opened with, and `laws.rt` what is proved of all of it. The
+//! definition is `specs/Lobby.antt`.
 #![tactic(auto)]
 
 mod access_lists;
 mod causes_for_monitoring;
 mod classes;
+mod encryption_refusals;
 mod entry_faults;
 pub mod laws;
 mod lobby;

@@ -4,19 +4,17 @@ ghost use Rattle.std.specs.Prelude.{◌≡◌, ◌+◌, ◌<◌, ◌≤◌, leng
 ghost use Rattle.std.specs.Map.{set_value};
 ghost use Rattle.indexmap.specs.IndexMap.{spare};
 ghost use Rattle.std.specs.Str.{bytes_eq};
-ghost use Rattle.srt_types.specs.Access.{role_access_of, access_of, admits};
 ghost use Rattle.srt_hs.specs.KeyRequest.{key_request_in};
-ghost use Rattle.srt_streamid.specs.Reading.{key_of};
-ghost use Rattle.srt_lobby.specs.Keys.{has_keys_in};
 ghost use Rattle.srt_lobby.specs.Tables.{name_in, index_in, Enters, HasShown, HasNamed, HasTexts};
 
+use crate::access_lists::is_admitted;
+use crate::encryption_refusals::has_keys_in;
 use crate::entry_faults::fault;
 use crate::new_access::{NewAccess, ReplacedAccess, replace_rules};
 use crate::new_name::NewName;
 use indexmap::IndexMap;
-use srt_hs::{KeyRequest, key_request, read_key_message};
 use srt_types::product_limits::MAX_ROUTES;
-use srt_types::{Access, Entry, OpenFault, Peer, Role, RoleAccess, is_name};
+use srt_types::{Access, Entry, OpenFault, Peer, Role, is_name};
 use std::alloc::{AllocError, Global};
 
 /// A role that a Stream ID requests, of a visible route.
@@ -73,37 +71,6 @@ fn enter(latest: &mut IndexMap<Vec<u8>, usize>, name: Vec<u8>, r: usize)
 {
     if latest.get(name.as_slice()).is_none() {
         latest.insert(name, r).unwrap();
-    }
-}
-
-/// Whether a caller with this Stream ID is admitted: the list is checked first, then the key.
-fn is_admitted(access: &RoleAccess, peer: Peer, bytes: &[u8]) -> bool
-    ensures { result ≡ admits (role_access_of access.now) peer (key_of bytes.now) }
-{
-    if !access.lists(peer) {
-        return false;
-    }
-    if access.key.is_none() {
-        return true;
-    }
-    access.is_right_key(srt_streamid::key(bytes))
-}
-
-/// Whether the KMREQ blocks of a conclusion are right for a role: for a secured one exactly one, which has keys of the
-/// required length. `info` is the handshake, the bytes after the packet's header.
-fn has_keys_in(access: &Access, role: Role, info: &[u8]) -> bool
-    ensures { result ≡ has_keys_in (access_of access.now) role (key_request_in info.now) }
-{
-    if !access.in_role(role).is_secured() {
-        return true;
-    }
-    match key_request(info) {
-        KeyRequest::Missing => false,
-        KeyRequest::One(contents) => match read_key_message(contents) {
-            Ok(message) => access.is_right_length(message.key_length),
-            Err(_) => false,
-        },
-        KeyRequest::Several => false,
     }
 }
 

@@ -9,6 +9,7 @@ ghost use Rattle.srt_lobby.specs.Names.{names_of};
 ghost use Rattle.srt_lobby.specs.Lobby.{refused as is_refused, reason_of, role_named, is_secured_role, of_role, of_request, of_conclusion};
 ghost use Rattle.srt_lobby.specs.Causes.{requests_secured};
 
+use crate::encryption_refusals::{has_unexpected_keys, if_keyed};
 use crate::lobby::answered;
 use crate::names::RequestedRole;
 use crate::{Class, Names};
@@ -16,7 +17,7 @@ use srt_hs::{AnswerKind, HsRef, RefusalCode, stream_id};
 use srt_types::Peer;
 use srt_types::protocol_limits::MAX_STREAM_ID;
 
-fn refused(hs: &HsRef<'_>, code: RefusalCode) -> Class
+pub(crate) fn refused(hs: &HsRef<'_>, code: RefusalCode) -> Class
     ensures { result ≡ is_refused (handshake_of hs.now) code }
 {
     answered(hs, AnswerKind::Refusal(code))
@@ -34,7 +35,7 @@ pub(crate) fn reason(hs: &HsRef<'_>, secured: bool) -> Option<RefusalCode>
         Some(RefusalCode::Version)
     } else if hs.initial >= 1 << 31 || hs.blocks.hsreq.is_none() {
         Some(RefusalCode::Rogue)
-    } else if !secured && hs.blocks.has_kmreq {
+    } else if has_unexpected_keys(hs, secured) {
         Some(RefusalCode::Unsecure)
     } else if hs.blocks.has_filter {
         Some(RefusalCode::Filter)
@@ -100,11 +101,7 @@ fn of_role(
     if !names.admits(requested, peer, bytes) {
         return refused(hs, RefusalCode::Peer);
     }
-    if names.has_keys(requested, info) {
-        Class::Route(requested.route)
-    } else {
-        refused(hs, RefusalCode::Unsecure)
-    }
+    if_keyed(names, info, hs, requested)
 }
 
 /// Returns the class of a conclusion with the Stream ID `bytes`: refused for a reason; refused with 1002 if they request no
