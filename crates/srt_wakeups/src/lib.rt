@@ -6,17 +6,25 @@
 //!
 //! Types: `Wakeups` is what the threads of a run share, the marks of the routes and the notifiers at which threads sleep; an
 //! `AtomicBitSet` has a mark for each route; a `ThreadName` names a thread by `name_thread`. `pacing` has the times and the
-//! counts by which threads sleep and share work.
+//! counts by which threads sleep and share work. `RouteMarks`, `RunState`, `WorkerPauses`, `SharedMarks` and `SharedWord` are
+//! these values to code that has to show that it makes its calls.
 //!
-//! Files: `wakeups.rt`, over `bit_set.rt` and `notifier.rt`; `pacing.rt`; `naming.rt`.
+//! Files: `wakeups.rt`, over `bit_set.rt` and `notifier.rt`; `pacing.rt`; `naming.rt`; the traits `route_marks.rt`,
+//! `run_state.rt` and `words.rt`.
 #![tactic(auto)]
 
 mod bit_set;
 mod naming;
 mod notifier;
 pub mod pacing;
+mod route_marks;
+mod run_state;
 mod wakeups;
+mod words;
 
 pub use bit_set::AtomicBitSet;
 pub use naming::{ThreadName, name_thread};
+pub use route_marks::RouteMarks;
+pub use run_state::{RunState, WorkerPauses};
 pub use wakeups::Wakeups;
+pub use words::{SharedMarks, SharedWord};
