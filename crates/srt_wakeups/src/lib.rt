@@ -6,17 +6,18 @@
 //!
 //! Types: `Wakeups` is what the threads of a run share, the marks of the routes and the notifiers at which threads sleep; an
 //! `AtomicBitSet` has a mark for each route; a `ThreadName` names a thread by `name_thread`. `pacing` has the times and the
-//! counts by which threads sleep and share work. `RouteMarks`, `RunState`, `WorkerPauses`, `SharedMarks` and `SharedWord` are
-//! these values to code that has to show that it makes its calls.
+//! counts by which threads sleep and share work. `RouteMarks`, `RunState`, `WorkerPauses`, `SharedMarks`, `SharedWord` and
+//! `SharedQueue` are these values to code that has to show that it makes its calls.
 //!
 //! Files: `wakeups.rt`, over `bit_set.rt` and `notifier.rt`; `pacing.rt`; `naming.rt`; the traits `route_marks.rt`,
-//! `run_state.rt` and `words.rt`.
+//! `run_state.rt`, `words.rt` and `queue.rt`.
 #![tactic(auto)]
 
 mod bit_set;
 mod naming;
 mod notifier;
 pub mod pacing;
+mod queue;
 mod route_marks;
 mod run_state;
 mod wakeups;
@@ -24,6 +25,7 @@ mod words;
 
 pub use bit_set::AtomicBitSet;
 pub use naming::{ThreadName, name_thread};
+pub use queue::SharedQueue;
 pub use route_marks::RouteMarks;
 pub use run_state::{RunState, WorkerPauses};
 pub use wakeups::Wakeups;
