@@ -37,9 +37,10 @@ pub trait Answers {
 
 /// The watcher of a run, in a thread of its own.
 pub trait Watch: Answers {
-    ghost use Rattle.std.specs.Prelude.{ℕ, Bool};
+    ghost use Rattle.std.specs.Prelude.{◌≡◌, ℕ, Bool, List, Option, None};
     ghost use Rattle.srt_route.specs.declared.route.Route.{Route as TheRoute};
     ghost use Rattle.srt_supervision.specs.Answers.{Answer, IsOrdered};
+    ghost use Rattle.srt_supervision.specs.Refusals.{with_told};
     ghost use Rattle.srt_supervision.specs.declared.order.Order.{Order as TheOrder};
     ghost use Rattle.srt_supervision.specs.declared.refusal.Refusal.{Refusal as TheRefusal};
     ghost use Rattle.srt_supervision.specs.declared.watch.RunStatus.{RunStatus as TheStatus};
@@ -60,30 +61,38 @@ pub trait Watch: Answers {
     /// What is known once it was let change the routes.
     ghost changed: { Type 0 } = { Unit {0} };
 
+    /// The refusals that were reported to it, the oldest first, or `None` for a watcher that doesn't record them.
+    ghost refusals: { Self → Option (List TheRefusal) } = { λ _. None };
+
     /// Rests for some milliseconds, and returns the order that the poller has from then on. `End` is final: whatever a
     /// later call returns, the run ends. A run doesn't end before this call returns.
     fn next(&mut self, status: RunStatus) -> Order
         ensures answered { IsOrdered Self.answered result }
-        ensures rested { Self.rested status result };
+        ensures rested { Self.rested status result }
+        ensures refusals { refusals self.new ≡ refusals self.old };
 
     /// Whether the routes are to be shown now. Called after each rest.
     fn wants_routes(&mut self) -> bool
-        ensures { Self.wanted result };
+        ensures wanted { Self.wanted result }
+        ensures refusals { refusals self.new ≡ refusals self.old };
 
     /// Shows a route, at most once after each `wants_routes`. Workers can't serve it meanwhile. A route that another
     /// thread is serving is left out; after the run each route is shown once more.
     fn show_route(&mut self, index: usize, route: &Route)
-        ensures { Self.shown index route.now };
+        ensures shown { Self.shown index route.now }
+        ensures refusals { refusals self.new ≡ refusals self.old };
 
     /// Reports a conclusion that was refused.
     fn refused(&mut self, refusal: &Refusal)
-        ensures { Self.told refusal.now };
+        ensures told { Self.told refusal.now }
+        ensures refusals { refusals self.new ≡ with_told (refusals self.old) refusal.now };
 
     /// Lets the watcher open and close routes. Called after each rest, but not once the poller's order is to close all or
     /// to end.
     fn change_routes<C: ChangeRoutes>(&mut self, run: &mut C)
         requires { (a : Answer) → Self.answered a → C.requires_of a }
-        ensures { Self.changed };
+        ensures changed { Self.changed }
+        ensures refusals { refusals self.new ≡ refusals self.old };
 }
 
 /// A watcher that changes nothing and observes nothing, for runs that aren't watched.
