@@ -1,12 +1,13 @@
 -- A head that asks for something.
 use Rattle.std.proofs.Common.{◌≡◌, ℕ, sym, subst, ap, ◌∙◌, Bool, true, false, cond, List, Option, None, Some, codes}
 use Rattle.std.specs.Str.{bytes_eq}
-use Rattle.srt_status.specs.declared.request.Page.{Page}
+use Rattle.srt_status.specs.declared.paths.Page.{Page}
 use Rattle.srt_status.specs.declared.request.Method.{Method}
 use Rattle.srt_status.specs.declared.request.Method.TheVariants.{Get, Head}
 use Rattle.srt_status.specs.declared.request.Request.{Request}
 use Rattle.srt_status.specs.declared.request.Request.TheVariants.{NotAllowed}
-use Rattle.srt_status.specs.Requests.{page_in, shown_by, shown_in, request_of, IsRequestedFor, WhatItSays}
+use Rattle.srt_status.specs.Paths.{page_in}
+use Rattle.srt_status.specs.Requests.{shown_by, shown_in, request_of, IsRequestedFor, WhatItSays}
 use Rattle.httparse.specs.Grammar.{RequestHead, ReadsRequest}
 
 of_page : (bytes : List ℕ) (method : Method) (page : Option Page) → IsRequestedFor bytes (shown_by method page) → WhatItSays bytes (Some (shown_by method page))

@@ -11,8 +11,8 @@ use Rattle.srt_route.specs.declared.view.Traffic.{Traffic}
 use Rattle.srt_route.specs.declared.view.Traffic.TheVariants.{Received, Sent}
 use Rattle.srt_status.specs.declared.gateway.GatewayStatus.{GatewayStatus}
 use Rattle.srt_status.specs.declared.gateway.RefusalCounts.{RefusalCounts}
-use Rattle.srt_status.specs.declared.routes.RouteStatus.{RouteStatus}
-use Rattle.srt_status.specs.declared.routes.LimitCounts.{LimitCounts}
+use Rattle.srt_status.specs.declared.route_status.RouteStatus.{RouteStatus}
+use Rattle.srt_status.specs.declared.route_status.LimitCounts.{LimitCounts}
 use Rattle.srt_status.specs.declared.expectation.Expectation.{Expectation}
 use Rattle.srt_status.specs.Expectations.{seconds_absent}
 use Rattle.srt_status.specs.declared.figures.Amount.{Amount}

@@ -8,7 +8,7 @@ use Rattle.srt_status.specs.declared.figures.Amount.{Amount}
 use Rattle.srt_status.specs.declared.history.Minute.{Minute}
 use Rattle.srt_status.specs.declared.history.MinuteStart.{MinuteStart}
 use Rattle.srt_status.specs.declared.history.RouteHistory.{RouteHistory}
-use Rattle.srt_status.specs.declared.routes.RouteStatus.{RouteStatus}
+use Rattle.srt_status.specs.declared.route_status.RouteStatus.{RouteStatus}
 use Rattle.srt_status.specs.Figures.{round_trip_of, variance_of, trip_amount}
 use Rattle.srt_status.specs.Json.{route_name_start}
 use Rattle.srt_status.specs.Texts.{name_text}

@@ -8,8 +8,8 @@ use Rattle.srt_types.specs.declared.shared.Mode.{Mode}
 use Rattle.srt_types.specs.declared.shared.Mode.TheVariants.{Live, Buffer}
 use Rattle.srt_status.specs.declared.gateway.GatewayStatus.{GatewayStatus}
 use Rattle.srt_status.specs.declared.gateway.RefusalCounts.{RefusalCounts}
-use Rattle.srt_status.specs.declared.routes.RouteStatus.{RouteStatus}
-use Rattle.srt_status.specs.declared.routes.EndCounts.{EndCounts}
+use Rattle.srt_status.specs.declared.route_status.RouteStatus.{RouteStatus}
+use Rattle.srt_status.specs.declared.route_status.EndCounts.{EndCounts}
 use Rattle.srt_route.specs.declared.view.SessionView.{SessionView}
 use Rattle.srt_route.specs.declared.totals.Totals.{Totals}
 use Rattle.srt_status.specs.declared.figures.Amount.{Amount}

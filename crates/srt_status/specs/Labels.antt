@@ -3,7 +3,7 @@ use Rattle.std.specs.Prelude.{ℕ, ◌+◌, ◌-◌, ◌^◌, min, List, [], ◌
 use Rattle.srt_route.specs.declared.ledger.EndCause.{EndCause}
 use Rattle.srt_route.specs.declared.ledger.EndCause.TheVariants as ends
 use Rattle.srt_status.specs.declared.gateway.CauseCounts.{CauseCounts}
-use Rattle.srt_status.specs.declared.routes.EndCounts.{EndCounts}
+use Rattle.srt_status.specs.declared.route_status.EndCounts.{EndCounts}
 use Rattle.srt_status.specs.declared.labels.Cause.{Cause}
 use Rattle.srt_status.specs.declared.labels.Cause.TheVariants as causes
 use Rattle.srt_status.specs.declared.labels.Ending.{Ending}

@@ -8,6 +8,7 @@ pub mod Metrics
 pub mod Json
 pub mod Events
 pub mod History
+pub mod Paths
 pub mod Requests
 pub mod Responses
 pub mod Connections

@@ -6,8 +6,8 @@ use Rattle.srt_types.specs.declared.shared.Role.TheVariants.{Publish, Request}
 use Rattle.srt_status.specs.declared.gateway.GatewayStatus.{GatewayStatus}
 use Rattle.srt_status.specs.declared.gateway.RefusalCounts.{RefusalCounts}
 use Rattle.srt_status.specs.declared.gateway.CauseCounts.{CauseCounts}
-use Rattle.srt_status.specs.declared.routes.RouteStatus.{RouteStatus}
-use Rattle.srt_status.specs.declared.routes.EndCounts.{EndCounts}
+use Rattle.srt_status.specs.declared.route_status.RouteStatus.{RouteStatus}
+use Rattle.srt_status.specs.declared.route_status.EndCounts.{EndCounts}
 use Rattle.srt_route.specs.declared.view.SessionView.{SessionView}
 use Rattle.srt_status.specs.declared.figures.Amount.{Amount}
 use Rattle.srt_status.specs.declared.figures.Count.{Count}

@@ -1,9 +1,9 @@
 -- What is answered to a caller of the status page.
 use Rattle.std.specs.Prelude.{ℕ, Bool, List, [], ◌++◌, length, codes, decimal, if◌then◌else◌}
 use Rattle.srt_status.specs.declared.gateway.GatewayStatus.{GatewayStatus}
-use Rattle.srt_status.specs.declared.routes.RouteStatus.{RouteStatus}
-use Rattle.srt_status.specs.declared.request.Page.{Page}
-use Rattle.srt_status.specs.declared.request.Page.TheVariants as pages
+use Rattle.srt_status.specs.declared.route_status.RouteStatus.{RouteStatus}
+use Rattle.srt_status.specs.declared.paths.Page.{Page}
+use Rattle.srt_status.specs.declared.paths.Page.TheVariants as pages
 use Rattle.srt_status.specs.declared.request.Method.{Method}
 use Rattle.srt_status.specs.declared.request.Method.TheVariants.{Get, Head}
 use Rattle.srt_status.specs.declared.request.Request.{Request}

@@ -9,7 +9,7 @@ ghost use Rattle.srt_status.specs.Figures.{figure_help, figure_kind, limit_figur
 
 use crate::expectation::Expectation;
 use crate::gateway::{GatewayStatus, RefusalCounts};
-use crate::routes::{LimitCounts, RouteStatus};
+use crate::route_status::{LimitCounts, RouteStatus};
 use srt_route::{SessionView, Traffic};
 use srt_sub::Sendings;
 

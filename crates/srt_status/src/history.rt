@@ -9,7 +9,7 @@ ghost use Rattle.srt_status.specs.History.{histories_json};
 
 use crate::figures::{round_trip_of, trip_amount};
 use crate::json::put_route_name_start;
-use crate::routes::RouteStatus;
+use crate::route_status::RouteStatus;
 use crate::text::{put, put_name, put_number};
 use srt_route::{SessionView, Traffic};
 use std::alloc::AllocError;

@@ -21,7 +21,7 @@ use crate::gateway::{GatewayStatus, RefusalCounts};
 use crate::labels::{ENDINGS, Ending, end_count, end_label};
 use crate::peers::put_peer;
 use crate::process::{PROCESS_FIGURES, ProcessFigure, process_amount, process_name};
-use crate::routes::{EndCounts, RouteStatus};
+use crate::route_status::{EndCounts, RouteStatus};
 use crate::text::{put, put_amount, put_id, put_name, put_number};
 use srt_route::{SessionView, Totals};
 use srt_types::{Mode, Role};

@@ -4,7 +4,7 @@ ghost use Rattle.std.specs.Prelude.{◌≡◌};
 ghost use Rattle.srt_status.specs.Labels.{cause_label, cause_count, end_label, end_count};
 
 use crate::gateway::CauseCounts;
-use crate::routes::EndCounts;
+use crate::route_status::EndCounts;
 
 /// A cause for which the lobby refuses with 1002.
 #[derive(Clone, Copy)]

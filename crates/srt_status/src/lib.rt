@@ -3,11 +3,11 @@
 //!
 //! It reads nothing of the gateway: its caller passes in snapshots. A body is allocated.
 //!
-//! Types: [`GatewayStatus`] (`gateway.rt`) and [`RouteStatus`] (`routes.rt`), the snapshots; [`Request`] (`request.rt`);
-//! [`Connection`] (`connection.rt`), the state of one connection; [`EventRing`] (`events.rt`), the last lines of the log, and
-//! [`RouteHistory`] (`history.rt`), the last hour of a route, both in fixed memory; [`Expectation`] (`expectation.rt`), that a route is on
-//! air. A session is an `srt_route::SessionView`, the poller's
-//! counters are an `srt_supervision::Report`.
+//! Types: [`GatewayStatus`] (`gateway.rt`) and [`RouteStatus`] (`route_status.rt`), the snapshots; [`Page`] (`paths.rt`),
+//! what each HTTP path shows; [`Request`] (`request.rt`); [`Connection`] (`connection.rt`), the state of one connection;
+//! [`EventRing`] (`events.rt`), the last lines of the log, and [`RouteHistory`] (`history.rt`), the last hour of a route,
+//! both in fixed memory; [`Expectation`] (`expectation.rt`), that a route is on air. A session is an
+//! `srt_route::SessionView`, the poller's counters are an `srt_supervision::Report`.
 //!
 //! Calls: [`put_metrics`] (`metrics.rt`) and [`put_json`] (`json.rt`) put the snapshots into a text, [`request_in`] reads
 //! a request, and [`respond`] (`response.rt`) makes the response to it. The names, the help and the values of all
@@ -26,11 +26,12 @@ mod labels;
 pub mod laws;
 mod metrics;
 mod page;
+mod paths;
 mod peers;
 mod process;
 mod request;
 mod response;
-mod routes;
+mod route_status;
 mod text;
 
 pub use connection::Connection;
@@ -41,9 +42,10 @@ pub use history::{HISTORY_MINUTES, Minute, RouteHistory, round_trip_in};
 pub use json::put_json;
 pub use metrics::put_metrics;
 pub use page::OVERVIEW;
-pub use request::{Method, Page, Request, request_in};
+pub use paths::Page;
+pub use request::{Method, Request, request_in};
 pub use response::respond;
-pub use routes::{EndCounts, LimitCounts, RouteStatus};
+pub use route_status::{EndCounts, LimitCounts, RouteStatus};
 
 #[cfg(test)]
 mod expectation_tests;

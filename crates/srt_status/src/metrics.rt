@@ -28,7 +28,7 @@ use crate::peers::put_peer;
 use crate::process::{
     PROCESS_FIGURES, ProcessFigure, process_amount, process_help, process_kind, process_name,
 };
-use crate::routes::{EndCounts, RouteStatus};
+use crate::route_status::{EndCounts, RouteStatus};
 use crate::text::{put, put_amount, put_id, put_name, put_number};
 use srt_route::SessionView;
 use srt_types::Role;

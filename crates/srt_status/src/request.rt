@@ -1,30 +1,14 @@
-//! Requests to the status page.
+//! Requests to the status page: what a head asks for. The paths are in `paths.rt`.
 
 ghost use Rattle.std.specs.Prelude.{◌≡◌, ◌≤◌, ◌<◌, ℕ, List, length, Some, None};
 ghost use Rattle.httparse.specs.Grammar.{RequestHead, ReadsRequest, HasNoRequest, NeverHasRequest};
 ghost use Rattle.httparse.specs.Spans.{RequestExceeds};
-ghost use Rattle.srt_status.specs.Requests.{begins_query, is_for, page_in, shown_in, request_of, WhatItSays};
+ghost use Rattle.srt_status.specs.Requests.{shown_in, request_of, WhatItSays};
 
+use crate::paths::{Page, page_in};
 use httparse::spans::{EMPTY_HEADER_SPAN, parse_request};
 use httparse::{Error, Status};
 use srt_types::product_limits::{MAX_REQUEST, MAX_REQUEST_FIELDS};
-
-/// What can be asked for.
-#[derive(Clone, Copy, PartialEq, Eq)]
-pub enum Page {
-    /// `/`: the page for people.
-    Overview,
-    /// `/status.json`: the same for programs.
-    Json,
-    /// `/metrics`: the figures in the text format of Prometheus.
-    Metrics,
-    /// `/events.json`: the last lines of the log.
-    Events,
-    /// `/history.json`: the last hour of each route.
-    History,
-    /// `/healthz`: whether the gateway works.
-    Health,
-}
 
 /// How it is asked for.
 #[derive(Clone, Copy, PartialEq, Eq)]
@@ -56,52 +40,6 @@ pub enum Request {
     Bad,
     /// The head has more than 64 fields, or more than [`MAX_REQUEST`] bytes.
     TooLong,
-}
-
-/// Whether what is left of a target is a query, or nothing.
-fn begins_query(rest: &[u8]) -> bool
-    ensures { result ≡ begins_query rest.now }
-{
-    match rest {
-        [] => true,
-        [first, ..] => *first == b'?',
-    }
-}
-
-/// Whether a target is this path, with or without a query.
-fn is_for(path: &[u8], target: &[u8]) -> bool
-    ensures { result ≡ is_for path.now target.now }
-{
-    if target.len() < path.len() {
-        return false;
-    }
-    let (front, rest) = target.split_at(path.len());
-    front == path && begins_query(rest)
-}
-
-/// The page of a target; None if it isn't here.
-fn page_in(target: &[u8]) -> Option<Page>
-    ensures { result ≡ page_in target.now }
-{
-    if is_for(b"/", target) {
-        return Some(Page::Overview);
-    }
-    if is_for(b"/status.json", target) {
-        return Some(Page::Json);
-    }
-    if is_for(b"/metrics", target) {
-        return Some(Page::Metrics);
-    }
-    if is_for(b"/events.json", target) {
-        return Some(Page::Events);
-    }
-    if is_for(b"/history.json", target) {
-        return Some(Page::History);
-    }
-    if is_for(b"/healthz", target) {
-        return Some(Page::Health);
-    }
-    None
 }
 
 #[tactic(auto, unfolding(crate::specs::Requests::shown_in))]

@@ -9,8 +9,9 @@ use crate::gateway::GatewayStatus;
 use crate::history::put_histories;
 use crate::json::put_json;
 use crate::metrics::put_metrics;
-use crate::request::{Method, Page, Request};
-use crate::routes::RouteStatus;
+use crate::paths::Page;
+use crate::request::{Method, Request};
+use crate::route_status::RouteStatus;
 use crate::text::{put, put_number};
 use std::alloc::{AllocError, Global};
 

@@ -2,7 +2,7 @@
 use Rattle.std.proofs.Common.{◌≡◌, ℕ, suc, ◌+◌, List, [], ◌∷◌, ◌++◌, length, map, take, get_or, ◌<◌, refl, sym, ap, subst, arith}
 use Rattle.srt_types.specs.declared.shared.Entry.{Entry}
 use Rattle.srt_types.specs.Terms.{Terms, terms_of}
-use Rattle.srt_status.specs.declared.routes.RouteStatus.{RouteStatus}
+use Rattle.srt_status.specs.declared.route_status.RouteStatus.{RouteStatus}
 use Rattle.srt_watch.proofs.Appended.{mapped}
 use Rattle.srt_watch.specs.FirstRoutes.{IsFirst, AreFirst, AreFresh, HasShownMore, HasOpened}
 use Rattle.srt_watch.specs.Openings.{IsFresh}

@@ -1,6 +1,6 @@
 -- What is expected of all routes, one by one.
 use Rattle.std.proofs.Common.{◌≡◌, ℕ, zero, suc, ◌+◌, ◌<◌, Bool, false, List, [], ◌∷◌, length, set, get_or, refl, ap, ◌∙◌, arith, add-one}
-use Rattle.srt_status.specs.declared.routes.RouteStatus.{RouteStatus}
+use Rattle.srt_status.specs.declared.route_status.RouteStatus.{RouteStatus}
 use Rattle.srt_watch.specs.Expecting.{is_expected, expecting, all_expecting}
 
 -- the first n routes are expected to be on air, or aren't

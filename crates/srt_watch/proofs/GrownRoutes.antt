@@ -3,7 +3,7 @@ use Rattle.std.proofs.Common.{◌≡◌, ℕ, zero, suc, ◌<◌, List, [], ◌�
 use Rattle.std.proofs.Common.{refl, sym, ap, ◌∙◌, subst, append_assoc, append-nil, arith}
 use Rattle.std.specs.Prelude.{slice_get, slice_set}
 use Rattle.srt_config.specs.declared.changes.RouteChange.{RouteChange}
-use Rattle.srt_status.specs.declared.routes.RouteStatus.{RouteStatus}
+use Rattle.srt_status.specs.declared.route_status.RouteStatus.{RouteStatus}
 use Rattle.srt_watch.specs.Placing.{added_by, rest_by, opened_routes, joined, status_by, kept_by, next_statuses, IsKnown, AreKnown}
 use Rattle.srt_watch.specs.declared.watched_routes.OpeningRoute.{OpeningRoute}
 use Rattle.srt_watch.specs.declared.watched_routes.WatchedRoute.{WatchedRoute}

@@ -5,7 +5,7 @@ use Rattle.std.specs.List.{AllByRecursion}
 use denote.Ref.{Bor}
 use Rattle.srt_status.specs.declared.events.Event.{Event}
 use Rattle.srt_status.specs.declared.gateway.ChangeCounts.{ChangeCounts}
-use Rattle.srt_status.specs.declared.routes.RouteStatus.{RouteStatus}
+use Rattle.srt_status.specs.declared.route_status.RouteStatus.{RouteStatus}
 use Rattle.srt_watch.specs.Facts.{MachineFacts}
 use Rattle.srt_watch.specs.Pages.{ShownPage, with_pages, page_at, pages_at, ShowedPages}
 use Rattle.srt_watch.specs.declared.overview.Overview.{Overview}

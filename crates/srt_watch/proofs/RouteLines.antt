@@ -11,7 +11,7 @@ use Rattle.srt_watch.specs.declared.log.LogPace.{LogPace}
 use Rattle.srt_watch.specs.declared.log.When.{When}
 use Rattle.srt_watch.specs.declared.watched_routes.SnapshotPair.{SnapshotPair}
 use Rattle.srt_watch.specs.Log.{Logged, Offered, offered, said}
-use Rattle.srt_status.specs.declared.routes.EndCounts.{EndCounts}
+use Rattle.srt_status.specs.declared.route_status.EndCounts.{EndCounts}
 use Rattle.srt_watch.specs.RouteLines.{step_calls, calls_to, take_over_more, take_overs_to, end_more, ends_to}
 use Rattle.srt_watch.proofs.Logging.{logged_none, logged_both}
 

@@ -11,8 +11,8 @@ use Rattle.srt_route.specs.declared.view.SessionView.{SessionView}
 use Rattle.srt_route.specs.Ledgers.{opened_in, refused_in, refused_of}
 use Rattle.srt_status.specs.declared.gateway.RefusalCounts.{RefusalCounts}
 use Rattle.srt_status.specs.declared.gateway.CauseCounts.{CauseCounts}
-use Rattle.srt_status.specs.declared.routes.LimitCounts.{LimitCounts}
-use Rattle.srt_status.specs.declared.routes.RouteStatus.{RouteStatus}
+use Rattle.srt_status.specs.declared.route_status.LimitCounts.{LimitCounts}
+use Rattle.srt_status.specs.declared.route_status.RouteStatus.{RouteStatus}
 use Rattle.srt_status.specs.declared.expectation.Expectation.{Expectation}
 use Rattle.srt_status.specs.Expectations.{is_on_air, looked, line_at}
 use Rattle.srt_status.specs.History.{noted, round_trip_in}

@@ -3,7 +3,7 @@ use Rattle.std.specs.Prelude.{◌≡◌, ℕ, Bool, false, List, [], ◌∷◌, 
 use Rattle.std.specs.Option.{unwrap_or}
 use Rattle.srt_config.specs.declared.changes.RouteChange.{RouteChange}
 use Rattle.srt_status.specs.Expectations.{expected_if}
-use Rattle.srt_status.specs.declared.routes.RouteStatus.{RouteStatus}
+use Rattle.srt_status.specs.declared.route_status.RouteStatus.{RouteStatus}
 use Rattle.srt_watch.specs.Placing.{IsRouted}
 use Rattle.srt_watch.specs.declared.watched_routes.OpeningRoute.{OpeningRoute}
 use Rattle.srt_watch.specs.declared.watched_routes.WatchedRoutes.{WatchedRoutes}

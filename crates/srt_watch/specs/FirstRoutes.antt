@@ -1,7 +1,7 @@
 -- The routes with which a run begins.
 use Rattle.std.specs.Prelude.{◌≡◌, ℕ, suc, List, [], ◌∷◌, ◌++◌, length, Some, string_bytes}
 use Rattle.srt_types.specs.Terms.{Terms}
-use Rattle.srt_status.specs.declared.routes.RouteStatus.{RouteStatus}
+use Rattle.srt_status.specs.declared.route_status.RouteStatus.{RouteStatus}
 use Rattle.srt_watch.specs.Openings.{IsFresh}
 use Rattle.srt_watch.specs.Showing.{first_snapshot}
 use Rattle.srt_watch.specs.declared.watched_routes.WatchedRoute.{WatchedRoute}

@@ -6,8 +6,8 @@ use Rattle.srt_route.specs.declared.totals.Totals.{Totals}
 use Rattle.srt_route.specs.declared.view.SessionView.{SessionView}
 use Rattle.srt_route.specs.Ledgers.{opened_in}
 use Rattle.srt_log.specs.declared.snapshots.RouteSnapshot.{RouteSnapshot}
-use Rattle.srt_status.specs.declared.routes.LimitCounts.{LimitCounts}
-use Rattle.srt_status.specs.declared.routes.RouteStatus.{RouteStatus}
+use Rattle.srt_status.specs.declared.route_status.LimitCounts.{LimitCounts}
+use Rattle.srt_status.specs.declared.route_status.RouteStatus.{RouteStatus}
 use Rattle.srt_watch.specs.Census.{limits_of, status_with, grown_limits, with_look, absence_of}
 use Rattle.srt_watch.specs.Log.{most}
 use Rattle.srt_watch.specs.RouteLines.{ends_to}

@@ -3,8 +3,8 @@ use Rattle.std.specs.Prelude.{◌≡◌, ℕ, List, [], ◌∷◌, replicate, Op
 use Rattle.srt_types.specs.declared.shared.Mode.{Mode}
 use Rattle.srt_types.specs.Terms.{Terms}
 use Rattle.srt_route.specs.Totals.{no_totals}
-use Rattle.srt_status.specs.declared.routes.EndCounts.{EndCounts}
-use Rattle.srt_status.specs.declared.routes.RouteStatus.{RouteStatus}
+use Rattle.srt_status.specs.declared.route_status.EndCounts.{EndCounts}
+use Rattle.srt_status.specs.declared.route_status.RouteStatus.{RouteStatus}
 use Rattle.srt_status.specs.History.{no_history}
 use Rattle.srt_watch.specs.Overview.{no_refusals}
 use Rattle.srt_watch.specs.declared.watched_routes.OpeningRoute.{OpeningRoute}

@@ -5,7 +5,7 @@ use denote.Ref.{Bor}
 use Rattle.std.specs.Prelude.{option_map}
 use Rattle.srt_status.specs.declared.events.Event.{Event}
 use Rattle.srt_status.specs.declared.gateway.GatewayStatus.{GatewayStatus}
-use Rattle.srt_status.specs.declared.routes.RouteStatus.{RouteStatus}
+use Rattle.srt_status.specs.declared.route_status.RouteStatus.{RouteStatus}
 use Rattle.srt_status.specs.declared.gateway.ChangeCounts.{ChangeCounts}
 use Rattle.srt_watch.specs.Facts.{MachineFacts}
 use Rattle.srt_watch.specs.Overview.{gateway_of, changes_with}

@@ -15,8 +15,8 @@ use Rattle.srt_log.specs.Telling.{session_at, end_between}
 use Rattle.srt_route.specs.declared.ledger.EndCause.{EndCause}
 use Rattle.srt_route.specs.declared.ledger.EndedSession.{EndedSession}
 use Rattle.srt_status.specs.Labels.{with_end}
-use Rattle.srt_status.specs.declared.routes.EndCounts.{EndCounts}
-use Rattle.srt_status.specs.declared.routes.LimitCounts.{LimitCounts}
+use Rattle.srt_status.specs.declared.route_status.EndCounts.{EndCounts}
+use Rattle.srt_status.specs.declared.route_status.LimitCounts.{LimitCounts}
 use Rattle.srt_watch.specs.declared.log.When.{When}
 use Rattle.srt_watch.specs.declared.watched_routes.SnapshotPair.{SnapshotPair}
 use Rattle.srt_watch.specs.Census.{one_more}

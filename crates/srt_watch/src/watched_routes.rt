@@ -5,7 +5,7 @@ ghost use Rattle.std.specs.Prelude.{slice_get, slice_set, string_bytes, vec_len,
 ghost use Rattle.std.specs.Option.{option_copied};
 ghost use Rattle.std.specs.List.{position};
 ghost use Rattle.std.specs.Vec.Iter.{into_iter_items, into_iter_len};
-ghost use Rattle.srt_status.specs.declared.routes.RouteStatus.{RouteStatus as TheStatus};
+ghost use Rattle.srt_status.specs.declared.route_status.RouteStatus.{RouteStatus as TheStatus};
 ghost use Rattle.srt_types.specs.Terms.{terms_of};
 ghost use Rattle.srt_watch.specs.Census.{status_with, with_look, absence_of};
 ghost use Rattle.srt_watch.specs.Expecting.{is_expected, expecting, all_expecting, AreExpecting};
