@@ -38,6 +38,7 @@ use Rattle.srt_route.specs.RouteKeys.{passphrase_of}
 use Rattle.srt_route.specs.RouteKeys.{request_of}
 use Rattle.srt_route.specs.Decryption.{clear_bytes}
 use Rattle.srt_route.specs.KeyRefresh.{answer_by, refreshed, request_in}
+use Rattle.srt_route.specs.KeyRefresh.{Confirmation, confirmation_in, confirmed_by}
 use Rattle.srt_route.specs.Past.{Report, report_text, past_of, least_with, loses_window, publisher_end, has_all, has_left, is_shutdown}
 use Rattle.srt_route.specs.Sessions.{Session, is_open_in, is_same_peer, id_of, session_id, answer_of, publishes, is_subscriber, open_publishers}
 use Rattle.srt_route.specs.Sessions.{active, is_active, by_slot, free_slot, free_slots, sessions_from, generation_of, time_in, is_idle, terms_of}
@@ -412,10 +413,26 @@ kept_at (Some s) keys = keys
 abbrev pub keys_kept : List Session → RouteKeys → RouteKeys
 keys_kept sessions keys = record keys { held = λ slot. kept_at (find (is_open_in slot) sessions) (keys.held slot) }
 
+-- the keys after a KMRSP with these contents for this session (section 3.2.2; our choice)
+abbrev pub confirmed_at : (contents : List ℕ) → Option Session → RouteKeys → RouteKeys
+confirmed_at contents None keys = keys
+confirmed_at contents (Some s) keys = with_slot s.slot (confirmed_by contents (keys.held s.slot)) keys
+
+abbrev pub confirmed_for : (index : ℕ) → Peer → Option Confirmation → List Session → RouteKeys → RouteKeys
+confirmed_for index peer None sessions keys = keys
+confirmed_for index peer (Some c) sessions keys = confirmed_at c.contents (find (is_for index peer c.dest) sessions) keys
+
+-- the keys after what an item confirms
+abbrev pub keys_confirmed : (index : ℕ) → Item → List Session → RouteKeys → RouteKeys
+keys_confirmed index (Received datagram moment) sessions keys = confirmed_for index datagram.peer (confirmation_in datagram.bytes) sessions keys
+keys_confirmed index (Tick moment) sessions keys = keys
+keys_confirmed index (Close moment) sessions keys = keys
+
 -- what keys change about an item; nothing if no role is secured
 abbrev pub judged_if : (secured : Bool) → Terms → (index clock : ℕ) → Item → List Session → RouteKeys → Judged
 judged_if false e index clock item sessions keys = as_before keys
-judged_if true e index clock item sessions keys = item_judged e index clock item sessions (keys_kept sessions keys)
+judged_if true e index clock item sessions keys =
+    item_judged e index clock item sessions (keys_confirmed index item sessions (keys_kept sessions keys))
 
 abbrev pub judged : Terms → (index clock : ℕ) → Item → List Session → RouteKeys → Judged
 judged e index clock item sessions keys = judged_if (has_secured_role e) e index clock item sessions keys

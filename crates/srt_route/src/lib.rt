@@ -30,8 +30,8 @@
 //! Other modules: `resting.rt` opens a route that continues where another one rests; `files.rt` has the end of a file,
 //! and which subscribers have all of it; `standby.rt`, which of two publishers is active; `socket_ids.rt`, the socket
 //! IDs; `reply_queue.rt`, the waiting replies; `ledger.rt` and `totals.rt`, what is kept of ended sessions;
-//! `key_refresh.rt`, the messages that renew a publisher's keys; `route_keys.rt`, `slot_keys.rt`, `key_request_reading.rt` and
-//! `key_text.rt`, the keys of sessions. The definition of a
+//! `key_refresh.rt`, the messages that renew a publisher's keys; `key_confirmation.rt`, those that confirm a subscriber's;
+//! `route_keys.rt`, `slot_keys.rt`, `key_request_reading.rt` and `key_text.rt`, the keys of sessions. The definition of a
 //! route is in `specs/Route.antt`, those of ends and counts in `specs/Ends.antt` and `specs/Tallies.antt`, and those of keys
 //! in `specs/RouteKeys.antt`.
 #![tactic(auto)]
@@ -47,6 +47,7 @@ mod dispatch;
 mod draining;
 mod event;
 mod files;
+mod key_confirmation;
 mod key_refresh;
 mod key_request_reading;
 mod key_text;

@@ -36,7 +36,7 @@ impl RouteKeys {
     ghost use Rattle.srt_types.specs.declared.shared.Role.TheVariants.{Publish, Request};
     ghost use Rattle.srt_packet.specs.View.{packet_of};
     ghost use Rattle.srt_route.specs.Decryption.{in_clear};
-    ghost use Rattle.srt_route.specs.KeyRefresh.{answer_by, refreshed};
+    ghost use Rattle.srt_route.specs.KeyRefresh.{answer_by, confirmed_by, refreshed};
     ghost use Rattle.srt_route.specs.SlotKeys.{brought_of};
     ghost use Rattle.srt_types.specs.Terms.{Terms, terms_of};
     ghost use Rattle.srt_route.specs.RouteKeys.{RouteKeys as Keys, Clear, first_keys, has_secured_role, kek_for, opening as the_opening};
@@ -140,6 +140,17 @@ impl RouteKeys {
         ensures places { length self.new.slots.items ≡ length self.old.slots.items }
     {
         self.slots[slot].refresh(contents)
+    }
+
+    /// Processes the contents of a KMRSP that arrives during the session of a slot: a subscriber's announced key is confirmed
+    /// if they are its message. Otherwise nothing changes.
+    pub fn confirm(&mut self, slot: usize, contents: &[u8])
+        requires { slot < length self.old.slots.items }
+        ensures keys { (e : Terms) (keys : Keys) → AreKeys e self.old keys → has_secured_role e ≡ true → slot < e.sessions
+            → AreKeys e self.new (with_slot slot (confirmed_by contents.now (keys.held slot)) keys) }
+        ensures places { length self.new.slots.items ≡ length self.old.slots.items }
+    {
+        self.slots[slot].confirm(contents);
     }
 
     /// Derives the key encrypting key from the passphrase of a role. None if the role isn't secured.

@@ -24,6 +24,7 @@ use crate::arrival::Arrival;
 use crate::conclusion_reading::{Conclusion, conclusion_in};
 use crate::dispatch::{dispatch, to_destination};
 use crate::event::Event;
+use crate::key_confirmation::confirm_keys;
 use crate::key_refresh::{KeyRequestRef, answer_request, request_in};
 use crate::key_request_reading::{brought_in, cookie_in};
 use crate::key_text::BroughtRef;
@@ -433,5 +434,6 @@ pub fn dispatch_secured(
         return;
     }
     keep_open(table, keys);
+    confirm_keys(table, keys, event.item);
     dispatch_with_keys(table, keys, ledger, event, hand, waiting);
 }

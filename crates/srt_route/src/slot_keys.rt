@@ -7,7 +7,7 @@ ghost use Rattle.srt_session_keys.specs.Wrapping.{kek_of, salt_of};
 ghost use Rattle.srt_route.specs.RouteKeys.{Clear, keys_opened, pool_opened};
 ghost use Rattle.srt_packet.specs.View.{packet_of};
 ghost use Rattle.srt_route.specs.Decryption.{in_clear};
-ghost use Rattle.srt_route.specs.KeyRefresh.{answer_by, refreshed};
+ghost use Rattle.srt_route.specs.KeyRefresh.{answer_by, confirmed_by, refreshed};
 ghost use Rattle.srt_route.specs.SlotKeys.{IsErased, brought_of, place_keys_of, role_stored, slot_keys_of};
 ghost use Rattle.srt_route.specs.declared.slot_keys.KeyOpening.{KeyOpening as TheOpening};
 ghost use Rattle.srt_route.specs.declared.slot_keys.KeyPlace.{KeyPlace as ThePlace};
@@ -99,6 +99,20 @@ impl SlotKeys {
         }
     }
 
+    /// Processes the contents of a KMRSP that arrives during the session: a subscriber's announced key is confirmed if they
+    /// are its message. Otherwise nothing changes.
+    pub fn confirm(&mut self, contents: &[u8])
+        ensures { slot_keys_of self.new ≡ confirmed_by contents.now (slot_keys_of self.old) }
+    {
+        match self {
+            SlotKeys::Clear => {}
+            SlotKeys::Publisher { .. } => {}
+            SlotKeys::Subscriber { keys, .. } => {
+                keys.confirm(contents);
+            }
+        }
+    }
+
     /// Overwrites the keys with zeros, where they are stored.
     fn forget(&mut self)
         ensures erased { IsErased self.new }
@@ -148,6 +162,17 @@ impl KeyPlace {
             return None;
         }
         self.keys.refresh(contents)
+    }
+
+    /// Processes the contents of a KMRSP that arrives during the session: a subscriber's announced key is confirmed if they
+    /// are its message. Otherwise nothing changes.
+    pub fn confirm(&mut self, contents: &[u8])
+        ensures { place_keys_of self.new ≡ confirmed_by contents.now (place_keys_of self.old) }
+    {
+        if !self.is_held {
+            return;
+        }
+        self.keys.confirm(contents);
     }
 
     /// Removes the keys: overwrites them with zeros where they are stored.

@@ -8,6 +8,9 @@ use Rattle.srt_types.specs.Items.{Item, Received, Tick, Close}
 use Rattle.srt_packet.specs.declared.reading.PacketFault.{PacketFault}
 use Rattle.srt_packet.specs.Grammar.{Packet}
 use Rattle.srt_packet.specs.Reading.{packet_in}
+use Rattle.srt_packet.specs.KeyPacket.{KeyPacket, key_packet_in}
+use Rattle.srt_packet.specs.declared.key_packet.KeyPacketKind.{KeyPacketKind}
+use Rattle.srt_packet.specs.declared.key_packet.KeyPacketKind.TheVariants as messages
 use Rattle.srt_session_keys.specs.Publisher.{response_to}
 use Rattle.srt_session_keys.specs.declared.publisher.KeyAnswer.{KeyAnswer}
 use Rattle.srt_route.specs.declared.conclusion_reading.Conclusion.{Conclusion}
@@ -18,12 +21,12 @@ use Rattle.srt_route.specs.Decryption.{clear_bytes}
 use Rattle.srt_route.specs.RouteKeys.{Brought, RouteKeys, SlotKeys, Clear, OfPublisher, OfSubscriber, brought_in, cookie_in, has_secured_role, opening}
 use Rattle.srt_route.specs.RouteKeys.{passphrase_of, request_of}
 use Rattle.srt_route.specs.KeyLaws.{Lasting, RenewalsAreFree, Renews, RenewsItsSession, lasting_of, receiver, receiver_of}
-use Rattle.srt_route.specs.KeyRefresh.{answer_by, refreshed, request_in}
+use Rattle.srt_route.specs.KeyRefresh.{answer_by, confirmation_read, confirmation_with, refreshed, request_read, request_with}
 use Rattle.srt_route.specs.Sessions.{Session, advanced, generation_of}
 use Rattle.srt_route.specs.Route.{Answered, Decrypted, Ignored, Judged, Passes, Refused, Repeats, Reply, Route, Verdict, answered_judged, as_before, asked}
 use Rattle.srt_route.specs.Route.{clock_after, concludes, conclusion_judged, responded}
 use Rattle.srt_route.specs.Route.{decision, heard_as, info_judged, info_of, is_for, is_of, item_judged, judged_if, judgement, key_opening, keys_kept}
-use Rattle.srt_route.specs.Route.{read_judged, session_judged, verdict_of}
+use Rattle.srt_route.specs.Route.{confirmed_for, keys_confirmed, packet_judged, read_judged, session_judged, verdict_of}
 
 -- what isn't a KMREQ is answered by no KMRSP
 abbrev NeverAnswers : Judged → Type 0
@@ -115,13 +118,43 @@ packet_renews true e index clock peer request p bytes ss keys a h =
 packet_renews false e index clock peer request p bytes ss keys a h =
     session_renews (find (is_for index peer p.dest) ss) request clock p bytes keys a h
 
+-- what isn't a KMREQ isn't answered
+unasked_never : (o : Option Session) (clock : ℕ) (p : Packet) (bytes : List ℕ) (keys : RouteKeys) → NeverAnswers (session_judged None clock p bytes keys o)
+unasked_never None clock p bytes keys = passes keys
+unasked_never (Some s) clock p bytes keys = decrypted (clear_bytes (keys.held s.slot) p bytes)
+
+unasked_packet_never : (zero : Bool) (e : Terms) (index clock : ℕ) (peer : Peer) (p : Packet) (bytes : List ℕ) (ss : List Session) (keys : RouteKeys)
+    → NeverAnswers
+    (cond zero (info_judged e index clock peer (info_of p.body) ss keys (concludes p.body))
+    (session_judged None clock p bytes keys (find (is_for index peer p.dest) ss)))
+unasked_packet_never true e index clock peer p bytes ss keys = info_never (concludes p.body) e index clock peer (info_of p.body) ss keys
+unasked_packet_never false e index clock peer p bytes ss keys = unasked_never (find (is_for index peer p.dest) ss) clock p bytes keys
+
+-- what is answered confirms nothing
+kind_renews : (kind : KeyPacketKind) (dest : ℕ) (info : List ℕ) (e : Terms) (index clock : ℕ) (peer : Peer) (p : Packet) (bytes : List ℕ)
+    (ss : List Session) (keys : RouteKeys)
+    → RenewsItsSession (find (is_for index peer p.dest) ss) keys
+    (packet_judged e index clock peer (request_with kind info) p bytes ss (confirmed_for index peer (confirmation_with kind dest info) ss keys))
+kind_renews messages.Request dest info e index clock peer p bytes ss keys a h = packet_renews (p.dest == 0) e index clock peer (Some info) p bytes ss keys a h
+kind_renews messages.Response dest info e index clock peer p bytes ss keys a h =
+    absurd
+    (unasked_packet_never (p.dest == 0) e index clock peer p bytes ss (confirmed_for index peer (confirmation_with messages.Response dest info) ss keys) a h)
+
+message_renews : (read : Option KeyPacket) (e : Terms) (index clock : ℕ) (peer : Peer) (p : Packet) (bytes : List ℕ) (ss : List Session) (keys : RouteKeys)
+    → RenewsItsSession (find (is_for index peer p.dest) ss) keys
+    (packet_judged e index clock peer (request_read read) p bytes ss (confirmed_for index peer (confirmation_read read) ss keys))
+message_renews None e index clock peer p bytes ss keys a h = packet_renews (p.dest == 0) e index clock peer None p bytes ss keys a h
+message_renews (Some k) e index clock peer p bytes ss keys a h = kind_renews k.kind k.dest k.info e index clock peer p bytes ss keys a h
+
 read_renews : (read : Result Packet PacketFault) (e : Terms) (index clock : ℕ) (peer : Peer) (bytes : List ℕ) (ss : List Session) (keys : RouteKeys)
-    → RenewsItsSession (receiver_of index peer ss read) keys (read_judged e index clock peer read bytes ss keys)
-read_renews (Ok p) e index clock peer bytes ss keys a h = packet_renews (p.dest == 0) e index clock peer (request_in bytes) p bytes ss keys a h
-read_renews (Err fault) e index clock peer bytes ss keys a h = absurd (passes keys a h)
+    → RenewsItsSession (receiver_of index peer ss read) keys
+    (read_judged e index clock peer read bytes ss (confirmed_for index peer (confirmation_read (key_packet_in bytes)) ss keys))
+read_renews (Ok p) e index clock peer bytes ss keys a h = message_renews (key_packet_in bytes) e index clock peer p bytes ss keys a h
+read_renews (Err fault) e index clock peer bytes ss keys a h =
+    absurd (passes (confirmed_for index peer (confirmation_read (key_packet_in bytes)) ss keys) a h)
 
 item_renews : (item : Item) (e : Terms) (index clock : ℕ) (ss : List Session) (keys : RouteKeys)
-    → RenewsItsSession (receiver index item ss) keys (item_judged e index clock item ss keys)
+    → RenewsItsSession (receiver index item ss) keys (item_judged e index clock item ss (keys_confirmed index item ss keys))
 item_renews (Received d moment) e index clock ss keys a h = read_renews (packet_in d.bytes) e index clock d.peer d.bytes ss keys a h
 item_renews (Tick moment) e index clock ss keys a h = absurd (passes keys a h)
 item_renews (Close moment) e index clock ss keys a h = absurd (passes keys a h)

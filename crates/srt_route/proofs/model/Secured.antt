@@ -30,12 +30,14 @@ use Rattle.srt_route.specs.RouteKeys.{has_secured_role, kek_for, keys_opened, op
 use Rattle.srt_route.specs.RouteKeys.{derivation_of}
 use Rattle.srt_route.specs.Sessions.{Session, advanced, generation_of, is_open_in}
 use Rattle.srt_route.specs.KeyRefresh.{answer_by, refreshed, request_in}
+use Rattle.srt_route.specs.KeyRefresh.{Confirmation, confirmation_in, confirmed_by}
 use Rattle.srt_route.specs.Sendable.{IsResponse}
 use Rattle.srt_route.specs.Route.{Decrypted, Answered, Output, Answers, AnswersWithKeys, Says, Ends, Responds, answered_judged}
 use Rattle.srt_route.specs.Route.{Judged, Route, Verdict, Passes, Ignored, Refused, Repeats, is_for, session_judged, after, asked, clock_after}
 use Rattle.srt_route.specs.Route.{concludes, conclusion_judged, decision}
 use Rattle.srt_route.specs.Route.{heard_as, heard_by, info_judged, info_of, is_of, item_judged, judged_by, judged_if, judgement, kept_at, key_opening}
 use Rattle.srt_route.specs.Route.{keys_at, keys_kept}
+use Rattle.srt_route.specs.Route.{confirmed_at, confirmed_for, keys_confirmed}
 use Rattle.srt_route.specs.Route.{read_judged, taken, taken_as, taken_by}
 
 abbrev pub IsShort : Option (List ℕ) → Type 0
@@ -217,11 +219,34 @@ kept_short : (o : Option Session) (k : SlotKeys) → IsShort (request_of k) → 
 kept_short None k h = tt
 kept_short (Some s) k h = h
 
+-- a KMRSP
+confirmed_short : (contents : List ℕ) (k : SlotKeys) → IsShort (request_of k) → IsShort (request_of (confirmed_by contents k))
+confirmed_short contents Clear h = h
+confirmed_short contents (OfPublisher request keys) h = h
+confirmed_short contents (OfSubscriber request keys) h = h
+
+session_confirmed_short : (contents : List ℕ) (o : Option Session) (keys : RouteKeys) → AreShort keys → AreShort (confirmed_at contents o keys)
+session_confirmed_short contents None keys short = short
+session_confirmed_short contents (Some s) keys short =
+    λ slot. held_short (slot == s.slot) (confirmed_by contents (keys.held s.slot)) (keys.held slot)
+    (confirmed_short contents (keys.held s.slot) (short s.slot)) (short slot)
+
+response_confirmed_short : (index : ℕ) (peer : Peer) (o : Option Confirmation) (ss : List Session) (keys : RouteKeys)
+    → AreShort keys → AreShort (confirmed_for index peer o ss keys)
+response_confirmed_short index peer None ss keys short = short
+response_confirmed_short index peer (Some c) ss keys short = session_confirmed_short c.contents (find (is_for index peer c.dest) ss) keys short
+
+item_confirmed_short : (index : ℕ) (item : Item) (ss : List Session) (keys : RouteKeys) → AreShort keys → AreShort (keys_confirmed index item ss keys)
+item_confirmed_short index (Received d moment) ss keys short = response_confirmed_short index d.peer (confirmation_in d.bytes) ss keys short
+item_confirmed_short index (Tick moment) ss keys short = short
+item_confirmed_short index (Close moment) ss keys short = short
+
 judged_short : (secured : Bool) (e : Terms) (index clock : ℕ) (item : Item) (ss : List Session) (keys : RouteKeys) → AreShort keys
     → IsShortJudged (judged_if secured e index clock item ss keys)
 judged_short false e index clock item ss keys short = record { verdict = tt; keys = short }
 judged_short true e index clock item ss keys short =
-    item_short e index clock item ss (keys_kept ss keys) (λ slot. kept_short (find (is_open_in slot) ss) (keys.held slot) (short slot))
+    item_short e index clock item ss (keys_confirmed index item ss (keys_kept ss keys))
+    (item_confirmed_short index item ss (keys_kept ss keys) (λ slot. kept_short (find (is_open_in slot) ss) (keys.held slot) (short slot)))
 
 judgement_short : (e : Terms) (index : ℕ) (item : Item) (m : Route) → AreShort m.keys → IsShortJudged (judgement e index item m)
 judgement_short e index item m short =

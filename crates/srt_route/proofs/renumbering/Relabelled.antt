@@ -35,10 +35,10 @@ use Rattle.srt_route.specs.Sessions.{Session, is_publisher, is_subscriber, open_
 use Rattle.srt_route.specs.Sessions.{free_slot, generation_of, time_in, stamp_in, is_idle, aged_at, aged, terms_of, took_at, took}
 use Rattle.srt_route.specs.Sessions.{advanced, free_slots, has_failed, is_from, is_silent, is_standby, marked, marked_if, sessions_from, standby}
 use Rattle.srt_route.specs.Sessions.{takeover_us, takes_over, takes_over_after, answered_at_once, passed_at, passed, reports_at, reported_at, reported}
-use Rattle.srt_route.specs.KeyRefresh.{answer_by, refreshed, request_in}
+use Rattle.srt_route.specs.KeyRefresh.{Confirmation, answer_by, confirmation_in, confirmed_by, refreshed, request_in}
 use Rattle.srt_session_keys.specs.Publisher.{response_to}
 use Rattle.srt_session_keys.specs.declared.publisher.KeyAnswer.{KeyAnswer}
-use Rattle.srt_route.specs.Route.{Responds, answered_judged, decrypted_judged}
+use Rattle.srt_route.specs.Route.{Responds, answered_judged, confirmed_at, confirmed_for, decrypted_judged, keys_confirmed}
 use Rattle.srt_route.specs.Route.{Route, Taken, Output, Answers, AnswersWithKeys, Says, Ends, Reply, clock_after, closes, ended, shutdown_to, closed}
 use Rattle.srt_route.specs.Route.{decided, decision, idle_notified, is_crowded, is_reserved, lost_notified, notified_if}
 use Rattle.srt_route.specs.Route.{session_opened, with_session, opens, considered, refused, is_of, heard_if, concluded, is_for, took_if}
@@ -149,9 +149,16 @@ item_request (Received d n) = request_in d.bytes
 item_request (Tick n) = None
 item_request (Close n) = None
 
+-- the KMRSP that an item is, if it is one
+abbrev pub item_confirmation : Item → Option Confirmation
+item_confirmation (Received d n) = confirmation_in d.bytes
+item_confirmation (Tick n) = None
+item_confirmation (Close n) = None
+
 pub record IsChangedInput (r : Change) (j i : Item) : Type 0 where
   pub item_is : IsChangedItem r j i
   pub asks_the_same : r.secured ≡ true → item_request j ≡ item_request i
+  pub confirms_the_same : r.secured ≡ true → item_confirmation j ≡ item_confirmation i
 
 abbrev pub AreChanged : Change → List Item → List Item → Type 0
 AreChanged r [] [] = ⊤
@@ -1113,13 +1120,55 @@ kept_same r ss n m h =
           ∙ ap (λ (k : SlotKeys). kept_at (find (is_open_in slot) ss) k) (h.held_is slot);
     }
 
+-- a KMRSP
+session_confirmed_same : (r : Change) (contents : List ℕ) (o : Option Session) (n m : RouteKeys) → AreChangedKeys r n m
+    → AreChangedKeys r (confirmed_at contents (option_map (changed_session r) o) n) (confirmed_at contents o m)
+session_confirmed_same r contents None n m k = k
+session_confirmed_same r contents (Some s) n m k =
+    record {
+      moments_are = k.moments_are;
+      pool_is = k.pool_is;
+      held_is = λ slot. ap (λ (x : SlotKeys). cond (slot == s.slot) (confirmed_by contents x) (n.held slot)) (k.held_is s.slot)
+          ∙ ap (λ (x : SlotKeys). cond (slot == s.slot) (confirmed_by contents (m.held s.slot)) x) (k.held_is slot);
+    }
+
+response_confirmed_same : (r : Change) (index : ℕ) (peer : Peer) (o : Option Confirmation) (ss : List Session) (n m : RouteKeys) → AreChangedKeys r n m
+    → AreChangedKeys r (confirmed_for index peer o (map (changed_session r) ss) n) (confirmed_for index peer o ss m)
+response_confirmed_same r index peer None ss n m k = k
+response_confirmed_same r index peer (Some c) ss n m k =
+    subst (λ (o : Option Session). AreChangedKeys r (confirmed_at c.contents o n) (confirmed_at c.contents (find (is_for index peer c.dest) ss) m))
+    (sym (find_through (changed_session r) (is_for index peer c.dest) (is_for index peer c.dest) (for_same r index peer c.dest) ss))
+    (session_confirmed_same r c.contents (find (is_for index peer c.dest) ss) n m k)
+
+confirmed_same : (r : Change) (index : ℕ) (j i : Item) (ss : List Session) (n m : RouteKeys) → r.secured ≡ true → IsChangedInput r j i → AreChangedKeys r n m
+    → AreChangedKeys r (keys_confirmed index j (map (changed_session r) ss) n) (keys_confirmed index i ss m)
+confirmed_same r index (Received d y) (Received c x) ss n m secured h k =
+    subst
+    (λ (peer : Peer). AreChangedKeys r (confirmed_for index peer (confirmation_in d.bytes) (map (changed_session r) ss) n)
+    (confirmed_for index c.peer (confirmation_in c.bytes) ss m))
+    (sym h.item_is.0.peer_is)
+    (subst
+    (λ (o : Option Confirmation). AreChangedKeys r (confirmed_for index c.peer o (map (changed_session r) ss) n)
+    (confirmed_for index c.peer (confirmation_in c.bytes) ss m))
+    (sym (h.confirms_the_same secured)) (response_confirmed_same r index c.peer (confirmation_in c.bytes) ss n m k))
+confirmed_same r index (Tick y) (Tick x) ss n m secured h k = k
+confirmed_same r index (Close y) (Close x) ss n m secured h k = k
+confirmed_same r index (Received d y) (Tick x) ss n m secured h k = absurd h.item_is
+confirmed_same r index (Tick y) (Received c x) ss n m secured h k = absurd h.item_is
+confirmed_same r index (Received d y) (Close x) ss n m secured h k = absurd h.item_is
+confirmed_same r index (Tick y) (Close x) ss n m secured h k = absurd h.item_is
+confirmed_same r index (Close y) (Received c x) ss n m secured h k = absurd h.item_is
+confirmed_same r index (Close y) (Tick x) ss n m secured h k = absurd h.item_is
+
 judged_same : (secured : Bool) (e : Terms) (index : ℕ) (r : Change) (clock : ℕ) (j i : Item) (ss : List Session) (n m : RouteKeys)
     → (secured ≡ true → r.secured ≡ true)
     → IsChangedInput r j i → AreChangedKeys r n m
     → IsChangedJudged r (judged_if secured e index (clock + r.later) j (map (changed_session r) ss) n) (judged_if secured e index clock i ss m)
 judged_same false e index r clock j i ss n m fits h k = record { verdict_is = refl; keys_are = k }
 judged_same true e index r clock j i ss n m fits h k =
-    item_judged_same e index r clock j i ss (keys_kept (map (changed_session r) ss) n) (keys_kept ss m) (fits refl) h (kept_same r ss n m k)
+    item_judged_same e index r clock j i ss (keys_confirmed index j (map (changed_session r) ss) (keys_kept (map (changed_session r) ss) n))
+    (keys_confirmed index i ss (keys_kept ss m)) (fits refl) h
+    (confirmed_same r index j i ss (keys_kept (map (changed_session r) ss) n) (keys_kept ss m) (fits refl) h (kept_same r ss n m k))
 
 -- the item as the sessions process it, and the answers to it
 moment_same : (r : Change) (j i : Item) → IsChangedItem r j i → moment_of j ≡ moment_of i + r.later

@@ -22,12 +22,12 @@ use Rattle.srt_route.specs.ShiftLaws.{restamped_reading}
 use Rattle.srt_route.specs.Relabel.{Renumbers, Restamps, Moves}
 use Rattle.srt_route.proofs.renumbering.ShiftedWords.{stamps_stay}
 use Rattle.srt_route.proofs.renumbering.ShiftedPackets.{packets_shift}
-use Rattle.srt_route.proofs.renumbering.Restamped.{requests_restamp, packets_restamp}
+use Rattle.srt_route.proofs.renumbering.Restamped.{confirmations_restamp, requests_restamp, packets_restamp}
 use Rattle.srt_route.proofs.renumbering.ShiftedHandshakes.{conclusions_shift, cookie_stays, keys_stay}
 use Rattle.srt_route.proofs.renumbering.ShiftedHeard.{publishers_hear, subscribers_hear}
 use Rattle.srt_route.proofs.renumbering.ShiftedOutput.{publishers_say, subscribers_say}
 use Rattle.srt_route.proofs.renumbering.ShiftedAnswers.{answers_say}
-use Rattle.srt_route.proofs.renumbering.Relabelled.{IsChangedInput, item_request}
+use Rattle.srt_route.proofs.renumbering.Relabelled.{IsChangedInput, item_confirmation, item_request}
 use Rattle.srt_route.proofs.renumbering.Relabelled.{Change, IsChangedReading, IsChangedDatagram, IsChangedItem, AreChanged, changed_conclusion}
 use Rattle.srt_route.proofs.renumbering.Relabelled.{changed_output, changed_reply, all_replies, all_same}
 use Rattle.srt_route.proofs.model.Lists.{Each}
@@ -210,6 +210,16 @@ renumbered_item_is by (Tick m) = not_later m
 renumbered_item_is by (Close m) = not_later m
 
 -- a KMREQ with another timestamp has the same contents
+restamped_confirms : (by : ℕ) (item : Item) → item_confirmation (restamped_item by item) ≡ item_confirmation item
+restamped_confirms by (Received d m) = confirmations_restamp by d.bytes
+restamped_confirms by (Tick m) = refl
+restamped_confirms by (Close m) = refl
+
+moved_confirms : (by : ℕ) (item : Item) → item_confirmation (moved_item by item) ≡ item_confirmation item
+moved_confirms by (Received d m) = refl
+moved_confirms by (Tick m) = refl
+moved_confirms by (Close m) = refl
+
 restamped_asks : (by : ℕ) (item : Item) → item_request (restamped_item by item) ≡ item_request item
 restamped_asks by (Received d m) = requests_restamp by d.bytes
 restamped_asks by (Tick m) = refl
@@ -221,14 +231,28 @@ moved_asks by (Tick m) = refl
 moved_asks by (Close m) = refl
 
 restamped_input_is : (by : ℕ) (item : Item) → IsChangedInput (restamp by) (restamped_item by item) item
-restamped_input_is by item = record { item_is = restamped_item_is by item; asks_the_same = λ secured. restamped_asks by item }
+restamped_input_is by item =
+    record {
+      item_is = restamped_item_is by item;
+      asks_the_same = λ secured. restamped_asks by item;
+      confirms_the_same = λ secured. restamped_confirms by item;
+    }
 
 moved_input_is : (by : ℕ) (item : Item) → IsChangedInput (move by) (moved_item by item) item
-moved_input_is by item = record { item_is = moved_item_is by item; asks_the_same = λ secured. moved_asks by item }
+moved_input_is by item =
+    record {
+      item_is = moved_item_is by item;
+      asks_the_same = λ secured. moved_asks by item;
+      confirms_the_same = λ secured. moved_confirms by item;
+    }
 
 renumbered_input_is : (by : ℕ) (item : Item) → IsChangedInput (renumber by) (renumbered_item by item) item
 renumbered_input_is by item =
-    record { item_is = renumbered_item_is by item; asks_the_same = λ secured. absurd (let bad : false ≡ true = secured in cc) }
+    record {
+      item_is = renumbered_item_is by item;
+      asks_the_same = λ secured. absurd (let bad : false ≡ true = secured in cc);
+      confirms_the_same = λ secured. absurd (let bad : false ≡ true = secured in cc);
+    }
 
 all_changed : (r : Change) (change : Item → Item)
     → ((item : Item) → IsChangedInput r (change item) item) → (items : List Item) → AreChanged r (map change items) items

@@ -7,7 +7,7 @@ use Rattle.srt_packet.specs.declared.reading.PacketFault.{PacketFault}
 use Rattle.srt_packet.specs.KeyPacket.{key_kind_of, key_packet_with}
 use Rattle.srt_packet.specs.declared.key_packet.KeyPacketKind.{KeyPacketKind}
 use Rattle.srt_packet.specs.declared.key_packet.KeyPacketKind.TheVariants as messages
-use Rattle.srt_route.specs.KeyRefresh.{request_in, request_read}
+use Rattle.srt_route.specs.KeyRefresh.{Confirmation, confirmation_in, confirmation_read, request_in, request_read}
 use Rattle.srt_packet.specs.declared.reading.PacketFault.TheVariants.{Short, Long}
 use Rattle.srt_packet.specs.Grammar.{Packet, Body}
 use Rattle.srt_packet.specs.Reading.{packet_with, packet_in, body_in}
@@ -124,4 +124,43 @@ requests_restamp by bytes =
     elim (cases_lt (length bytes) 16) [
       | inl short ↦ ap request_in (restamped_short by bytes short)
       | inr long ↦ ap request_in (restamped_long by bytes long) ∙ same_request bytes ((word_at bytes 8 + by) % 2 ^ 32) long
+    ]
+
+-- a KMRSP with another timestamp has the same destination and the same contents
+abbrev confirms_with : (dest : ℕ) (rest : List ℕ) → Option KeyPacketKind → Option Confirmation
+confirms_with dest rest None = None
+confirms_with dest rest (Some messages.Request) = None
+confirms_with dest rest (Some messages.Response) = Some (record { dest = dest; contents = rest })
+
+abbrev confirms_by : (long word0 dest : ℕ) (rest : List ℕ) → Option Confirmation
+confirms_by long word0 dest rest = cond (nat_lt long 16) None (cond (nat_lt 1472 long) None (confirms_with dest rest (key_kind_of word0)))
+
+confirmation_parts : (bytes : List ℕ) → confirmation_in bytes ≡ confirms_by (length bytes) (word_at bytes 0) (word_at bytes 12) (drop 16 bytes)
+confirmation_parts bytes = by (nat_lt (length bytes) 16) (nat_lt 1472 (length bytes)) (key_kind_of (word_at bytes 0))
+  where
+    by : (short over : Bool) (kind : Option KeyPacketKind)
+        → confirmation_read (cond short None (cond over None (key_packet_with bytes (drop 16 bytes) kind)))
+        ≡ cond short None (cond over None (confirms_with (word_at bytes 12) (drop 16 bytes) kind))
+    by true over kind = refl
+    by false true kind = refl
+    by false false None = refl
+    by false false (Some messages.Request) = refl
+    by false false (Some messages.Response) = refl
+
+same_confirmation : (bytes : List ℕ) (n : ℕ) → 16 ≤ length bytes → confirmation_in (with_word 8 n bytes) ≡ confirmation_in bytes
+same_confirmation bytes n h =
+    let inside : 8 ≤ length bytes = omega (arith, h) in
+    let other = with_word 8 n bytes in
+    confirmation_parts other
+    ∙ ap (λ long. confirms_by long (word_at other 0) (word_at other 12) (drop 16 other)) (length_with 8 n bytes (omega (arith, h)))
+    ∙ ap (λ first. confirms_by (length bytes) first (word_at other 12) (drop 16 other)) (word_before 8 n 0 bytes inside (omega arith))
+    ∙ ap (λ dest. confirms_by (length bytes) (word_at bytes 0) dest (drop 16 other)) (word_after 8 n 12 bytes inside (omega arith))
+    ∙ ap (λ rest. confirms_by (length bytes) (word_at bytes 0) (word_at bytes 12) rest) (rest_after 8 n 16 bytes (omega (arith, h)) (omega arith))
+    ∙ sym (confirmation_parts bytes)
+
+pub confirmations_restamp : (by : ℕ) (bytes : List ℕ) → confirmation_in (restamped by bytes) ≡ confirmation_in bytes
+confirmations_restamp by bytes =
+    elim (cases_lt (length bytes) 16) [
+      | inl short ↦ ap confirmation_in (restamped_short by bytes short)
+      | inr long ↦ ap confirmation_in (restamped_long by bytes long) ∙ same_confirmation bytes ((word_at bytes 8 + by) % 2 ^ 32) long
     ]

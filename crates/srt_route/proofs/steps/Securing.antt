@@ -53,7 +53,7 @@ use Rattle.srt_route.specs.Route.{Judged, Verdict, Passes, Ignored, Refused, hea
 use Rattle.srt_route.specs.Ends.{Ending, EndsAre, destined_ending, item_ending, kept_of, read_ending}
 use Rattle.srt_route.specs.Tallies.{Tally, conclusion_tally, item_tally, packet_tally, read_tally, tally_of, verdict_tally}
 use Rattle.srt_route.specs.Route.{Answers, Reply, Taken, Repeats, answers_as, asked, concluded, conclusion_judged, considered, decision, heard_if, judged_by}
-use Rattle.srt_route.specs.Route.{kept_at, key_opening, keys_kept, verdict_of, is_of, session_opened, sent}
+use Rattle.srt_route.specs.Route.{kept_at, key_opening, keys_confirmed, keys_kept, verdict_of, is_of, session_opened, sent}
 use Rattle.srt_route.specs.Admission.{admitted_by, agreement_of}
 use Rattle.srt_route.specs.Tables.{AreAlone, IsSession, IsStored, IsTable, IsTaken, holds, written_of}
 use Rattle.srt_route.specs.Written.{written}
@@ -664,7 +664,7 @@ ignored_packet e index clock peer p bytes ss keys stored table ledger reads zero
 
 -- the keys of the open sessions, on a route with a secured role
 pub secured_judged : (e : Terms) (index clock : ℕ) (item : Item) (ss : List Session) (keys : RouteKeys) → has_secured_role e ≡ true
-    → item_judged e index clock item ss (keys_kept ss keys) ≡ judged e index clock item ss keys
+    → item_judged e index clock item ss (keys_confirmed index item ss (keys_kept ss keys)) ≡ judged e index clock item ss keys
 secured_judged e index clock item ss keys secured = ap (λ (b : Bool). judged_if b e index clock item ss keys) (sym secured)
 
 pub clear_judgement : (e : Terms) (index clock : ℕ) (item : Item) (ss : List Session) (keys : RouteKeys) → has_secured_role e ≡ false

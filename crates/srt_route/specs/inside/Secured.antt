@@ -4,6 +4,7 @@ use Rattle.srt_types.specs.declared.shared.Peer.{Peer}
 use Rattle.srt_types.specs.Terms.{Terms}
 use Rattle.srt_types.specs.Items.{Datagram, Item}
 use Rattle.srt_packet.specs.Grammar.{Packet}
+use Rattle.srt_packet.specs.declared.key_packet.KeyPacketRef.{KeyPacketRef}
 use Rattle.srt_packet.specs.Reading.{packet_in}
 use Rattle.srt_route.specs.declared.arrival.Arrival.{Arrival}
 use Rattle.srt_route.specs.declared.conclusion_reading.Conclusion.{Conclusion}
@@ -24,6 +25,8 @@ use Rattle.srt_route.specs.Route.{Answers, Judged, Reply, Taken, Verdict, Passes
 use Rattle.srt_route.specs.Route.{conclusion_judged}
 use Rattle.srt_route.specs.Route.{Responds, decision}
 use Rattle.srt_session_keys.specs.Publisher.{response_to}
+use Rattle.srt_route.specs.KeyRefresh.{Confirmation}
+use Rattle.srt_route.specs.Route.{confirmed_for, keys_confirmed}
 use Rattle.srt_route.specs.Route.{heard_as, info_judged, is_of, item_judged, judged, kept_at, keys_kept, nothing_taken, packet_judged}
 use Rattle.srt_route.specs.Route.{read_judged, read_taken}
 use Rattle.srt_route.specs.Route.{reply_with, sent, taken, taken_as}
@@ -252,6 +255,23 @@ abbrev pub KeepsOpen : Table → (before after : TheRouteKeys) → Type 0
 KeepsOpen table before after =
     (e : Terms) (index clock : ℕ) (sessions : List Session) (keys : RouteKeys)
     → IsTable e index clock table sessions → AreKeys e before keys → AreKeys e after (keys_kept sessions keys)
+
+-- what a KMRSP of the code confirms
+abbrev pub confirmation_of : KeyPacketRef → Confirmation
+confirmation_of p = record { dest = p.dest; contents = p.info.now }
+
+-- the stored keys are those after what a datagram of this sender confirms, and those after what an item confirms
+abbrev pub ConfirmsFor : Peer → Option Confirmation → Table → (before after : TheRouteKeys) → Type 0
+ConfirmsFor peer c table before after =
+    (e : Terms) (index clock : ℕ) (sessions : List Session) (keys : RouteKeys)
+    → IsTable e index clock table sessions → AreKeys e before keys → has_secured_role e ≡ true
+    → AreKeys e after (confirmed_for index peer c sessions keys)
+
+abbrev pub Confirms : Item → Table → (before after : TheRouteKeys) → Type 0
+Confirms item table before after =
+    (e : Terms) (index clock : ℕ) (sessions : List Session) (keys : RouteKeys)
+    → IsTable e index clock table sessions → AreKeys e before keys → has_secured_role e ≡ true
+    → AreKeys e after (keys_confirmed index item sessions keys)
 
 -- the third step of an event
 pub record IsDispatched (e : Terms) (index clock : ℕ) (sessions : List Session) (item : Item) (j : Judged) (table : Table) (keys : TheRouteKeys)

@@ -1,6 +1,6 @@
 use Rattle.std.proofs.Common.{◌≡◌, true, false, refl, sym, subst, ◌∙◌, arith}
 use Rattle.srt_types.specs.Items.{input_of}
-use Rattle.srt_route.specs.Route.{Judged, as_before, keys_kept}
+use Rattle.srt_route.specs.Route.{Judged, as_before, keys_confirmed, keys_kept}
 use Rattle.srt_route.specs.RouteKeys.{has_secured_role}
 use Rattle.srt_route.specs.inside.Secured.{IsDispatched}
 use Rattle.srt_route.proofs.steps.Securing.{clear_judgement, passes_dispatched, secured_judged}
@@ -29,4 +29,5 @@ returns-clause-dispatched c e index ss keys is are =
     subst
     (λ (j : Judged). IsDispatched e index clock ss item j did.new.table did.new.keys c.args.waiting.now did.new.waiting c.args.ledger.now did.new.ledger)
     (secured_judged e index clock item ss keys secured)
-    (did.ensures.dispatched e index ss (keys_kept ss keys) is (c.keep_open.ensures.kept e index clock ss keys is are) secured)
+    (did.ensures.dispatched e index ss (keys_confirmed index item ss (keys_kept ss keys)) is
+    (c.confirm_keys.ensures.confirmed e index clock ss (keys_kept ss keys) is (c.keep_open.ensures.kept e index clock ss keys is are) secured) secured)
