@@ -26,7 +26,7 @@
 //! `outbox_rule.rt` (`specs/Inbox.antt`, `specs/Outbox.antt`), and the evidence that one of them was full or empty in
 //! `evidence.rt`. That the replies don't depend on which worker serves is `Replays` in `specs/Runs.antt`. Seats are in
 //! `seats.rt`, their places in `added_seats.rt`, what serves these in `place_service.rt`, and what reads them in
-//! `readers.rt` (`specs/Places.antt`), with the evidence of `misplaced.rt`.
+//! `readers.rt` and `next_ends.rt` (`specs/Places.antt`), with the evidence of `misplaced.rt`, by `slots/handing.rt`.
 #![tactic(auto)]
 
 mod accounts;
@@ -37,6 +37,7 @@ mod gates;
 mod inbox;
 mod inbox_rule;
 mod misplaced;
+mod next_ends;
 mod observer;
 mod openings;
 mod outbox;

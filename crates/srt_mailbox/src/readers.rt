@@ -2,14 +2,12 @@
 
 ghost use Rattle.std.specs.Prelude.{◌≡◌, ◌≤◌, ◌<◌, ℕ, List, [], ◌∷◌, ◌++◌, length, map, take, get_or, slice_get, Some};
 ghost use Rattle.std.specs.Prelude.{IfOk, IfErr, vec_len, vec_capacity};
-ghost use Rattle.srt_mailbox.specs.Cells.{CellIdentity};
 ghost use Rattle.srt_mailbox.specs.Identities.{identity_in};
-ghost use Rattle.srt_mailbox.specs.Seats.{IsNewPoller, IsNewClock};
 
 use crate::added_seats::{EmptyPlace, Place, token_in};
 use crate::misplaced::{Misplaced, check_index};
-use crate::seats::{Attachment, ClockHand, PollerEnds, Seat};
-use crate::slots::{TakenElsewhere, take_over};
+use crate::seats::{Attachment, Seat};
+use crate::slots::TakenElsewhere;
 use std::alloc::{AllocError, Global};
 use std::sync::OnceToken;
 
@@ -61,9 +59,9 @@ impl<'a, X: Attachment + Drop> SeatReader<'a, X> {
         })
     }
 
-    // Returns the seat in the next place. The error is evidence that there is no further place, that the place is empty, or
-    // that the route there has another index.
-    fn coming(&self) -> Result<(&'a Seat<X>, OnceToken<'a, Seat<X>>), NoneSeated>
+    /// Returns the seat in the next place. The error is evidence that there is no further place, that the place is empty, or
+    /// that the route there has another index.
+    pub(crate) fn coming(&self) -> Result<(&'a Seat<X>, OnceToken<'a, Seat<X>>), NoneSeated>
         ensures value { IfOk result (λ r. r.0.now ≡ r.1.value) }
         ensures next { IfOk result (λ r. is_next self.now r.1.of) }
         ensures index { IfOk result (λ r. (identity_in r.0.now.cell).index ≡ length self.now.tokens.items) }
@@ -85,8 +83,8 @@ impl<'a, X: Attachment + Drop> SeatReader<'a, X> {
         Ok((seat, token))
     }
 
-    // Moves on past the next place, which has this seat.
-    fn pass(&mut self, token: OnceToken<'a, Seat<X>>)
+    /// Moves on past the next place, which has this seat.
+    pub(crate) fn pass(&mut self, token: OnceToken<'a, Seat<X>>)
         requires { is_next self.old token.of }
         ensures tokens { self.new.tokens.items ≡ self.old.tokens.items ++ token.entry ∷ [] }
         ensures places { places_of self.new ≡ places_of self.old }
@@ -94,43 +92,6 @@ impl<'a, X: Attachment + Drop> SeatReader<'a, X> {
         let Ok(()) = self.tokens.push(token) else {
             unreachable!()
         };
-    }
-
-    /// Takes the poller's ends of the route in the next place. The error is evidence that none was added there, or that they
-    /// were taken. Doesn't allocate and never waits.
-    pub fn next_poller(&mut self) -> Result<PollerEnds<X>, NoneSeated>
-        ensures some { IfOk result (λ e. (n : CellIdentity) × (arrived self.new ≡ arrived self.old ++ n ∷ []) × (n.index ≡ length (arrived self.old)) ×
-            IsNewPoller n e.ingress e.drain × X.belongs n.terms n.index e.companion) }
-        ensures none { IfErr result (λ _. self.new ≡ self.old) }
-        ensures past { IfErr result (λ none. IsPast (places_of self.old) (length (arrived self.old)) none) }
-        ensures places { places_of self.new ≡ places_of self.old }
-    {
-        let (seat, token) = self.coming()?;
-        match take_over(&seat.poller) {
-            Ok(ends) => {
-                self.pass(token);
-                Ok(ends)
-            }
-            Err(taken) => Err(NoneSeated::Taken(taken)),
-        }
-    }
-
-    /// Takes the clock's end of the route in the next place, likewise.
-    pub fn next_clock(&mut self) -> Result<ClockHand, NoneSeated>
-        ensures some { IfOk result (λ h. (n : CellIdentity) × (arrived self.new ≡ arrived self.old ++ n ∷ []) × (n.index ≡ length (arrived self.old)) ×
-            IsNewClock n h.end) }
-        ensures none { IfErr result (λ _. self.new ≡ self.old) }
-        ensures past { IfErr result (λ none. IsPast (places_of self.old) (length (arrived self.old)) none) }
-        ensures places { places_of self.new ≡ places_of self.old }
-    {
-        let (seat, token) = self.coming()?;
-        match take_over(&seat.clock) {
-            Ok(hand) => {
-                self.pass(token);
-                Ok(hand)
-            }
-            Err(taken) => Err(NoneSeated::Taken(taken)),
-        }
     }
 
     /// Returns the number of routes that the reader has reached.

@@ -9,6 +9,7 @@ use std::snapshot::Snapshot;
 use std::sync::Wait;
 
 pub(crate) mod claims;
+pub(crate) mod handing;
 pub(crate) mod taken_route;
 
 // What a slot is left with, and the word for it.
@@ -53,7 +54,8 @@ pub struct TakenElsewhere {
 }
 
 /// A value that was taken out of a slot. It has no `Drop`, and what is in it is private to this module and those below:
-/// `claims.rt` puts it back in the end, and `taken_route.rt` settles it. Only `take_out` makes any.
+/// `claims.rt` puts it back in the end, `taken_route.rt` settles it, and `handing.rt` gives it to its owner. Only `take_out`
+/// makes any.
 pub(crate) struct TakenOut<X> {
     value: X,
 }
@@ -86,17 +88,6 @@ pub(crate) fn take_out<X: Fits>(
             found: PRESENT,
             for_good,
         }),
-    }
-}
-
-/// Takes out what a slot holds, for its owner to have. The error is evidence that another call has it.
-#[inline(always)]
-pub(crate) fn take_over<X: Fits + Handed>(slot: &Counted<Option<X>>) -> Result<X, TakenElsewhere>
-    ensures { IfOk result (X.fits slot.now) }
-{
-    match take_out(slot, true) {
-        Ok(TakenOut { value }) => Ok(value),
-        Err(elsewhere) => Err(elsewhere),
     }
 }
 

@@ -7,7 +7,7 @@ ghost use Rattle.srt_mailbox.specs.Identities.{identity_in};
 ghost use Rattle.srt_mailbox.specs.Places.{arrived, places_of};
 ghost use Rattle.srt_mailbox.specs.Seats.{IsNewPoller, IsNewClock};
 
-use crate::slots::take_over;
+use crate::slots::handing::take_over;
 use crate::tests::datagrams::{publisher_answer, publisher_conclusion};
 use crate::tests::observing::Eye;
 use crate::tests::{Fixed, IDLE, assert_drained, assert_visited, entry, offer_times, tick};
