@@ -59,9 +59,10 @@ def program_of(index: Index) -> Dict[str, Command]:
     """The subcommands that crates/srt_command_line/src says, by the calls that build its command line."""
     text = "\n".join(index.text(it) for it in sorted(index.files) if it.startswith("crates/srt_command_line/src/") and it.endswith(".rt"))
     constants = {name: int(value.replace("_", "")) for name, value in re.findall(r"const (\w+): u\d+ = ([\d_]+);", text + index.text(PRODUCT_LIMITS))}
-    bodies = dict(re.findall(r"\nfn (\w+)<'a>\([^)]*\) -> Arg<'a> \{(.*?)\n\}", text, re.DOTALL))
+    clauses = r"(?:\n    [^\n]*)*"
+    bodies = dict(re.findall(rf"\nfn (\w+)<'a>\([^)]*\) -> Arg<'a>{clauses}\s\{{(.*?)\n\}}", text, re.DOTALL))
     found: Dict[str, Command] = {}
-    for name, rest in re.findall(r'-> Result<Command<[^{]* \{\s*Command::new\(alloc, "(\w+)"\)(.*?)\n\}', text, re.DOTALL):
+    for name, rest in re.findall(rf'-> Result<Command<[^\n{{]*{clauses}\s\{{\s*Command::new\(alloc, "(\w+)"\)(.*?)\n\}}', text, re.DOTALL):
         command = found.setdefault(name, Command())
         for argument in re.findall(r"\.arg\((\w+)\(alloc\)\)", rest):
             body = bodies.get(argument, "")

@@ -1,2 +1,3 @@
 pub mod Bytes
 pub mod Rows
+pub mod Programs

@@ -1,3 +1,4 @@
 pub mod inside
+pub mod Commands
 pub mod Statuses
 pub mod Durations

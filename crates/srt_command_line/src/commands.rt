@@ -1,5 +1,10 @@
 //! The program's commands with their arguments and help.
 
+ghost use Rattle.std.specs.Prelude.{◌≡◌, IfOk, codes, [], ◌∷◌};
+ghost use Rattle.srt_command_line.specs.Commands.{path_rule, option_rule, flag_rule, rounds_rule, log_rule, HasForms, IsProgram};
+ghost use Rattle.srt_command_line.specs.Commands.{check_shape, replay_shape, explain_shape, serve_shape, program_app};
+ghost use Rattle.srt_command_line.specs.inside.Building.{HasRule, IsLocal, IsApp, leaf_app, IsRun, AddsShapes, AddsCallers};
+
 use clap::builder::ValueParser;
 use clap::{Arg, ArgAction, Command};
 use srt_types::product_limits::MAX_SERVE_ROUNDS;
@@ -8,14 +13,18 @@ use std::alloc::{AllocError, Global};
 /// The version, as CHANGELOG.md has it.
 pub const VERSION: &str = "0.7";
 
-fn path<'a>(alloc: Global, name: &'a str, help: &'a str) -> Arg<'a> {
+fn path<'a>(alloc: Global, name: &'a str, help: &'a str) -> Arg<'a>
+    ensures { HasRule (path_rule name.entry.now) result }
+{
     Arg::new(alloc, name)
         .required(true)
         .action(ArgAction::Set)
         .help(help)
 }
 
-fn config<'a>(alloc: Global) -> Arg<'a> {
+fn config<'a>(alloc: Global) -> Arg<'a>
+    ensures { HasRule (path_rule (codes "CONFIG")) result }
+{
     path(
         alloc,
         "CONFIG",
@@ -23,7 +32,9 @@ fn config<'a>(alloc: Global) -> Arg<'a> {
     )
 }
 
-fn tape<'a>(alloc: Global) -> Arg<'a> {
+fn tape<'a>(alloc: Global) -> Arg<'a>
+    ensures { HasRule (path_rule (codes "TAPE")) result }
+{
     path(
         alloc,
         "TAPE",
@@ -31,7 +42,9 @@ fn tape<'a>(alloc: Global) -> Arg<'a> {
     )
 }
 
-fn output<'a>(alloc: Global) -> Arg<'a> {
+fn output<'a>(alloc: Global) -> Arg<'a>
+    ensures { HasRule (option_rule (codes "output")) result }
+{
     Arg::new(alloc, "output")
         .long("output")
         .value_name("FILE")
@@ -41,7 +54,9 @@ fn output<'a>(alloc: Global) -> Arg<'a> {
         )
 }
 
-fn rounds<'a>(alloc: Global) -> Arg<'a> {
+fn rounds<'a>(alloc: Global) -> Arg<'a>
+    ensures { HasRule rounds_rule result }
+{
     Arg::new(alloc, "rounds")
         .long("rounds")
         .value_name("N")
@@ -53,14 +68,18 @@ fn rounds<'a>(alloc: Global) -> Arg<'a> {
         )
 }
 
-fn explain<'a>(alloc: Global) -> Arg<'a> {
+fn explain<'a>(alloc: Global) -> Arg<'a>
+    ensures { HasRule (flag_rule (codes "explain")) result }
+{
     Arg::new(alloc, "explain")
         .long("explain")
         .action(ArgAction::SetTrue)
         .help("Prints on standard error where each fault is and how to fix it, or warnings")
 }
 
-fn addresses<'a>(alloc: Global) -> Arg<'a> {
+fn addresses<'a>(alloc: Global) -> Arg<'a>
+    ensures { HasRule (flag_rule (codes "addresses")) result }
+{
     Arg::new(alloc, "addresses")
         .long("addresses")
         .action(ArgAction::SetTrue)
@@ -69,7 +88,9 @@ fn addresses<'a>(alloc: Global) -> Arg<'a> {
         )
 }
 
-fn duration<'a>(alloc: Global) -> Arg<'a> {
+fn duration<'a>(alloc: Global) -> Arg<'a>
+    ensures { HasRule (option_rule (codes "for")) result }
+{
     Arg::new(alloc, "for")
         .long("for")
         .value_name("DURATION")
@@ -79,7 +100,9 @@ fn duration<'a>(alloc: Global) -> Arg<'a> {
         )
 }
 
-fn no_time<'a>(alloc: Global) -> Arg<'a> {
+fn no_time<'a>(alloc: Global) -> Arg<'a>
+    ensures { HasRule (flag_rule (codes "no-time")) result }
+{
     Arg::new(alloc, "no-time")
         .long("no-time")
         .action(ArgAction::SetTrue)
@@ -88,7 +111,10 @@ fn no_time<'a>(alloc: Global) -> Arg<'a> {
         )
 }
 
-fn log<'a>(alloc: Global) -> Arg<'a> {
+fn log<'a>(alloc: Global) -> Arg<'a>
+    ensures form { HasForms result.value_parser }
+    ensures rule { HasRule (log_rule result.value_parser) result }
+{
     Arg::new(alloc, "log")
         .long("log")
         .value_name("FORM")
@@ -100,7 +126,9 @@ fn log<'a>(alloc: Global) -> Arg<'a> {
 }
 
 /// The command `check`.
-fn check<'a>(alloc: Global) -> Result<Command<'a>, AllocError> {
+fn check<'a>(alloc: Global) -> Result<Command<'a>, AllocError>
+    ensures { IfOk result (IsApp (leaf_app check_shape)) }
+{
     Command::new(alloc, "check")
         .about("Prints how many routes a configuration has, or its first fault")
         .arg(config(alloc))?
@@ -109,7 +137,9 @@ fn check<'a>(alloc: Global) -> Result<Command<'a>, AllocError> {
 }
 
 /// The command `replay`.
-fn replay<'a>(alloc: Global) -> Result<Command<'a>, AllocError> {
+fn replay<'a>(alloc: Global) -> Result<Command<'a>, AllocError>
+    ensures { IfOk result (IsApp (leaf_app replay_shape)) }
+{
     Command::new(alloc, "replay")
         .about(
             "Runs the gateway's core over a tape, a text of events, and prints the result of each event",
@@ -120,7 +150,9 @@ fn replay<'a>(alloc: Global) -> Result<Command<'a>, AllocError> {
 }
 
 /// The command `explain`.
-fn explain_tape<'a>(alloc: Global) -> Result<Command<'a>, AllocError> {
+fn explain_tape<'a>(alloc: Global) -> Result<Command<'a>, AllocError>
+    ensures { IfOk result (IsApp (leaf_app explain_shape)) }
+{
     Command::new(alloc, "explain")
         .about(
             "Prints each line of a tape in words, up to the first that is no event: time, address or route, packet, fields",
@@ -133,7 +165,9 @@ fn explain_tape<'a>(alloc: Global) -> Result<Command<'a>, AllocError> {
 }
 
 /// The command `serve`.
-fn serve<'a>(alloc: Global) -> Result<Command<'a>, AllocError> {
+fn serve<'a>(alloc: Global) -> Result<Command<'a>, AllocError>
+    ensures { IfOk result (IsApp (leaf_app serve_shape)) }
+{
     Command::new(alloc, "serve")
         .about(
             "Serves SRT callers at the configuration's UDP address, and prints a report at the end",
@@ -146,7 +180,9 @@ fn serve<'a>(alloc: Global) -> Result<Command<'a>, AllocError> {
 }
 
 /// The command `run`.
-fn run<'a>(alloc: Global) -> Result<Command<'a>, AllocError> {
+fn run<'a>(alloc: Global) -> Result<Command<'a>, AllocError>
+    ensures { IfOk result IsRun }
+{
     Command::new(alloc, "run")
         .about(
             "Serves SRT callers until it is stopped, logs on standard error, and prints a report at the end",
@@ -161,23 +197,34 @@ fn run<'a>(alloc: Global) -> Result<Command<'a>, AllocError> {
 }
 
 /// The command that reads a configuration alone.
-fn with_check<'a>(alloc: Global, all: Command<'a>) -> Result<Command<'a>, AllocError> {
+fn with_check<'a>(alloc: Global, all: Command<'a>) -> Result<Command<'a>, AllocError>
+    requires { IsLocal all }
+    ensures { IfOk result (AddsShapes (check_shape ∷ []) all.entry) }
+{
     all.subcommand(check(alloc)?)
 }
 
 /// The commands that read tapes.
-fn with_tapes<'a>(alloc: Global, all: Command<'a>) -> Result<Command<'a>, AllocError> {
+fn with_tapes<'a>(alloc: Global, all: Command<'a>) -> Result<Command<'a>, AllocError>
+    requires { IsLocal all }
+    ensures { IfOk result (AddsShapes (replay_shape ∷ explain_shape ∷ []) all.entry) }
+{
     all.subcommand(replay(alloc)?)?
         .subcommand(explain_tape(alloc)?)
 }
 
 /// The commands that serve callers.
-fn with_callers<'a>(alloc: Global, all: Command<'a>) -> Result<Command<'a>, AllocError> {
+fn with_callers<'a>(alloc: Global, all: Command<'a>) -> Result<Command<'a>, AllocError>
+    requires { IsLocal all }
+    ensures { IfOk result (AddsCallers all.entry) }
+{
     all.subcommand(serve(alloc)?)?.subcommand(run(alloc)?)
 }
 
 /// The program without its commands. Its name in usage lines is set, since it would be that of the file which was called.
-fn program<'a>(alloc: Global) -> Result<Command<'a>, AllocError> {
+fn program<'a>(alloc: Global) -> Result<Command<'a>, AllocError>
+    ensures { IfOk result (IsApp (program_app [])) }
+{
     Command::new(alloc, "srtgw")
         .about(
             "A gateway for SRT live streams: what a publisher sends on a route goes to each of the route's subscribers",
@@ -188,7 +235,9 @@ fn program<'a>(alloc: Global) -> Result<Command<'a>, AllocError> {
 }
 
 /// The program's commands with their arguments and help. It allocates; the only error is that it is refused.
-pub fn command<'a>(alloc: Global) -> Result<Command<'a>, AllocError> {
+pub fn command<'a>(alloc: Global) -> Result<Command<'a>, AllocError>
+    ensures { IfOk result IsProgram }
+{
     let all = with_check(alloc, program(alloc)?)?;
     let all = with_tapes(alloc, all)?;
     with_callers(alloc, all)
