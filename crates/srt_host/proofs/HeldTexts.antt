@@ -1,7 +1,8 @@
 -- Text of the log that waits behind what was written.
-use Rattle.std.proofs.Common.{arith, ◌≡◌, ℕ, ◌+◌, ◌-◌, ◌≤◌, true, nat_eq, List, [], length, drop, min, take, sym, ap, ◌∙◌}
+use Rattle.std.proofs.Common.{arith, ◌≡◌, ℕ, zero, suc, ◌+◌, ◌-◌, ◌≤◌, true, nat_eq, List, [], ◌∷◌, ◌++◌, append_assoc, length, drop, min, take, refl, sym, ap, ◌∙◌}
 use Rattle.std.proofs.lemmas.Bool.Decides.{nat_tests}
-use Rattle.std.proofs.lemmas.List.{length-drop, length-take, drop_all, take_min}
+use Rattle.std.proofs.lemmas.List.{length-drop, length-take, drop_all, take_min, take-append-drop}
+use Rattle.srt_host.specs.Held.{IsRest}
 
 pub all_written : (n len : ℕ) (xs : List ℕ) → n ≤ length xs → len ≡ length xs → nat_eq n len ≡ true → drop n xs ≡ []
 all_written n len xs within whole all =
@@ -29,3 +30,17 @@ within n count xs few fits = let e : length (drop n xs) ≡ length xs - n = leng
 
 pub few_taken : (most : ℕ) (xs : List ℕ) → length (take most xs) ≤ length xs
 few_taken most xs = let e : length (take most xs) ≡ min most (length xs) = length-take most xs in omega (arith, e)
+
+pub drop_taken : (n : ℕ) (xs : List ℕ) → drop (length (take n xs)) xs ≡ drop n xs
+drop_taken zero [] = refl
+drop_taken zero (x ∷ xs) = refl
+drop_taken (suc n) [] = refl
+drop_taken (suc n) (x ∷ xs) = drop_taken n xs
+
+-- what is left of a rest is one
+pub rest_of_rest : (n : ℕ) (xs ys zs : List ℕ) → IsRest xs ys → zs ≡ drop n ys → IsRest xs zs
+rest_of_rest n xs ys zs h same = (
+  h.0 ++ take n ys,
+  h.1 ∙ ap (λ l. h.0 ++ l) (sym (take-append-drop n ys)) ∙ sym (append_assoc h.0 (take n ys) (drop n ys))
+      ∙ ap (λ l. (h.0 ++ take n ys) ++ l) (sym same),
+)

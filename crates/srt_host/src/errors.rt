@@ -36,8 +36,8 @@ fn is_ready() -> bool {
 }
 
 impl<'a, R: Eprint> Errors<'a, R> {
-    ghost use Rattle.std.specs.Prelude.{◌≡◌, [], IfOk};
-    ghost use Rattle.srt_host.specs.Held.{waiting_in};
+    ghost use Rattle.std.specs.Prelude.{◌≡◌, true, false, drop, [], IfOk};
+    ghost use Rattle.srt_host.specs.Held.{waiting_in, IsRest, IsPut, IsRefused};
 
     /// Returns standard error of this host. Allocates room for text that waits; the only error is out of memory.
     pub fn open(rt: &'a R, alloc: Global) -> Result<Errors<'a, R>, AllocError>
@@ -48,7 +48,9 @@ impl<'a, R: Eprint> Errors<'a, R> {
     }
 
     // Writes the oldest bytes that wait. What isn't text, or can't be written, is left out.
-    fn write_next(&mut self) {
+    fn write_next(&mut self)
+        ensures { waiting_in self.new ≡ drop 4096 (waiting_in self.old) }
+    {
         let next = self.held.next();
         if let Ok(text) = str::from_utf8(next) {
             let _ = self.rt.eprint(text);
@@ -58,13 +60,29 @@ impl<'a, R: Eprint> Errors<'a, R> {
     }
 
     // Writes what waits, as much as standard error takes now.
-    fn write_held(&mut self) {
+    fn write_held(&mut self)
+        ensures { IsRest (waiting_in self.old) (waiting_in self.new) }
+    {
         for _ in 0..MAX_WRITES {
             if self.held.is_empty() || !is_ready() {
                 return;
             }
             self.write_next();
         }
+    }
+
+    // Writes a text, or lets it wait behind what waits. False if there is no room for all of it.
+    fn put(&mut self, text: &str) -> io::Result<bool>
+        ensures put { IfOk result (λ is_put. is_put ≡ true → IsPut text.now self.old self.new) }
+        ensures refused { IfOk result (λ is_put. is_put ≡ false → IsRefused text.now self.old self.new) }
+    {
+        self.write_held();
+        let bytes = text.as_bytes();
+        if bytes.len() <= MAX_WRITTEN && self.held.is_empty() && is_ready() {
+            self.rt.eprint(text)?;
+            return Ok(true);
+        }
+        Ok(self.held.hold(bytes))
     }
 }
 
@@ -73,12 +91,7 @@ impl<R: Eprint> Write for Errors<'_, R> {
         let Ok(text) = str::from_utf8(bytes) else {
             return Err(Error::from(ErrorKind::InvalidData));
         };
-        self.write_held();
-        if bytes.len() <= MAX_WRITTEN && self.held.is_empty() && is_ready() {
-            self.rt.eprint(text)?;
-            return Ok(bytes.len());
-        }
-        if self.held.hold(bytes) {
+        if self.put(text)? {
             return Ok(bytes.len());
         }
         Err(Error::from(ErrorKind::WouldBlock))

@@ -4,6 +4,7 @@ ghost use Rattle.std.specs.Prelude.{◌≡◌, None, codes, IfSome};
 ghost use Rattle.srt_procfs.specs.Drops.{AreDrops};
 ghost use Rattle.srt_procfs.specs.Process.{processor_time_in, most_descriptors_in, AreOpen, IsStart};
 ghost use Rattle.srt_procfs.specs.Readings.{IsTold};
+ghost use Rattle.srt_host.specs.Times.{nanos_of};
 
 use crate::clock::Since;
 use crate::socket::ServedSocket;
@@ -152,12 +153,19 @@ impl<'a, R: Files> HostFile<'a, R> {
     }
 }
 
+/// Returns the nanoseconds of this many seconds, and of these behind them, modulo 2^64. A number below 0 counts as 0.
+fn nanos_of(seconds: i64, nanos: i64) -> u64
+    ensures { result ≡ nanos_of seconds nanos }
+{
+    let whole = u64::try_from(seconds).unwrap_or(0);
+    let rest = u64::try_from(nanos).unwrap_or(0);
+    whole.wrapping_mul(1_000_000_000).wrapping_add(rest)
+}
+
 /// Returns the time of the last change of a file's content or attributes, in nanoseconds since 1970, modulo 2^64. A time
 /// before 1970 counts as 0.
 fn changed_at(file: &Metadata) -> u64 {
-    let whole = u64::try_from(file.ctime()).unwrap_or(0);
-    let rest = u64::try_from(file.ctime_nsec()).unwrap_or(0);
-    whole.wrapping_mul(1_000_000_000).wrapping_add(rest)
+    nanos_of(file.ctime(), file.ctime_nsec())
 }
 
 impl ConfigFile for HostFile<'_, HostRuntime> {
