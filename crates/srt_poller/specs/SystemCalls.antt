@@ -1,5 +1,6 @@
 -- What a socket's source and wire note of the calls of the system, for contracts alone.
-use Rattle.std.specs.Prelude.{◌≡◌, ◌⊎◌, ℕ, ◌*◌, ◌/◌, ◌%◌, length, Bool, if◌then◌else◌, Result, Ok, Err, List, [], ◌∷◌, ◌++◌, slice_index}
+use Rattle.std.specs.Prelude.{◌≡◌, ◌⊎◌, ℕ, ◌*◌, ◌/◌, ◌%◌, length, Bool, if◌then◌else◌, Result, Ok, Err, Option, Some, None, List, [], ◌∷◌, ◌++◌}
+use Rattle.std.specs.Prelude.{slice_index, replicate}
 use Rattle.std.specs.Int.{w32, from_le_bytes}
 use Rattle.std.specs.Net.Addr.{ipv4_octets, ipv6_octets}
 use Rattle.std.specs.Net.Socket.{socket_ip, socket_port, socket_flowinfo, socket_scope_id, v6_ip, v6_port}
@@ -23,8 +24,6 @@ use Rattle.srt_poller.specs.declared.pace.Pause.TheVariants.{Poll, Nap}
 use Rattle.srt_poller.specs.declared.sockets.Family.{Family}
 use Rattle.srt_poller.specs.declared.sockets.Family.TheVariants as families
 use Rattle.srt_poller.specs.declared.sockets.called.Called.{Called}
-use Rattle.srt_poller.specs.declared.sockets.called.Call.{Call}
-use Rattle.srt_poller.specs.declared.sockets.called.Call.TheVariants as call
 use Rattle.srt_poller.specs.declared.sockets.system.SystemCalls.{SystemCalls}
 use Rattle.srt_poller.specs.declared.sockets.system.Handed.{Handed}
 use Rattle.srt_poller.specs.declared.sockets.system.Handed.TheVariants as handed
@@ -40,31 +39,9 @@ abbrev pub octets_of : IpAddr → List ℕ
 octets_of (ip.V4 a) = ipv4_octets a
 octets_of (ip.V6 a) = ipv6_octets a
 
--- the number of a call in its note
-abbrev pub number_of : Call → ℕ
-number_of call.Send = 0
-number_of call.Read = 1
-number_of call.Poll = 2
-number_of call.Nap = 3
-number_of call.TakePutOff = 4
-number_of call.TakeSent = 5
-number_of call.MarkPutOff = 6
-number_of call.CountSent = 7
-number_of call.Bind = 8
-number_of call.OpenIpv6 = 9
-number_of call.LetIpv4In = 10
-number_of call.BindIpv6 = 11
-number_of call.AskForRoom = 12
-number_of call.Register = 13
-
--- the evidence is of this call, which ended so with this number
-abbrev pub IsCall : Call → (end number : ℕ) → Called → Type 0
-IsCall c end number called = (called.call ≡ c) × (called.end ≡ end) × (called.number ≡ number)
-
--- a note with these numbers is of the call that the evidence is of: its own number, how it ended, and the number that it returned
-abbrev pub IsNoteOf : Called → (numbers : List ℕ) → Type 0
-IsNoteOf called numbers =
-    (slice_index numbers 0 ≡ number_of called.call) × (slice_index numbers 1 ≡ called.end) × (slice_index numbers 2 ≡ called.number)
+-- the evidence is of the call with this note: what it did, with which values, and how it ended
+abbrev pub IsEvidence : Note → Called → Type 0
+IsEvidence note called = called.journal.notes ≡ note ∷ []
 
 -- a call that ended so and returned this number, with an address and bytes
 abbrev pub note_at : (call end number : ℕ) → SocketAddr → (bytes : List ℕ) → Note
@@ -110,12 +87,12 @@ receive_note buffer (received.Datagram n from) = note_at 1 0 n from buffer
 receive_note buffer received.Nothing = (1 ∷ 1 ∷ [], [], buffer)
 receive_note buffer received.Failed = (1 ∷ 2 ∷ [], [], buffer)
 
--- a wait for at most this many nanoseconds, and a nap
+-- a wait for at most this many nanoseconds, and a nap of as many
 abbrev pub poll_note : (nanos : ℕ) → Polled → Note
 poll_note nanos answer = (2 ∷ end_of_poll answer ∷ nanos / 1_000_000_000 ∷ nanos % 1_000_000_000 ∷ [], [], [])
 
-abbrev pub nap_note : Note
-nap_note = (3 ∷ [], [], [])
+abbrev pub nap_note : (nanos : ℕ) → Note
+nap_note nanos = (3 ∷ nanos ∷ [], [], [])
 
 -- what no call notes
 abbrev pub no_note : Note
@@ -144,12 +121,13 @@ end_of_opening (Err error) = 2
 abbrev pub bind_note : (end : ℕ) → SocketAddr → Note
 bind_note end a = note_at 8 end 0 a []
 
--- those of IPv6: a socket, which also has callers over IPv4, and which is bound at C's name of the address
+-- those of IPv6: a socket of datagrams that doesn't block and isn't inherited (2 + 2048 + 524_288), which also has callers over IPv4, since its option
+-- IPV6_V6ONLY is 0, and which is bound at C's name of the address
 abbrev pub open_note : (end : ℕ) → Note
-open_note end = (9 ∷ end ∷ [], [], [])
+open_note end = (9 ∷ end ∷ 526_338 ∷ [], [], [])
 
 abbrev pub callers_note : (end : ℕ) → Note
-callers_note end = (10 ∷ end ∷ [], [], [])
+callers_note end = (10 ∷ end ∷ [], [], replicate 16 0)
 
 abbrev pub name_note : (end : ℕ) → (name : List ℕ) → Note
 name_note end name = (11 ∷ end ∷ [], name, [])
@@ -166,6 +144,27 @@ room_note size = (12 ∷ size ∷ [], [], [])
 abbrev pub register_note : (end : ℕ) → Note
 register_note end = (13 ∷ end ∷ [], [], [])
 
+-- a poll was opened, which has no socket yet
+abbrev pub open_poll_note : (end : ℕ) → Note
+open_poll_note end = (14 ∷ end ∷ [], [], [])
+
+-- how a call that reads something of a socket ended, and the number that it read
+abbrev pub end_of_reading : {A : Type 0} → Option A → ℕ
+end_of_reading (Some value) = 0
+end_of_reading None = 2
+
+abbrev pub count_of_reading : Option ℕ → ℕ
+count_of_reading (Some value) = value
+count_of_reading None = 0
+
+-- the size of the receive buffer was read, and the socket's own address
+abbrev pub read_room_note : Option ℕ → Note
+read_room_note room = (15 ∷ end_of_reading room ∷ count_of_reading room ∷ [], [], [])
+
+abbrev pub read_address_note : Option SocketAddr → Note
+read_address_note (Some a) = note_at 16 0 0 a []
+read_address_note None = (16 ∷ 2 ∷ [], [], [])
+
 -- the calls that bind a socket at this address, each with success
 abbrev pub binding_notes : SocketAddr → List Note
 binding_notes (socket.V4 a) = bind_note 0 (socket.V4 a) ∷ []
@@ -173,12 +172,31 @@ binding_notes (socket.V6 a) = open_note 0 ∷ callers_note 0 ∷ name_note 0 (ip
 
 -- the calls that open a source at this address; whether the receive buffer was had isn't noted
 abbrev pub opening_notes : SocketAddr → List Note
-opening_notes a = binding_notes a ++ room_note 4_194_304 ∷ register_note 0 ∷ []
+opening_notes a = binding_notes a ++ room_note 4_194_304 ∷ open_poll_note 0 ∷ register_note 0 ∷ []
+
+-- the calls that bind a socket of IPv6 at this C name, of which the system refused the last
+abbrev pub IsRefusedName : (name : List ℕ) → (before after : List Note) → Type 0
+IsRefusedName name before after =
+    (after ≡ before ++ open_note 2 ∷ [])
+    ⊎ ((after ≡ before ++ open_note 0 ∷ callers_note 2 ∷ [])
+    ⊎ (after ≡ before ++ open_note 0 ∷ callers_note 0 ∷ name_note 2 name ∷ []))
+
+-- the calls that bind a socket at this address, of which the system refused the last
+abbrev pub IsRefusedBinding : SocketAddr → (before after : List Note) → Type 0
+IsRefusedBinding (socket.V4 a) before after = after ≡ before ++ bind_note 2 (socket.V4 a) ∷ []
+IsRefusedBinding (socket.V6 a) before after = IsRefusedName (ipv6_name (v6_port a) (ipv6_octets (v6_ip a))) before after
+
+-- the calls that open a source at this address, of which the system refused the last
+abbrev pub IsRefusedOpening : SocketAddr → (before after : List Note) → Type 0
+IsRefusedOpening a before after =
+    IsRefusedBinding a before after
+    ⊎ ((after ≡ before ++ (binding_notes a ++ room_note 4_194_304 ∷ open_poll_note 2 ∷ []))
+    ⊎ (after ≡ before ++ (binding_notes a ++ room_note 4_194_304 ∷ open_poll_note 0 ∷ register_note 2 ∷ [])))
 
 -- the one call of a pause
 abbrev pub pause_note : Pause → Polled → Note
 pause_note (Poll millis) result = poll_note (millis * 1_000_000) result
-pause_note Nap polled.Ready = nap_note
+pause_note Nap polled.Ready = nap_note 100_000
 pause_note Nap polled.Failed = no_note
 
 -- the pace once the mark of a put off send was taken

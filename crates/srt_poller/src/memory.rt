@@ -3,6 +3,7 @@
 ghost use Rattle.std.specs.Prelude.{◌≡◌, ◌<◌, ◌+◌, ◌++◌, ◌∷◌, [], IfOk, OnOk, OnErr, length};
 ghost use Rattle.std.specs.Vec.{vec_capacity};
 ghost use Rattle.std.specs.Arc.{arc_value};
+ghost use Rattle.mio.specs.Events.{items as events_in, capacity as events_capacity};
 
 use mio::Events;
 use srt_journal::Journal;
@@ -19,7 +20,8 @@ pub struct MemoryRefused {
 /// Returns an empty buffer with room for this many bytes.
 #[inline(always)]
 pub(crate) fn buffer_with_room(alloc: Global, room: usize) -> Result<Vec<u8>, MemoryRefused>
-    ensures { IfOk result (λ buffer. buffer.items ≡ []) }
+    ensures empty { IfOk result (λ buffer. buffer.items ≡ []) }
+    ensures room { IfOk result (λ buffer. vec_capacity buffer ≡ room) }
 {
     match Vec::with_capacity(alloc, room) {
         Ok(buffer) => Ok(buffer),
@@ -50,10 +52,10 @@ pub(crate) fn copied(alloc: Global, bytes: &[u8]) -> Result<Vec<u8>, MemoryRefus
 }
 
 /// Returns an empty list of events with room for this many.
-pub(crate) fn events_with_room(
-    alloc: Global,
-    room: usize,
-) -> Result<Events<Global>, MemoryRefused> {
+pub(crate) fn events_with_room(alloc: Global, room: usize) -> Result<Events<Global>, MemoryRefused>
+    ensures empty { IfOk result (λ events. events_in events ≡ []) }
+    ensures room { IfOk result (λ events. events_capacity events ≡ room) }
+{
     match Events::with_capacity(alloc, room) {
         Ok(events) => Ok(events),
         Err(_) => Err(MemoryRefused { marker: () }),

@@ -151,7 +151,7 @@ impl Poller {
     ghost use Rattle.srt_lobby.specs.declared.classes.Class.TheVariants.{Route};
     ghost use Rattle.srt_poller.specs.declared.ends.Ends.{Ends as TheEnds};
     ghost use Rattle.srt_poller.specs.inside.Visits.{IsTaken, IsKeptBy, IsLeft, IsKeptAfter, IsThrough, IsNoted};
-    ghost use Rattle.srt_poller.specs.inside.Served.{more_by, IsServed};
+    ghost use Rattle.srt_poller.specs.inside.Served.{more_by, IsServed, IsAttended};
     ghost use Rattle.srt_poller.specs.Reports.{nothing, one_more, with_kept};
     ghost use Rattle.srt_poller.specs.Pollers.{setting_in, named_in, arrival_in, kept_in, begun_phase, waiting, sending, listening, Waited, RoundMade};
     ghost use Rattle.srt_poller.specs.Pollers.{WaitFailed, Arrived, Listened, Resent, Replies};
@@ -467,7 +467,8 @@ impl Poller {
 
     /// Sends replies of all routes, unless one is kept, and notes whether an outbox was left before it was found empty: the
     /// next round then checks all of them, as each 64th does. Returns the routes whose outboxes were drained, or passed over
-    /// by their hints: all, unless a reply is kept.
+    /// by their hints: all, unless a reply is kept. The polling thread has served routes before, or the wait failed, so that
+    /// the replies to what was read leave in the same round.
     #[inline(always)]
     pub(crate) fn drain<R: Wait, W: Wire, G: Signals>(
         &mut self,
@@ -475,6 +476,7 @@ impl Poller {
         wire: &mut W,
         ends: &mut [Ends],
     ) -> Visits
+        requires { IsAttended (G.served context.now.signals.now) (G.knows context.now.signals.now).fault }
         ensures went { Replies (G.knows context.now.signals.now) 0 0 (length ends.old) 0 (64 * length ends.old)
             (sending (carried (W.handed wire.old) (W.attempts wire.old)) ends.old self.old)
             (sending (carried (W.handed wire.new) (W.attempts wire.new)) ends.new self.new) }

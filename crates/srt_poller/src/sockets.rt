@@ -1,6 +1,6 @@
 //! A source and a wire over one UDP socket: of IPv4, or of IPv6 and then with the callers over IPv4 too.
 
-ghost use Rattle.std.specs.Prelude.{◌≡◌, ◌++◌, ◌∷◌, ◌==◌, [], ℕ, IfOk, IfErr, OnOk, IfSome, IfNone, length};
+ghost use Rattle.std.specs.Prelude.{◌≡◌, ◌++◌, ◌∷◌, ◌==◌, [], ℕ, IfOk, IfErr, OnOk, OnErr, IfSome, IfNone, length};
 ghost use Rattle.std.specs.Prelude.{option_map};
 ghost use Rattle.std.specs.Duration.{as_nanos};
 ghost use Rattle.std.specs.Net.Addr.{ipv4_octets};
@@ -9,14 +9,15 @@ ghost use Rattle.srt_poller.specs.declared.devices.Read.TheVariants.{Datagram};
 ghost use Rattle.srt_poller.specs.declared.sockets.Family.TheVariants.{V4 as OfIpv4};
 ghost use Rattle.srt_poller.specs.Addresses.{mapped, family_of, HasAddress, HasIpv4, HasIpv6, IsTarget};
 ghost use Rattle.srt_poller.specs.Pauses.{limit};
-ghost use Rattle.srt_poller.specs.SystemCalls.{notes_of, binding_notes, opening_notes};
+ghost use Rattle.srt_poller.specs.SystemCalls.{notes_of, binding_notes, opening_notes, IsRefusedBinding, IsRefusedOpening};
+ghost use Rattle.mio.specs.Events.{capacity as events_capacity};
 ghost use Rattle.srt_poller.specs.Sockets.{fault_of};
 
 use crate::devices::{Clock, Polled, Read, Sent, Source, Wire};
 use crate::memory::{MemoryRefused, events_with_room, shared};
 use crate::pace::{Pace, Pause};
 use crate::tuning::RECEIVE_BUFFER;
-use called::{Marks, RegisteredPoll, Socket, SocketPoll};
+use called::{Marks, RegisteredPoll, Socket};
 use mio::Events;
 use srt_types::Peer;
 use srt_types::protocol_limits::READ_ROOM;
@@ -35,13 +36,21 @@ mod system;
 
 pub use called::SystemRefusal;
 
+/// What was refused while a source was opened, by evidence.
+#[derive(Drop)]
+pub(crate) enum OpeningRefusal {
+    /// The system refused a socket at this address, or refused to poll it.
+    Socket(SystemRefusal),
+    /// An allocation was refused.
+    Memory(MemoryRefused),
+}
+
 /// Why a source wasn't opened, by evidence. Nothing is kept then.
 #[derive(Drop)]
-pub enum Unopened {
-    /// The system refused a socket at this address, or refused to poll it.
-    Refused(SystemRefusal),
-    /// An allocation was refused.
-    OutOfMemory(MemoryRefused),
+pub struct Unopened {
+    refusal: OpeningRefusal,
+    // for contracts alone
+    calls: SystemCalls,
 }
 
 /// Why a socket could not be bound. Nothing is kept then. Its text is the line that the program prints.
@@ -71,6 +80,17 @@ struct Shared {
     marks: Marks,
 }
 
+/// What the system says of a socket once it is bound. It stays so.
+#[derive(Drop)]
+pub(crate) struct SocketFacts {
+    // the size of its receive buffer, if the system gives it
+    room: Option<u32>,
+    // its own address, if the system gives it
+    address: Option<SocketAddr>,
+    // for contracts alone
+    calls: SystemCalls,
+}
+
 /// A source over a UDP socket. It doesn't record its datagrams and calls, so `gave` and `calls` are `None`.
 #[derive(Drop)]
 pub struct MioSource<C: Clock> {
@@ -80,6 +100,7 @@ pub struct MioSource<C: Clock> {
     clock: C,
     pace: Pace,
     failures: u64,
+    facts: SocketFacts,
     // for contracts alone
     calls: SystemCalls,
 }
@@ -181,9 +202,9 @@ impl Unopened {
     pub fn fault(&self) -> BindFault
         ensures { result ≡ fault_of self.now }
     {
-        match self {
-            Unopened::Refused(refusal) => BindFault::Socket(refusal.number()),
-            Unopened::OutOfMemory(_) => BindFault::OutOfMemory,
+        match &self.refusal {
+            OpeningRefusal::Socket(refusal) => BindFault::Socket(refusal.number()),
+            OpeningRefusal::Memory(_) => BindFault::OutOfMemory,
         }
     }
 }
@@ -196,12 +217,31 @@ impl Shared {
         alloc: Global,
         socket: Socket,
     ) -> Result<(Events<Global>, Arc<Shared>, Arc<Shared>), MemoryRefused>
-        ensures { IfOk result (λ r. ((arc_value r.1).socket ≡ socket) × ((arc_value r.2).socket ≡ socket)) }
+        ensures socket { IfOk result (λ r. ((arc_value r.1).socket ≡ socket) × ((arc_value r.2).socket ≡ socket)) }
+        ensures room { IfOk result (λ r. events_capacity r.0 ≡ 4) }
     {
         let events = events_with_room(alloc, 4)?;
         let marks = Marks::new();
         let (ours, theirs) = shared(alloc, Shared { socket, marks })?;
         Ok((events, ours, theirs))
+    }
+}
+
+impl SocketFacts {
+    ghost use Rattle.srt_poller.specs.Sockets.{AreNoted};
+
+    // What the system says of this socket, asked now.
+    fn read(alloc: Global, socket: &Socket) -> SocketFacts
+        ensures { AreNoted result }
+    {
+        let mut calls = SystemCalls::new(alloc);
+        let room = calls.read_room(socket);
+        let address = calls.read_address(socket);
+        SocketFacts {
+            room,
+            address,
+            calls,
+        }
     }
 }
 
@@ -221,7 +261,8 @@ fn socket_at<N: Net>(
     net: &N,
     addr: SocketAddr,
 ) -> Result<Socket, SystemRefusal>
-    ensures { OnOk result (notes_of calls.new ≡ notes_of calls.old ++ binding_notes addr) }
+    ensures bound { OnOk result (notes_of calls.new ≡ notes_of calls.old ++ binding_notes addr) }
+    ensures refused { OnErr result (IsRefusedBinding addr (notes_of calls.old) (notes_of calls.new)) }
 {
     match addr {
         SocketAddr::V4(_) => calls.bind(net, addr),
@@ -235,11 +276,13 @@ fn polled_at<N: Net>(
     net: &N,
     addr: SocketAddr,
 ) -> Result<(RegisteredPoll, Socket), SystemRefusal>
-    ensures { OnOk result (notes_of calls.new ≡ notes_of calls.old ++ opening_notes addr) }
+    ensures opened { OnOk result (notes_of calls.new ≡ notes_of calls.old ++ opening_notes addr) }
+    ensures refused { OnErr result (IsRefusedOpening addr (notes_of calls.old) (notes_of calls.new)) }
 {
     let mut socket = socket_at(calls, net, addr)?;
     calls.ask_for_room(&socket, RECEIVE_BUFFER);
-    let poll = calls.register(SocketPoll::new(net)?, &mut socket)?;
+    let unregistered = calls.open_poll(net)?;
+    let poll = calls.register(unregistered, &mut socket)?;
     Ok((poll, socket))
 }
 
@@ -256,15 +299,13 @@ fn limit_of(pause: Pause) -> Option<Duration>
 impl<C: Clock> MioSource<C> {
     ghost use Rattle.srt_mailbox.specs.Counts.{Grew};
     ghost use Rattle.srt_poller.specs.declared.devices.Polled.TheVariants.{Failed as PollFailed};
-    ghost use Rattle.srt_poller.specs.Sockets.{bound_at};
-    ghost use Rattle.std.specs.Arc.{arc_value};
-    ghost use Rattle.srt_poller.specs.Pauses.{at_first};
+    ghost use Rattle.srt_poller.specs.Sockets.{bound_at, AreOpened, IsUnopened, receive_buffer_of, address_of};
 
     /// Binds a UDP socket at this address and returns a source and a wire over it. With port 0 the system chooses the
     /// port. A socket at `::` also has callers over IPv4, whose addresses are `::ffff:a.b.c.d`, whatever the system's
     /// default is; of an IPv6 address the port and the 16 bytes alone count. The clock gives the moment of each datagram
     /// as it is read. The system is asked for a receive buffer of 4 MiB; what it gave is `receive_buffer`. Allocates. The error
-    /// is evidence of what the system, or the allocator, refused.
+    /// is evidence of what the system, or the allocator, refused, after the calls that come before it.
     pub fn open<N: Net>(
         net: &N,
         alloc: Global,
@@ -273,21 +314,26 @@ impl<C: Clock> MioSource<C> {
     ) -> Result<(MioSource<C>, MioWire), Unopened>
     where
         C: Drop,
-        ensures source { IfOk result (λ r. ⟦<MioSource<C> as Source>⟧.failures r.0 ≡ 0) }
-        ensures wire { IfOk result (λ r. ⟦<MioWire as Wire>⟧.failures r.1 ≡ 0) }
         ensures bound { IfOk result (λ r. bound_at r.1 ≡ addr) }
         ensures opened { IfOk result (λ r. (notes_of r.0.calls ≡ opening_notes addr) × (notes_of r.1.calls ≡ [])) }
-        ensures same { IfOk result (λ r. (arc_value r.0.shared).socket ≡ (arc_value r.1.shared).socket) }
-        ensures pace { IfOk result (λ r. r.0.pace ≡ at_first) }
+        ensures pair { IfOk result (λ r. AreOpened clock r.0 r.1) }
+        ensures refused { IfErr result (λ unopened. IsUnopened addr unopened) }
     {
         let mut calls = SystemCalls::new(alloc);
         let (poll, socket) = match polled_at(&mut calls, net, addr) {
             Ok(polled) => polled,
-            Err(refusal) => return Err(Unopened::Refused(refusal)),
+            Err(refusal) => {
+                let refusal = OpeningRefusal::Socket(refusal);
+                return Err(Unopened { refusal, calls });
+            }
         };
+        let facts = SocketFacts::read(alloc, &socket);
         let (events, ours, theirs) = match Shared::share(alloc, socket) {
             Ok(shared) => shared,
-            Err(refused) => return Err(Unopened::OutOfMemory(refused)),
+            Err(refused) => {
+                let refusal = OpeningRefusal::Memory(refused);
+                return Err(Unopened { refusal, calls });
+            }
         };
         let source = MioSource {
             poll,
@@ -296,6 +342,7 @@ impl<C: Clock> MioSource<C> {
             clock,
             pace: Pace::new(),
             failures: 0,
+            facts,
             calls,
         };
         let wire = MioWire {
@@ -316,12 +363,9 @@ impl<C: Clock> MioSource<C> {
     ) -> Result<(MioSource<C>, MioWire), BindFault>
     where
         C: Drop,
-        ensures source { IfOk result (λ r. ⟦<MioSource<C> as Source>⟧.failures r.0 ≡ 0) }
-        ensures wire { IfOk result (λ r. ⟦<MioWire as Wire>⟧.failures r.1 ≡ 0) }
         ensures bound { IfOk result (λ r. bound_at r.1 ≡ addr) }
         ensures opened { IfOk result (λ r. (notes_of r.0.calls ≡ opening_notes addr) × (notes_of r.1.calls ≡ [])) }
-        ensures same { IfOk result (λ r. (arc_value r.0.shared).socket ≡ (arc_value r.1.shared).socket) }
-        ensures pace { IfOk result (λ r. r.0.pace ≡ at_first) }
+        ensures pair { IfOk result (λ r. AreOpened clock r.0 r.1) }
     {
         match MioSource::open(net, alloc, addr, clock) {
             Ok(devices) => Ok(devices),
@@ -329,17 +373,19 @@ impl<C: Clock> MioSource<C> {
         }
     }
 
-    /// The size in bytes of the receive buffer that the system gave the socket, as it counts it (SO_RCVBUF; on Linux twice
-    /// what was requested, where no limit is below that). `None` if the system doesn't give it. No clause states the size,
-    /// since the library states nothing of what the system returns.
-    pub fn receive_buffer(&self) -> Option<u32> {
-        self.shared.socket.room()
+    /// The size in bytes of the receive buffer that the system gave the socket at its opening, as it counts it (SO_RCVBUF; on
+    /// Linux twice what was requested, where no limit is below that). `None` if the system doesn't give it.
+    pub fn receive_buffer(&self) -> Option<u32>
+        ensures { result ≡ receive_buffer_of self.now }
+    {
+        self.facts.room
     }
 
-    /// The socket's own address, with the port that the system chose. `None` if the system doesn't give it. No clause
-    /// states it, since the library states nothing of what the system returns.
-    pub fn address(&self) -> Option<SocketAddr> {
-        self.shared.socket.address()
+    /// The socket's own address, with the port that the system chose. `None` if the system doesn't give it.
+    pub fn address(&self) -> Option<SocketAddr>
+        ensures { result ≡ address_of self.now }
+    {
+        self.facts.address
     }
 }
 
@@ -365,7 +411,8 @@ impl<C: Clock> Source for MioSource<C> {
             joined (⟦<MioSource<C> as Source>⟧.calls self.old) (call_of_wait result ∷ []) }
         ensures waits { IsWait self.old.pace self.new.pace (notes_of self.old.calls) (notes_of self.new.calls) result }
         ensures counts { self.new.failures ≡ failures_after_wait result self.old.failures }
-        ensures stays { (self.new.shared ≡ self.old.shared) × (self.new.clock ≡ self.old.clock) }
+        ensures stays { (self.new.shared ≡ self.old.shared) × (self.new.clock ≡ self.old.clock) × (self.new.facts ≡ self.old.facts) }
+        ensures room { events_capacity self.new.events ≡ events_capacity self.old.events }
     {
         if self.calls.take_put_off(&self.shared.marks) {
             self.pace.put_off();
@@ -394,7 +441,7 @@ impl<C: Clock> Source for MioSource<C> {
         ensures reads { IsRead (notes_of self.old.calls) (notes_of self.new.calls) buffer.new result }
         ensures counts { self.new.failures ≡ failures_after_read result self.old.failures }
         ensures paced { self.new.pace ≡ after_read result self.old.pace }
-        ensures stays { self.new.shared ≡ self.old.shared }
+        ensures stays { (self.new.shared ≡ self.old.shared) × (self.new.facts ≡ self.old.facts) × (self.new.events ≡ self.old.events) }
     {
         match self.calls.receive(&self.shared.socket, buffer) {
             Received::Datagram(len, from) => {

@@ -24,8 +24,8 @@ use crate::tests::datagrams::{
 };
 use crate::{
     BindFault, ClockScript, Ends, MioSource, MioWire, Polled, PollerTask, Pumping, Read, Report,
-    ScriptDatagram, Sent, Signals, Source, SourceScript, SourceStep, Unopened, Wire, WireScript,
-    pump, pump_under,
+    ScriptDatagram, Sent, Signals, Source, SourceScript, SourceStep, Wire, WireScript, pump,
+    pump_under,
 };
 use mio::net::UdpSocket;
 use srt_cookie::Secret;
@@ -606,7 +606,7 @@ type Socket = (MioSource<ClockScript>, MioWire);
 /// A source and a wire at this port, or at one that the system chooses.
 fn bound<N: Net>(net: &N, alloc: Global, port: u16) -> Result<Socket, Fail> {
     let clock = ClockScript::new(vec![in alloc; 7]?);
-    match MioSource::bind(net, alloc, local(port), clock) {
+    match MioSource::open(net, alloc, local(port), clock) {
         Ok(ends) => Ok(ends),
         Err(_) => Err(Fail::from("the socket is bound")),
     }
@@ -750,7 +750,7 @@ fn a_send_that_the_system_refuses_fails(rt: HostRuntime) -> Result<(), Fail> {
 fn each_datagram_of_a_socket_has_its_clocks_next_moment(rt: HostRuntime) -> Result<(), Fail> {
     let alloc = rt.alloc();
     let clock = ClockScript::new(vec![in alloc; 1_000_001, 1_000_003, 5_000_000]?);
-    let Ok((mut source, _wire)) = MioSource::bind(&rt, alloc, local(0), clock) else {
+    let Ok((mut source, _wire)) = MioSource::open(&rt, alloc, local(0), clock) else {
         return Err(Fail::from("the socket is bound"));
     };
     let mut buffer = [0u8; 2048];
@@ -770,29 +770,13 @@ fn a_port_that_is_taken_is_refused(rt: HostRuntime) -> Result<(), Fail> {
     let (source, _wire) = bound(&rt, alloc, 0)?;
     let taken = local(address(&source)?.port());
     let clock = ClockScript::new(Vec::new(alloc));
-    match MioSource::bind(&rt, alloc, taken, clock) {
-        Ok(_) => Err(Fail::from("a port is bound twice")),
-        Err(fault) => {
-            // EADDRINUSE
-            assert!(&rt; fault == BindFault::Socket(Some(98)));
-            Ok(())
-        }
-    }
-}
-
-#[test]
-fn what_the_system_refused_has_its_number(rt: HostRuntime) -> Result<(), Fail> {
-    let alloc = rt.alloc();
-    let (source, _wire) = bound(&rt, alloc, 0)?;
-    let taken = local(address(&source)?.port());
-    let clock = ClockScript::new(Vec::new(alloc));
     match MioSource::open(&rt, alloc, taken, clock) {
-        Err(Unopened::Refused(refusal)) => {
+        Ok(_) => Err(Fail::from("a port is bound twice")),
+        Err(unopened) => {
             // EADDRINUSE
-            assert_eq!(&rt; refusal.number(), Some(98));
+            assert!(&rt; unopened.fault() == BindFault::Socket(Some(98)));
             Ok(())
         }
-        _ => Err(Fail::from("the port is refused")),
     }
 }
 

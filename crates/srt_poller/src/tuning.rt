@@ -27,7 +27,7 @@ pub(crate) const DENSE: u32 = 20;
 pub(crate) const TOO_DENSE: u32 = 100;
 
 /// A nap, in nanoseconds.
-pub(crate) const NAP_NS: i64 = 100_000;
+pub(crate) const NAP_NS: u32 = 100_000;
 
 /// The size of the receive buffer that is requested from the system, in bytes (SO_RCVBUF).
 pub(crate) const RECEIVE_BUFFER: u32 = 4_194_304;

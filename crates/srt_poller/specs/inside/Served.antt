@@ -11,3 +11,7 @@ more_by (suc n) count = one_more (more_by n count)
 -- `new` are the report's counts of datagrams
 abbrev pub IsServed : (served : ℕ → Type 0) → (fault : Type 0) → (old new : ℕ) → Type 0
 IsServed served fault old new = ((n : ℕ) × (n ≤ 256) × (new ≡ more_by n old) × served n) ⊎ ((new ≡ old) × fault)
+
+-- the service was told of some round's datagrams, or a fault was reported
+abbrev pub IsAttended : (served : ℕ → Type 0) → (fault : Type 0) → Type 0
+IsAttended served fault = ((n : ℕ) × served n) ⊎ fault

@@ -24,7 +24,7 @@ fn free_port<N: Net>(net: &N) -> Result<u16, Fail> {
 fn a_read_that_the_system_fails_is_not_an_empty_one(rt: HostRuntime) -> Result<(), Fail> {
     let clock = ClockScript::new(Vec::new(rt.alloc()));
     let local = SocketAddr::V4(SocketAddrV4::new(loopback(), 0));
-    let Ok((mut source, mut wire)) = MioSource::bind(&rt, rt.alloc(), local, clock) else {
+    let Ok((mut source, mut wire)) = MioSource::open(&rt, rt.alloc(), local, clock) else {
         return Err(Fail::from("the socket is bound"));
     };
     let port = free_port(&rt)?;

@@ -2,12 +2,14 @@
 //! calls, and each gives evidence that has to be noted. Nothing else can note a call, so that all else is proved to call with
 //! these values, so often, and to use each answer.
 
-ghost use Rattle.std.specs.Prelude.{◌≡◌, ◌≢◌, ℕ, ◌≤◌, pos, ◌∷◌, ◌++◌, [], IfOk, IfErr, OnOk, slice_index};
+ghost use Rattle.std.specs.Prelude.{◌≡◌, ◌≢◌, ℕ, ◌≤◌, ◌∷◌, ◌++◌, [], IfOk, IfErr, OnOk, slice_index};
 ghost use Rattle.std.specs.Duration.{as_nanos};
+ghost use Rattle.mio.specs.Events.{capacity as events_capacity};
 ghost use Rattle.std.specs.IoError.{error_kind};
 ghost use Rattle.std.specs.declared.net.socket_addr.SocketAddr.{SocketAddr as TheAddress};
 ghost use Rattle.std.specs.declared.io.ErrorKind.TheVariants.{WouldBlock};
-ghost use Rattle.srt_poller.specs.SystemCalls.{end_of_send, count_of_send, end_of_read, count_of_read, end_of_poll, end_of_opening};
+ghost use Rattle.std.specs.Net.Socket.{socket_port, socket_flowinfo, socket_scope_id};
+ghost use Rattle.srt_poller.specs.SystemCalls.{end_of_send, count_of_send, end_of_poll, end_of_opening, end_of_reading, count_of_reading};
 ghost use Rattle.srt_poller.specs.declared.devices.Polled.TheVariants as ThePolled;
 ghost use Rattle.srt_poller.specs.declared.sockets.system.Handed.TheVariants as TheHanded;
 ghost use Rattle.srt_poller.specs.declared.sockets.system.Received.TheVariants as TheReceived;
@@ -17,50 +19,58 @@ use crate::sockets::called::{
     self, CallNotes, Called, Marks, RegisteredPoll, Socket, SocketPoll, SystemRefusal,
 };
 use crate::tuning::NAP_NS;
-use libc::types::timespec;
 use mio::Events;
 use srt_types::protocol_limits::READ_ROOM;
 use std::alloc::Global;
 use std::io::{self, ErrorKind};
-use std::net::{Net, SocketAddr};
+use std::net::{IpAddr, Net, SocketAddr};
 use std::time::Duration;
 
 /// The numbers of the calls in the notes.
-const SEND: u64 = 0;
+pub(super) const SEND: u64 = 0;
 
-const READ: u64 = 1;
+pub(super) const READ: u64 = 1;
 
-const POLL: u64 = 2;
+pub(super) const POLL: u64 = 2;
 
-const NAP: u64 = 3;
+pub(super) const NAP: u64 = 3;
 
-const TAKE_PUT_OFF: u64 = 4;
+pub(super) const TAKE_PUT_OFF: u64 = 4;
 
-const TAKE_SENT: u64 = 5;
+pub(super) const TAKE_SENT: u64 = 5;
 
-const MARK_PUT_OFF: u64 = 6;
+pub(super) const MARK_PUT_OFF: u64 = 6;
 
-const COUNT_SENT: u64 = 7;
+pub(super) const COUNT_SENT: u64 = 7;
 
-const BIND: u64 = 8;
+pub(super) const BIND: u64 = 8;
 
-const OPEN_IPV6: u64 = 9;
+pub(super) const OPEN_IPV6: u64 = 9;
 
-const LET_IPV4_IN: u64 = 10;
+pub(super) const LET_IPV4_IN: u64 = 10;
 
-const BIND_IPV6: u64 = 11;
+pub(super) const BIND_IPV6: u64 = 11;
 
-const ASK_FOR_ROOM: u64 = 12;
+pub(super) const ASK_FOR_ROOM: u64 = 12;
 
-const REGISTER: u64 = 13;
+pub(super) const REGISTER: u64 = 13;
+
+pub(super) const OPEN_POLL: u64 = 14;
+
+pub(super) const READ_ROOM_SIZE: u64 = 15;
+
+pub(super) const READ_ADDRESS: u64 = 16;
+
+/// The kind of a socket over IPv6, as its note has it: one of datagrams that doesn't block and isn't inherited.
+const IPV6_SOCKET: u64 = 526_338;
 
 /// How a call ended: it did what it does.
-const DONE: u64 = 0;
+pub(super) const DONE: u64 = 0;
 
 /// There is no room, or nothing to read.
-const NONE_NOW: u64 = 1;
+pub(super) const NONE_NOW: u64 = 1;
 
-const FAILED: u64 = 2;
+pub(super) const FAILED: u64 = 2;
 
 /// The answer to a send.
 #[derive(Clone, Copy)]
@@ -148,17 +158,6 @@ pub(super) fn noted_send(answer: Handed) -> [u64; 2]
     }
 }
 
-/// How a read ended and the number of its bytes, as its note has them.
-pub(super) fn noted_read(answer: Received) -> [u64; 2]
-    ensures { result ≡ end_of_read answer ∷ count_of_read answer ∷ [] }
-{
-    match answer {
-        Received::Datagram(len, _) => [DONE, len as u64],
-        Received::Nothing => [NONE_NOW, 0],
-        Received::Failed => [FAILED, 0],
-    }
-}
-
 /// How a wait ended, as its note has it.
 pub(super) fn noted_poll(answer: Polled) -> u64
     ensures { result ≡ end_of_poll answer }
@@ -179,21 +178,37 @@ pub(super) fn noted_opening<T, E>(answer: &Result<T, E>) -> u64
     }
 }
 
-/// A tenth of a millisecond.
-fn short_nap() -> timespec
-    ensures { (result.tv_sec ≡ pos 0) × (result.tv_nsec ≡ pos 100_000) }
+/// How a read of the receive buffer's size ended, and the size, as its note has them.
+pub(super) fn noted_room(answer: Option<u32>) -> [u64; 2]
+    ensures { result ≡ end_of_reading answer ∷ count_of_reading answer ∷ [] }
 {
-    timespec {
-        tv_sec: 0,
-        tv_nsec: NAP_NS,
+    match answer {
+        Some(room) => [DONE, u64::from(room)],
+        None => [FAILED, 0],
+    }
+}
+
+/// The numbers of a note with an address: the call's own, how it ended with which number, and those of the address.
+pub(super) fn numbers_at(of: [u64; 3], address: SocketAddr) -> [u64; 6]
+    ensures { result ≡ slice_index of 0 ∷ slice_index of 1 ∷ slice_index of 2 ∷
+        socket_port address ∷ socket_flowinfo address ∷ socket_scope_id address ∷ [] }
+{
+    let [call, end, number] = of;
+    match address {
+        SocketAddr::V4(it) => [call, end, number, u64::from(it.port()), 0, 0],
+        SocketAddr::V6(it) => {
+            let label = u64::from(it.flowinfo());
+            let zone = u64::from(it.scope_id());
+            [call, end, number, u64::from(it.port()), label, zone]
+        }
     }
 }
 
 impl SystemCalls {
-    ghost use Rattle.std.specs.Net.Socket.{socket_port, socket_flowinfo, socket_scope_id};
-    ghost use Rattle.srt_poller.specs.SystemCalls.{IsNoteOf, notes_of, note_at, send_note, receive_note, poll_note, nap_note};
+    ghost use Rattle.srt_poller.specs.SystemCalls.{IsEvidence, notes_of, note_at, send_note, receive_note, poll_note, nap_note};
     ghost use Rattle.srt_poller.specs.SystemCalls.{put_off_note, sent_note, mark_note, count_note};
     ghost use Rattle.srt_poller.specs.SystemCalls.{bind_note, open_note, callers_note, name_note, room_note, register_note};
+    ghost use Rattle.srt_poller.specs.SystemCalls.{open_poll_note, read_room_note, read_address_note};
 
     /// None yet, as `CallNotes::new`.
     pub(super) fn new(alloc: Global) -> SystemCalls
@@ -206,7 +221,7 @@ impl SystemCalls {
 
     // Notes a call by numbers alone.
     fn note(&mut self, called: Called, numbers: &[u64])
-        requires { IsNoteOf called numbers.now }
+        requires { IsEvidence (numbers.now, [], []) called }
         ensures { notes_of self.new ≡ notes_of self.old ++ (numbers.now, [], []) ∷ [] }
     {
         self.notes.note(called, numbers, &[], &[]);
@@ -214,21 +229,13 @@ impl SystemCalls {
 
     // Notes a call by its own number, and how it ended with which number, with an address and bytes.
     fn note_at(&mut self, called: Called, of: [u64; 3], address: SocketAddr, bytes: &[u8])
-        requires { IsNoteOf called of }
+        requires { IsEvidence (note_at (slice_index of 0) (slice_index of 1) (slice_index of 2) address bytes.now) called }
         ensures { notes_of self.new ≡ notes_of self.old ++ note_at (slice_index of 0) (slice_index of 1) (slice_index of 2) address bytes.now ∷ [] }
     {
-        let [call, end, number] = of;
-        match address {
-            SocketAddr::V4(it) => {
-                let numbers = [call, end, number, u64::from(it.port()), 0, 0];
-                self.notes.note(called, &numbers, &it.ip().octets(), bytes);
-            }
-            SocketAddr::V6(it) => {
-                let label = u64::from(it.flowinfo());
-                let zone = u64::from(it.scope_id());
-                let numbers = [call, end, number, u64::from(it.port()), label, zone];
-                self.notes.note(called, &numbers, &it.ip().octets(), bytes);
-            }
+        let numbers = numbers_at(of, address);
+        match address.ip() {
+            IpAddr::V4(ip) => self.notes.note(called, &numbers, &ip.octets(), bytes),
+            IpAddr::V6(ip) => self.notes.note(called, &numbers, &ip.octets(), bytes),
         }
     }
 
@@ -265,7 +272,8 @@ impl SystemCalls {
         events: &mut Events<Global>,
         most: Duration,
     ) -> Polled
-        ensures { notes_of self.new ≡ notes_of self.old ++ poll_note (as_nanos most) result ∷ [] }
+        ensures noted { notes_of self.new ≡ notes_of self.old ++ poll_note (as_nanos most) result ∷ [] }
+        ensures room { events_capacity events.new ≡ events_capacity events.old }
     {
         let (answer, called) = poll.poll(events, most);
         let end = noted_poll(answer);
@@ -278,14 +286,10 @@ impl SystemCalls {
 
     /// Sleeps for a tenth of a millisecond, or until a signal.
     pub(super) fn nap(&mut self)
-        ensures { notes_of self.new ≡ notes_of self.old ++ nap_note ∷ [] }
+        ensures { notes_of self.new ≡ notes_of self.old ++ nap_note 100_000 ∷ [] }
     {
-        let mut left = timespec {
-            tv_sec: 0,
-            tv_nsec: 0,
-        };
-        let (_, called) = called::nap(&short_nap(), &mut left);
-        self.note(called, &[NAP]);
+        let called = called::nap(NAP_NS);
+        self.note(called, &[NAP, u64::from(NAP_NS)]);
     }
 
     /// Takes the mark that a send was put off.
@@ -340,7 +344,7 @@ impl SystemCalls {
         ensures { notes_of self.new ≡ notes_of self.old ++ open_note (end_of_opening result) ∷ [] }
     {
         let (answer, called) = Socket::open_ipv6();
-        self.note(called, &[OPEN_IPV6, noted_opening(&answer)]);
+        self.note(called, &[OPEN_IPV6, noted_opening(&answer), IPV6_SOCKET]);
         answer
     }
 
@@ -349,7 +353,8 @@ impl SystemCalls {
         ensures { notes_of self.new ≡ notes_of self.old ++ callers_note (end_of_opening result) ∷ [] }
     {
         let (answer, called) = socket.let_ipv4_in();
-        self.note(called, &[LET_IPV4_IN, noted_opening(&answer)]);
+        let end = noted_opening(&answer);
+        self.notes.note(called, &[LET_IPV4_IN, end], &[], &[0; 16]);
         answer
     }
 
@@ -371,6 +376,15 @@ impl SystemCalls {
         self.note(called, &[ASK_FOR_ROOM, u64::from(size)]);
     }
 
+    /// Opens a poll, which has no socket yet.
+    pub(super) fn open_poll<N: Net>(&mut self, net: &N) -> Result<SocketPoll, SystemRefusal>
+        ensures { notes_of self.new ≡ notes_of self.old ++ open_poll_note (end_of_opening result) ∷ [] }
+    {
+        let (answer, called) = SocketPoll::new(net);
+        self.note(called, &[OPEN_POLL, noted_opening(&answer)]);
+        answer
+    }
+
     /// Has the socket polled for datagrams that may be read.
     pub(super) fn register(
         &mut self,
@@ -382,6 +396,28 @@ impl SystemCalls {
     {
         let (answer, called) = poll.register(socket);
         self.note(called, &[REGISTER, noted_opening(&answer)]);
+        answer
+    }
+
+    /// Reads the size of the socket's receive buffer. `None` if the system doesn't give it.
+    pub(super) fn read_room(&mut self, socket: &Socket) -> Option<u32>
+        ensures { notes_of self.new ≡ notes_of self.old ++ read_room_note result ∷ [] }
+    {
+        let (answer, called) = socket.room();
+        let [end, count] = noted_room(answer);
+        self.note(called, &[READ_ROOM_SIZE, end, count]);
+        answer
+    }
+
+    /// Reads the socket's own address. `None` if the system doesn't give it.
+    pub(super) fn read_address(&mut self, socket: &Socket) -> Option<SocketAddr>
+        ensures { notes_of self.new ≡ notes_of self.old ++ read_address_note result ∷ [] }
+    {
+        let (answer, called) = socket.address();
+        match answer {
+            Some(address) => self.note_at(called, [READ_ADDRESS, DONE, 0], address, &[]),
+            None => self.note(called, &[READ_ADDRESS, FAILED]),
+        }
         answer
     }
 }

@@ -4,9 +4,13 @@ use Rattle.srt_poller.specs.History.{Sending}
 use Rattle.srt_poller.specs.Pollers.{sorting, named_in, round_state}
 use Rattle.srt_poller.specs.inside.Visits.{IsNoted}
 use Rattle.srt_poller.specs.inside.Served.{IsServed}
-use Rattle.srt_poller.proofs.ReadCounts.{served_as}
+use Rattle.srt_poller.proofs.ReadCounts.{served_as, attended}
 use Rattle.srt_poller.proofs.Steps.{went_then, went_as, went_more, up_to_over}
 use Rattle.srt_poller.proofs.poller.Poller.make_round.Goals as goal
+
+pub drain-requires : goal.drain-requires
+drain-requires g c =
+    attended c.listen.result c.resend.new.self.report.read c.listen.new.self.report.read c.listen.ensures.failed c.serve_inline.ensures
 
 pub returns-clause-made : goal.returns-clause-made
 returns-clause-made g c schedules round =
