@@ -1,10 +1,10 @@
 -- A caller's address and port in a line.
-use Rattle.std.specs.Prelude.{ℕ, ◌+◌, List, [], ◌∷◌, ◌++◌, take, slice_index, codes, decimal, if◌then◌else◌}
-use Rattle.std.specs.Str.{bytes_eq}
+use Rattle.std.specs.Prelude.{ℕ, ◌+◌, List, [], ◌∷◌, ◌++◌, slice_index, codes, decimal, if◌then◌else◌}
 use Rattle.std.specs.List.{flat_map}
 use Rattle.std.specs.Net.Addr.{segments_of}
 use Rattle.std.specs.Net.Text.{hex, hex_groups_text}
 use Rattle.srt_types.specs.declared.shared.Peer.{Peer}
+use Rattle.srt_types.specs.Access.{is_mapped}
 
 -- the bytes from an index on
 abbrev pub four_from : (at : ℕ) → (ip : List ℕ) → List ℕ
@@ -26,13 +26,9 @@ next_groups groups = flat_map next_group groups
 abbrev pub ipv6_text : (ip : List ℕ) → List ℕ
 ipv6_text ip = codes "[" ++ hex_groups_text (segments_of ip) ++ codes "]"
 
--- the first twelve bytes of ::ffff:a.b.c.d
-abbrev pub mapped : List ℕ
-mapped = 0 ∷ 0 ∷ 0 ∷ 0 ∷ 0 ∷ 0 ∷ 0 ∷ 0 ∷ 0 ∷ 0 ∷ 255 ∷ 255 ∷ []
-
 -- an address: IPv4 in its own form
 abbrev pub ip_text : (ip : List ℕ) → List ℕ
-ip_text ip = if bytes_eq (take 12 ip) mapped then ipv4_text (four_from 12 ip) else ipv6_text ip
+ip_text ip = if is_mapped ip then ipv4_text (four_from 12 ip) else ipv6_text ip
 
 abbrev pub socket_text : (ip : List ℕ) → (port : ℕ) → List ℕ
 socket_text ip port = ip_text ip ++ codes ":" ++ decimal port

@@ -6,11 +6,8 @@ ghost use Rattle.srt_log.specs.Texts.{put};
 ghost use Rattle.srt_log.specs.Peers.{next_group, next_groups, ip_text, ipv4_text, ipv6_text, socket_text, peer_text};
 
 use crate::line::{Line, hex_digit};
-use srt_types::Peer;
+use srt_types::{Peer, is_mapped};
 use std::net::Ipv6Addr;
-
-/// The first twelve bytes of an IPv4 address in the form `::ffff:a.b.c.d`.
-const MAPPED: [u8; 12] = [0, 0, 0, 0, 0, 0, 0, 0, 0, 0, 0xff, 0xff];
 
 #[tactic(auto, using(crate::proofs::Puts::put_put))]
 fn put_ipv4(line: &mut Line, ip: [u8; 4])
@@ -133,7 +130,7 @@ fn put_ipv6(line: &mut Line, ip: [u8; 16])
 pub(crate) fn put_ip(line: &mut Line, ip: [u8; 16])
     ensures { line.new.text.items ≡ put line.old.text.items (ip_text ip) }
 {
-    if ip[..12] == MAPPED[..] {
+    if is_mapped(&ip) {
         put_ipv4(line, [ip[12], ip[13], ip[14], ip[15]]);
     } else {
         put_ipv6(line, ip);
