@@ -1,5 +1,5 @@
 -- The line of each event.
-use Rattle.std.specs.Prelude.{ℕ, ◌/◌, Bool, ◌==◌, List, [], ◌∷◌, ◌++◌, Option, None, Some, codes, decimal, if◌then◌else◌}
+use Rattle.std.specs.Prelude.{ℕ, ◌/◌, Bool, ◌==◌, List, [], ◌∷◌, ◌++◌, Option, None, Some, codes, decimal, length, if◌then◌else◌}
 use Rattle.std.specs.Fmt.{signed_decimal}
 use Rattle.srt_types.specs.declared.shared.Peer.{Peer}
 use Rattle.srt_types.specs.declared.shared.Role.{Role}
@@ -89,20 +89,21 @@ key_text Request = codes ", request_key missing or wrong"
 -- what stood against a caller
 abbrev pub refused_by_text : Option NotAdmitted → List ℕ
 refused_by_text None = []
-refused_by_text (Some obstacles.NoName) = codes ", no name"
+refused_by_text (Some obstacles.NoName) = codes ", no valid name"
 refused_by_text (Some obstacles.UnknownName) = codes ", unknown name"
 refused_by_text (Some (obstacles.Address role)) = list_text role
 refused_by_text (Some (obstacles.Key role)) = key_text role
 
-abbrev pub refused_text : (code : ℕ) → Peer → (name : List ℕ) → Option NotAdmitted → List ℕ
-refused_text code peer name by =
-    peer_text peer ++ codes " refused, " ++ decimal code ++ code_text code ++ codes ", asked for \"" ++ escaped_all name ++ codes "\""
-    ++ refused_by_text by
+-- the name that was requested, if there is one
+abbrev pub name_text : (name : List ℕ) → List ℕ
+name_text name = if length name == 0 then [] else codes ", asked for \"" ++ escaped_all name ++ codes "\""
 
 -- the reason of a refusal, and what was requested
 abbrev pub asked_text : (code : ℕ) → (name : List ℕ) → Option NotAdmitted → List ℕ
-asked_text code name by =
-    decimal code ++ code_text code ++ codes ", asked for \"" ++ escaped_all name ++ codes "\"" ++ refused_by_text by
+asked_text code name by = decimal code ++ code_text code ++ name_text name ++ refused_by_text by
+
+abbrev pub refused_text : (code : ℕ) → Peer → (name : List ℕ) → Option NotAdmitted → List ℕ
+refused_text code peer name by = peer_text peer ++ codes " refused, " ++ asked_text code name by
 
 abbrev pub refused_again_text : (ip : List ℕ) → (code : ℕ) → (name : List ℕ) → Option NotAdmitted → (count : ℕ) → List ℕ
 refused_again_text ip code name by count =

@@ -179,7 +179,7 @@ fn bytes_that_callers_chose_are_escaped(rt: HostRuntime) -> Result<(), Fail> {
             name: b"",
             by: None,
         },
-        "192.0.2.7:0 refused, 1016 UNKNOWN, asked for \"\"\n",
+        "192.0.2.7:0 refused, 1016 UNKNOWN\n",
     )
 }
 
@@ -212,7 +212,7 @@ fn a_refusal_names_the_list_or_key(rt: HostRuntime) -> Result<(), Fail> {
     assert_refused_by(
         &rt,
         NotAdmitted::NoName,
-        "192.0.2.7:7 refused, 1002 PEER, asked for \"studio\", no name\n",
+        "192.0.2.7:7 refused, 1002 PEER, asked for \"studio\", no valid name\n",
     )?;
     assert_refused_by(
         &rt,

@@ -7,7 +7,7 @@ ghost use Rattle.srt_log.specs.Events.{role_text, caller_text, latency_text, ope
 ghost use Rattle.srt_log.specs.Events.{trouble_text, troubled_text, reason_text, counts_text, clock_text, ended_text, code_text, started_text};
 ghost use Rattle.srt_log.specs.Events.{list_text, key_text, refused_by_text, refused_text, limits_text, limited_text, unseen_text, unblocked_text};
 ghost use Rattle.srt_log.specs.Events.{count_text, cause_text, event_text, time_text, line_text, lasting_text, absent_text};
-ghost use Rattle.srt_log.specs.Events.{asked_text, refused_again_text};
+ghost use Rattle.srt_log.specs.Events.{name_text, asked_text, refused_again_text};
 
 use crate::config_lines::put_config;
 use crate::events::{Caller, ClockDrift, EndReason, LogEvent, SessionCounts, StopCause, Trouble};
@@ -257,7 +257,7 @@ fn put_refused_by(line: &mut Line, by: Option<NotAdmitted>)
     ensures { line.new.text.items ≡ put line.old.text.items (refused_by_text by) }
 {
     match by {
-        Some(NotAdmitted::NoName) => line.put(b", no name"),
+        Some(NotAdmitted::NoName) => line.put(b", no valid name"),
         Some(NotAdmitted::UnknownName) => line.put(b", unknown name"),
         Some(NotAdmitted::Address(role)) => put_list(line, role),
         Some(NotAdmitted::Key(role)) => put_key(line, role),
@@ -265,18 +265,18 @@ fn put_refused_by(line: &mut Line, by: Option<NotAdmitted>)
     }
 }
 
+/// Puts the name that was requested, if there is one.
 #[tactic(auto, using(crate::proofs::Puts::put_put))]
-fn put_refused(line: &mut Line, code: u32, peer: Peer, name: &[u8], by: Option<NotAdmitted>)
-    ensures { line.new.text.items ≡ put line.old.text.items (refused_text code peer name.now by) }
+fn put_name(line: &mut Line, name: &[u8])
+    ensures { line.new.text.items ≡ put line.old.text.items (name_text name.now) }
 {
-    put_peer(line, peer);
-    line.put(b" refused, ");
-    line.put_small(code);
-    put_code_name(line, code);
-    line.put(b", asked for \"");
-    line.put_escaped(name);
-    line.put(b"\"");
-    put_refused_by(line, by);
+    if name.len() == 0 {
+        line.put(b"");
+    } else {
+        line.put(b", asked for \"");
+        line.put_escaped(name);
+        line.put(b"\"");
+    }
 }
 
 /// Puts the reason of a refusal, and what was requested.
@@ -286,10 +286,18 @@ fn put_asked(line: &mut Line, code: u32, name: &[u8], by: Option<NotAdmitted>)
 {
     line.put_small(code);
     put_code_name(line, code);
-    line.put(b", asked for \"");
-    line.put_escaped(name);
-    line.put(b"\"");
+    put_name(line, name);
     put_refused_by(line, by);
+}
+
+/// Puts that a conclusion was refused.
+#[tactic(auto, using(crate::proofs::Puts::put_put))]
+fn put_refused(line: &mut Line, code: u32, peer: Peer, name: &[u8], by: Option<NotAdmitted>)
+    ensures { line.new.text.items ≡ put line.old.text.items (refused_text code peer name.now by) }
+{
+    put_peer(line, peer);
+    line.put(b" refused, ");
+    put_asked(line, code, name, by);
 }
 
 /// Puts how often a caller was refused again.

@@ -4,7 +4,4 @@ use Rattle.srt_log.proofs.writing.put_asked.Goals as goal
 pub returns : goal.returns
 returns c =
     followed _ _ _ _ _
-    (followed _ _ _ _ _
-    (followed _ _ _ _ _ (followed _ _ _ _ _ (followed _ _ _ _ _ c.put_small.ensures c.put_code_name.ensures) c.put.ensures) c.put_escaped.ensures)
-    c.put-2.ensures)
-    c.put_refused_by.ensures
+    (followed _ _ _ _ _ (followed _ _ _ _ _ c.put_small.ensures c.put_code_name.ensures) c.put_name.ensures) c.put_refused_by.ensures

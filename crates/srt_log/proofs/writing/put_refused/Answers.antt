@@ -2,14 +2,4 @@ use Rattle.srt_log.proofs.Puts.{followed}
 use Rattle.srt_log.proofs.writing.put_refused.Goals as goal
 
 pub returns : goal.returns
-returns c =
-    followed _ _ _ _ _
-    (followed _ _ _ _ _
-    (followed _ _ _ _ _
-    (followed _ _ _ _ _
-    (followed _ _ _ _ _ (followed _ _ _ _ _ (followed _ _ _ _ _ c.put_peer.ensures c.put.ensures) c.put_small.ensures)
-    c.put_code_name.ensures)
-    c.put-2.ensures)
-    c.put_escaped.ensures)
-    c.put-3.ensures)
-    c.put_refused_by.ensures
+returns c = followed _ _ _ _ _ (followed _ _ _ _ _ c.put_peer.ensures c.put.ensures) c.put_asked.ensures
