@@ -47,5 +47,5 @@ def trouble_line(route, trouble, caller):
 
 def refused_line(code, caller, asked, by=None):
     """The form of a refusal. `asked` is the name that the line shows; None for any. `by`: what stood against the caller, if that is told."""
-    name = '[^"]*' if asked is None else re.escape(asked)
-    return re.escape(f'{peer_of(caller)} refused, {code} {NAMES[code]}, asked for "') + name + '"' + (re.escape(f", {by}") if by else "")
+    name = '(?:, asked for "[^"]*")?' if asked is None else re.escape(f', asked for "{asked}"' if asked else "")
+    return re.escape(f"{peer_of(caller)} refused, {code} {NAMES[code]}") + name + (re.escape(f", {by}") if by else "")

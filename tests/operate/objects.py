@@ -17,7 +17,7 @@ FORMS = {
     "ended": rf"{SESSION} ended, {SOCKET}, .*, after (?P<lasted_ms>\d+) ms, (?P<packets>\d+) packets, (?P<bytes>\d+) bytes, "
              r"(?P<lost>\d+) lost, (?P<resent>\d+) resent(?:, clock drift (?P<clock_drift_ppm>-?\d+) ppm, correction (?P<clock_correction_us>-?\d+) us)?",
     "took_over": rf"{SESSION} took over, {SOCKET}",
-    "refused": r'(?P<peer>\S+) refused, (?P<code>\d+) \w+, asked for "(?P<name>.*)"(?:, .*)?',
+    "refused": r'(?P<peer>\S+) refused, (?P<code>\d+) \w+(?:, asked for "(?P<name>.*)")?(?:, .*)?',
     "unseen": r"(?P<route>\S+): (?P<sessions>\d+) sessions opened and ended unseen",
     "socket_faults": r"socket faults (?P<count>\d+)",
     "kernel_drops": r"datagrams dropped by the kernel (?P<count>\d+)",
@@ -30,7 +30,7 @@ FORMS = {
     "route_closes": r"(?P<route>\S+): closed, .*",
     "config_wrong": r"configuration not taken: (?P<why>.*)",
 }
-CAUSES = {"unknown_name": "unknown name", "no_name": "no name"}
+CAUSES = {"unknown_name": "unknown name", "no_name": "no valid name"}
 REASONS = {"shutdown": "its peer sent a SHUTDOWN", "gateway_stops": "the gateway stops", "route_closed": "its route was closed"}
 
 

@@ -159,7 +159,7 @@ class Journal:
             return "no such caller was refused"
         number = next((it for it in numbers if it >= self.reported), numbers[-1])
         one = self.refused[number]
-        if (found["code"], found["asked"], found["cause"] or "") != one.reason:
+        if (found["code"], found["asked"] or "", found["cause"] or "") != one.reason:
             return f"it was refused with {one.reason}"
         one.lines += 1
         if one.lines == 1 and number < self.reported:
@@ -168,7 +168,7 @@ class Journal:
         return f"it has {one.lines} such lines, and sent {one.most} conclusions" if one.lines > one.most else ""
 
     def refused_again(self, found: re.Match[str]) -> str:
-        reason = (found["code"], found["asked"], found["cause"] or "")
+        reason = (found["code"], found["asked"] or "", found["cause"] or "")
         if reason not in {it.reason for it in self.refused if it.caller.here[0] == found["ip"]}:
             return "no such caller was refused"
         self.again[reason] += int(found["count"])
@@ -255,8 +255,8 @@ class Journal:
 Method = Callable[[Journal, "re.Match[str]"], str]
 FORMS: tuple[tuple[str, Method], ...] = (
     *((it, Journal.slowness) for it in SLOW),
-    (r'(?P<peer>\S+) refused, (?P<code>\d+) \w+, asked for "(?P<asked>[^"]*)"(?:, (?P<cause>.+))?', Journal.refusal),
-    (r'(?P<ip>\S+) refused (?P<count>\d+) more times, (?P<code>\d+) \w+, asked for "(?P<asked>[^"]*)"(?:, (?P<cause>.+))?', Journal.refused_again),
+    (r'(?P<peer>\S+) refused, (?P<code>\d+) \w+(?:, asked for "(?P<asked>[^"]*)")?(?:, (?P<cause>.+))?', Journal.refusal),
+    (r'(?P<ip>\S+) refused (?P<count>\d+) more times, (?P<code>\d+) \w+(?:, asked for "(?P<asked>[^"]*)")?(?:, (?P<cause>.+))?', Journal.refused_again),
     (rf"{OF_SESSION}opened(?P<standby> as standby)?, {SOCKET}(?:, latency (?P<latency>\d+) ms)?", Journal.opened),
     (rf"{OF_SESSION}ended, {SOCKET}, (?P<reason>.+), after \d+ ms, (?P<packets>\d+) packets, \d+ bytes, \d+ lost, \d+ resent(?:, clock drift .+)?",
      Journal.ended),

@@ -181,7 +181,7 @@ def lobby_refuses():
         asked_in_all = 0
         kinds = [(1002, dict(stream_id="nowhere"), "nowhere", unknown), (1002, dict(stream_id=publish("no/where")), "no/where", unknown),
                  (1002, dict(stream_id='a"b\\c'), "a\\x22b\\x5cc", unknown), (1002, dict(stream_id="studi\u00e9"), "studi\\xc3\\xa9", unknown),
-                 (1002, dict(stream_id=b"new\nline\x1b"), "new\\x0aline\\x1b", unknown), (1002, dict(), "", "no name")]
+                 (1002, dict(stream_id=b"new\nline\x1b"), "new\\x0aline\\x1b", unknown), (1002, dict(), "", "no valid name")]
         for code, words, asked, by in kinds:
             run.pace_refusals()
             caller = Caller(run.address, **words)
