@@ -1,5 +1,6 @@
 -- Text of the log that waits behind what was written.
-use Rattle.std.proofs.Common.{arith, ◌≡◌, ℕ, zero, suc, ◌+◌, ◌-◌, ◌≤◌, true, nat_eq, List, [], ◌∷◌, ◌++◌, append_assoc, length, drop, min, take, refl, sym, ap, ◌∙◌}
+use Rattle.std.proofs.Common.{arith, ◌≡◌, ℕ, zero, suc, ◌+◌, ◌-◌, ◌≤◌, true, nat_eq, List, [], ◌∷◌, ◌++◌, append_assoc, length, drop, min, take}
+use Rattle.std.proofs.Common.{refl, sym, ap, ◌∙◌}
 use Rattle.std.proofs.lemmas.Bool.Decides.{nat_tests}
 use Rattle.std.proofs.lemmas.List.{length-drop, length-take, drop_all, take_min, take-append-drop}
 use Rattle.srt_host.specs.Held.{IsRest}
