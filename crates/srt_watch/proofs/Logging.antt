@@ -4,14 +4,13 @@ use Rattle.std.proofs.Common.{◌<◌, length, map, take, get_or, Option, refl, 
 use Rattle.std.proofs.Common.{Result, Ok, Err, inl, inr}
 use Rattle.std.proofs.KnownBytes.{Appends-nil, Appends-trans}
 use Rattle.std.specs.Io.KnownBytes.{Appends, Keeps}
-use Rattle.std.specs.IoError.{error_kind}
-use Rattle.std.specs.declared.io.Error.{Error}
 use Rattle.srt_log.specs.LineShares.{SharedCall, AreShares, polled, omitted_in}
 use Rattle.srt_watch.proofs.Appended.{mapped}
 use Rattle.srt_watch.specs.declared.log.When.{When}
 use Rattle.srt_watch.specs.declared.log.LogPace.{LogPace}
 use Rattle.srt_watch.specs.Log.{LogCall, Polled, most, missed_at, missed_of, after_missed, left_out_text}
-use Rattle.srt_watch.specs.Writes.{is_passing, refused_after, HasRefused, GotObject}
+use Rattle.srt_watch.specs.declared.output.NotWritten.{NotWritten}
+use Rattle.srt_watch.specs.Writes.{is_passing, refused_after, HasRefused}
 use Rattle.srt_watch.specs.Log.{LogState, state_after, text_of, state_after_all, text_of_all, HasState, Wrote, Logged}
 
 -- nothing was written
@@ -186,19 +185,14 @@ caught_up a b c p r when count kept none w = record {
   text_is = λ s h e. kept_then a b c kept (subst (λ n. Appends b c (left_out_text when n)) (none (w.whole_is e)) (w.text_is e));
 }
 
--- however a write ended, the writer was called
-pub got_object : {T : Type 0} (outcome : Result T Error) (old new : ℕ) → new ≡ most (old + 1) → GotObject outcome old new
-got_object (Ok t) old new is = is
-got_object (Err error) old new is = inl is
-
 -- however a write ended, its lines were refused or not
 refused_by : (passing : Bool) (old count : ℕ) → HasRefused old (if passing then most (old + count) else old) count
 refused_by true old count = inr refl
 refused_by false old count = inl refl
 
-refused_with : {T : Type 0} (outcome : Result T Error) (old count : ℕ) → HasRefused old (refused_after outcome old count) count
+refused_with : {T : Type 0} (outcome : Result T NotWritten) (old count : ℕ) → HasRefused old (refused_after outcome old count) count
 refused_with (Ok t) old count = inl refl
-refused_with (Err error) old count = refused_by (is_passing (error_kind error)) old count
+refused_with (Err why) old count = refused_by (is_passing why) old count
 
-pub refused_so : {T : Type 0} (outcome : Result T Error) (old new count : ℕ) → new ≡ refused_after outcome old count → HasRefused old new count
+pub refused_so : {T : Type 0} (outcome : Result T NotWritten) (old new count : ℕ) → new ≡ refused_after outcome old count → HasRefused old new count
 refused_so outcome old new count is = subst (λ n. HasRefused old n count) (sym is) (refused_with outcome old count)

@@ -1,7 +1,6 @@
 -- How the write of a log's line ended.
 use Rattle.std.specs.Prelude.{◌≡◌, ◌⊎◌, ℕ, ◌+◌, ◌==◌, nat_lt, Bool, true, false, List, [], Result, Ok, Err, if◌then◌else◌}
 use Rattle.std.specs.IoError.{error_kind}
-use Rattle.std.specs.declared.io.Error.{Error}
 use Rattle.std.specs.declared.io.ErrorKind.{ErrorKind}
 use Rattle.std.specs.declared.io.ErrorKind.TheVariants.{WouldBlock, OutOfMemory}
 use Rattle.srt_status.specs.Events.{HasKept}
@@ -12,17 +11,23 @@ use Rattle.srt_log.specs.LineShares.{is_shared, omitted_of, omitted_in, beyond_i
 use Rattle.srt_log.specs.Texts.{put}
 use Rattle.srt_watch.specs.Log.{LogCall, Offered, Always, Polled, Missed, Looked, Closed, LogState, Said, said, most, missed_at, with_poll}
 use Rattle.srt_watch.specs.declared.log.When.{When}
+use Rattle.srt_watch.specs.declared.output.NotWritten.{NotWritten}
+use Rattle.srt_watch.specs.declared.output.NotWritten.TheVariants.{ByWriter, NoMemory}
 
 -- such a write may succeed later: there was no room for the line, or no memory
-abbrev pub is_passing : ErrorKind → Bool
-is_passing WouldBlock = true
-is_passing OutOfMemory = true
-is_passing kind = false
+abbrev pub may_pass : ErrorKind → Bool
+may_pass WouldBlock = true
+may_pass OutOfMemory = true
+may_pass kind = false
+
+abbrev pub is_passing : NotWritten → Bool
+is_passing (ByWriter error) = may_pass (error_kind error)
+is_passing (NoMemory want) = true
 
 -- the lines for which there was no room
-abbrev pub refused_after : {T : Type 0} → Result T Error → (refused count : ℕ) → ℕ
+abbrev pub refused_after : {T : Type 0} → Result T NotWritten → (refused count : ℕ) → ℕ
 refused_after (Ok t) refused count = refused
-refused_after (Err error) refused count = if is_passing (error_kind error) then most (refused + count) else refused
+refused_after (Err why) refused count = if is_passing why then most (refused + count) else refused
 
 -- the number of lines that the line of an event stands for
 abbrev pub lines_of : LogEvent → ℕ
@@ -44,13 +49,14 @@ pub data AreKept (old : List Event) : (new : List Event) → Type 0 where
   KeptMore : (middle new : List Event) (moment : ℕ) (is_refusal : Bool) (text : List ℕ) → AreKept old middle → HasKept middle new moment is_refusal text →
       AreKept old new
 
--- The number of calls of a writer with a line, after the line of an event was to be written: one more. Only for lack of memory for an object
+-- The number of calls of a writer with a line, after the line of an event was to be written: one more. Only if memory for an object was refused
 -- there is none.
-abbrev pub GotObject : {T : Type 0} → Result T Error → (old new : ℕ) → Type 0
+abbrev pub GotObject : {T : Type 0} → Result T NotWritten → (old new : ℕ) → Type 0
 GotObject (Ok t) old new = new ≡ most (old + 1)
-GotObject (Err error) old new = (new ≡ most (old + 1)) ⊎ ((error_kind error ≡ OutOfMemory) × (new ≡ old))
+GotObject (Err (ByWriter error)) old new = new ≡ most (old + 1)
+GotObject (Err (NoMemory want)) old new = new ≡ old
 
-abbrev pub GotLine : {T : Type 0} → (is_json : Bool) → Result T Error → (old new : ℕ) → Type 0
+abbrev pub GotLine : {T : Type 0} → (is_json : Bool) → Result T NotWritten → (old new : ℕ) → Type 0
 GotLine true result old new = GotObject result old new
 GotLine false result old new = new ≡ most (old + 1)
 

@@ -38,6 +38,7 @@ pub mod laws;
 mod log;
 mod losses;
 mod machine;
+mod memory;
 mod output;
 mod overview;
 mod page;

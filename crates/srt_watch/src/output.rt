@@ -7,6 +7,7 @@ ghost use Rattle.srt_watch.specs.Log.{most, words_at, object_at, line_at, said};
 ghost use Rattle.srt_watch.specs.Writes.{is_passing, refused_after, lines_of, GotObject, GotLine};
 
 use crate::log::When;
+use crate::memory::{WantOfMemory, or_want_of_memory};
 use srt_log::{LogEvent, put_object, write_line};
 use std::alloc::Global;
 use std::io::{self, Error, ErrorKind, Write};
@@ -27,11 +28,25 @@ pub(crate) struct Output<W: Drop> {
     flushes: u64,
 }
 
+/// Why a line wasn't written.
+#[derive(Drop)]
+pub(crate) enum NotWritten {
+    /// The writer was called with it, and returned this error.
+    ByWriter(Error),
+    /// Memory for its object was refused, and the writer wasn't called.
+    NoMemory(WantOfMemory),
+}
+
 // Whether a write that failed so may succeed later: there was no room for the line, or no memory.
-fn is_passing(kind: ErrorKind) -> bool
-    ensures { result ≡ is_passing kind }
+fn is_passing(why: &NotWritten) -> bool
+    ensures { result ≡ is_passing why.now }
 {
-    matches!(kind, ErrorKind::WouldBlock | ErrorKind::OutOfMemory)
+    match why {
+        NotWritten::ByWriter(error) => {
+            matches!(error.kind(), ErrorKind::WouldBlock | ErrorKind::OutOfMemory)
+        }
+        NotWritten::NoMemory(_) => true,
+    }
 }
 
 // The number of lines that the line of an event stands for.
@@ -77,22 +92,25 @@ fn flush_once<W: Write>(out: &mut W, flushes: &mut u64) -> bool
 }
 
 // Makes the object of an event in place of another one, and calls the writer with it. Only if memory for it is refused the writer isn't called.
-#[tactic(auto, using(crate::proofs::Logging::got_object), unfolding(srt_log::specs::Objects::object_text))]
+#[tactic(auto, unfolding(srt_log::specs::Objects::object_text))]
 fn put_json<W: Write>(
     out: &mut W,
     writes: &mut u64,
     object: &mut Vec<u8>,
     when: When,
     event: LogEvent<'_>,
-) -> io::Result<()>
+) -> Result<(), NotWritten>
     ensures line { OnOk result (Appends (W.contents out.old) (W.contents out.new) (object_at when.stamp (said event.entry))) }
     ensures writes { GotObject result writes.old writes.new }
 {
     object.clear();
-    if put_object(object, when.stamp, event).is_err() {
-        return Err(Error::from(ErrorKind::OutOfMemory));
+    if let Err(want) = or_want_of_memory(put_object(object, when.stamp, event)) {
+        return Err(NotWritten::NoMemory(want));
     }
-    put_bytes(out, writes, object.as_slice())
+    match put_bytes(out, writes, object.as_slice()) {
+        Ok(()) => Ok(()),
+        Err(error) => Err(NotWritten::ByWriter(error)),
+    }
 }
 
 impl<W: Write + Drop> Output<W> {
@@ -112,7 +130,7 @@ impl<W: Write + Drop> Output<W> {
     }
 
     // Makes the line of an event, and writes it. An error is the writer's, or that memory for an object was refused.
-    fn put_line(&mut self, when: When, event: LogEvent<'_>) -> io::Result<()>
+    fn put_line(&mut self, when: When, event: LogEvent<'_>) -> Result<(), NotWritten>
         ensures line { OnOk result (Appends (W.contents self.old.out) (W.contents self.new.out) (line_at when (said event.entry))) }
         ensures refused { self.new.refused ≡ self.old.refused }
         ensures given { self.new.given ≡ self.old.given }
@@ -120,29 +138,31 @@ impl<W: Write + Drop> Output<W> {
         ensures flushes { self.new.flushes ≡ self.old.flushes }
     {
         if when.is_json {
-            put_json(
+            return put_json(
                 &mut self.out,
                 &mut self.writes,
                 &mut self.object,
                 when,
                 event,
-            )
-        } else {
-            put_words(&mut self.out, &mut self.writes, when, event)
+            );
+        }
+        match put_words(&mut self.out, &mut self.writes, when, event) {
+            Ok(()) => Ok(()),
+            Err(error) => Err(NotWritten::ByWriter(error)),
         }
     }
 
     // Notes how the write of a line ended that stands for so many. If there was no room for it, or no memory, they are counted; any other
     // failed write is ignored: the gateway continues without a log.
-    fn note(&mut self, outcome: &io::Result<()>, lines: u64)
+    fn note(&mut self, outcome: &Result<(), NotWritten>, lines: u64)
         ensures out { self.new.out ≡ self.old.out }
         ensures refused { self.new.refused ≡ refused_after outcome.now self.old.refused lines }
         ensures grows { self.old.refused ≤ self.new.refused }
         ensures given { self.new.given ≡ self.old.given }
         ensures calls { (self.new.writes ≡ self.old.writes) × (self.new.flushes ≡ self.old.flushes) }
     {
-        if let Err(error) = outcome {
-            if is_passing(error.kind()) {
+        if let Err(why) = outcome {
+            if is_passing(why) {
                 self.refused = self.refused.saturating_add(lines);
             }
         }
@@ -150,7 +170,7 @@ impl<W: Write + Drop> Output<W> {
 
     /// Writes the line of an event, and returns how that ended. If there was no room for it now, or no memory, the lines that it stands for
     /// are counted.
-    pub(crate) fn write(&mut self, when: When, event: LogEvent<'_>) -> io::Result<()>
+    pub(crate) fn write(&mut self, when: When, event: LogEvent<'_>) -> Result<(), NotWritten>
         ensures line { OnOk result (Appends (W.contents self.old.out) (W.contents self.new.out) (line_at when (said event.entry))) }
         ensures refused { self.new.refused ≡ refused_after result self.old.refused (lines_of event.entry) }
         ensures grows { self.old.refused ≤ self.new.refused }
