@@ -17,3 +17,6 @@ pub mod Taken
 pub mod Outcomes
 pub mod Ended
 pub mod Did
+pub mod Found
+pub mod Pausing
+pub mod TickTurn

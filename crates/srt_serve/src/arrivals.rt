@@ -1,6 +1,7 @@
 //! Places for the routes of a run, and how the polling thread and the ticking one reach the routes in them.
 
-ghost use Rattle.std.specs.Prelude.{◌≡◌, ◌<◌, [], IfOk, IfErr, length, map};
+ghost use Rattle.std.specs.Prelude.{◌≡◌, ◌<◌, ◌≤◌, [], IfOk, IfErr, length, map};
+ghost use Rattle.std.specs.Vec.{vec_capacity};
 ghost use Rattle.srt_types.specs.Terms.{terms_of};
 ghost use Rattle.srt_lobby.specs.Names.{as_hidden, name_of, new_name};
 ghost use Rattle.srt_mailbox.specs.Identities.{identity_in};
@@ -10,6 +11,7 @@ ghost use Rattle.srt_serve.specs.Opened.{new_clocks};
 ghost use Rattle.srt_supervision.specs.Answers.{Closes};
 
 use crate::answers::{Beginning, ClosesRoute};
+use crate::counters::AnyNumber;
 use crate::evidence::{
     CloseRequest, FlagRaised, MarkedAfter, MarkedBefore, NoNotice, NoneAdded, NoneMarked,
     NoneStated, mark, mark_after, next_poller, raise_flag, request_in, take_flag, take_mark,
@@ -27,7 +29,7 @@ use srt_types::Entry;
 use srt_wakeups::AtomicBitSet;
 use std::alloc::{AllocError, Global};
 use std::marker::PhantomData;
-use std::sync::atomic::{AtomicBool, AtomicIn};
+use std::sync::atomic::AtomicIn;
 
 /// The polling thread's attachment of a route: it gets it with its ends of the route. That a route has one is evidence
 /// that the run began with it, or that the watcher requested to open a route of its terms.
@@ -130,11 +132,14 @@ pub trait ChangeNotices: Answers {
         ensures { notified self.now };
 }
 
+/// Whether there is a notice.
+pub struct Pending;
+
 /// Notices of the watching thread to the polling one: that routes were added, and which are to close.
 #[derive(Drop)]
 pub struct RouteNotices<A: Answers> {
-    // there was a notice since the polling thread last checked
-    is_pending: AtomicBool,
+    // 0 unless there was a notice since the polling thread last checked
+    is_pending: AtomicIn<AnyNumber<Pending>>,
     // the routes that were requested to close so far
     requested: AtomicBitSet,
     // those of them that the polling thread hasn't taken
@@ -147,7 +152,7 @@ pub struct RouteNotices<A: Answers> {
 #[derive(Drop)]
 pub enum CloseNotice<A: Answers> {
     /// Its word states it, and it is marked among those that are to close, by this call or before.
-    Left(MarkedAfter<ClosesRoute<A>>),
+    Left(MarkedAfter<AtomicIn<ClosesRoute<A>>>),
     /// It was requested before.
     Repeated(MarkedBefore),
     /// There is no such route.
@@ -187,7 +192,7 @@ impl<A: Answers> RouteNotices<A> {
         ensures { IfOk result (λ notices. AreFor routes notices) }
     {
         Ok(RouteNotices {
-            is_pending: AtomicBool::new(false),
+            is_pending: AtomicIn::new(0),
             requested: AtomicBitSet::open(alloc, routes)?,
             closings: AtomicBitSet::open(alloc, routes)?,
             words: open_words(alloc, routes)?,
@@ -281,7 +286,7 @@ impl<'a, 'n, A: Answers + Beginning> PollerArrivals<'a, 'n, A> {
     ) -> Result<PollerArrivals<'a, 'n, A>, AllocError>
         requires indexed { AreIndexed (arrived reader) }
         requires answered { AreAnswered A.answered A.first (arrived reader) }
-        ensures { IfOk result (λ a. (a.reader ≡ reader.entry) × (a.requested.items ≡ [])) }
+        ensures { IfOk result (λ a. (a.reader ≡ reader.entry) × (a.requested.items ≡ []) × (routes ≤ vec_capacity a.requested)) }
     {
         Ok(PollerArrivals {
             reader,
@@ -328,7 +333,7 @@ impl<A: Answers + Beginning> Openings for PollerArrivals<'_, '_, A> {
     {
         self.looks = self.looks.wrapping_add(1);
         match take_flag(&self.notices.is_pending, self.looks) {
-            Ok(()) => true,
+            Ok(_) => true,
             Err(clear) => {
                 self.unnoticed = Some(clear);
                 false

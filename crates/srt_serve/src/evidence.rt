@@ -1,38 +1,51 @@
 //! Evidence of what a thread found in a value that other threads change at any time: of a plain atomic no clause states
 //! what it has. Only the functions of this file make any, each where it found that.
 
-ghost use Rattle.std.specs.Prelude.{◌≡◌, ◌≢◌, ◌<◌, ◌≤◌, ℕ, ◌++◌, ◌∷◌, [], Some, IfSome, IfNone, IfOk, IfErr, length, slice_get};
-ghost use Rattle.crossbeam_queue.specs.Passes.{queue_capacity};
+ghost use Rattle.std.specs.Prelude.{◌≡◌, ◌≢◌, ◌<◌, ◌≤◌, ℕ, suc, true, ◌++◌, ◌∷◌, [], Some, IfSome, IfNone, IfOk, IfErr, length, slice_get};
+ghost use Rattle.std.specs.Sync.Atomic.Rule.{StaysUnderAdd};
 ghost use Rattle.srt_mailbox.specs.Cells.{CellIdentity};
 ghost use Rattle.srt_mailbox.specs.Places.{arrived, places_of};
 ghost use Rattle.srt_mailbox.specs.Seats.{IsNewPoller};
 ghost use Rattle.srt_supervision.specs.Answers.{AllClose, Closes, RunEnds, IsOrdered};
-ghost use Rattle.srt_serve.specs.inside.Orders.{order_in};
+ghost use Rattle.srt_serve.specs.inside.Orders.{order_in, IsRead};
+ghost use Rattle.srt_serve.specs.inside.Found.{WasSet, StatedNone};
 
-use crate::answers::{ClosesAll, ClosesRoute, EndsRun};
-use crate::route_marks::RouteMarks;
 use crate::running::RunFault;
-use crossbeam_queue::ArrayQueue;
+use crate::turns::Turn;
 use srt_mailbox::{Attachment, NoneSeated, Place, PollerEnds, Seat, SeatReader};
 use srt_poller::Pumping;
 use srt_supervision::{Answers, Order, Refusal, Watch};
-use srt_wakeups::{AtomicBitSet, Wakeups};
-use std::alloc::{AllocError, Global};
+use srt_wakeups::{RouteMarks, RunState, SharedMarks, SharedQueue, SharedWord};
 use std::marker::PhantomData;
 use std::snapshot::Snapshot;
 use std::sync::Wait;
-use std::sync::atomic::{AtomicBool, AtomicIn, AtomicU64, Ordering, Rule};
+
+/// Evidence that the calling thread was counted as running.
+#[derive(Drop)]
+pub struct Came(());
+
+/// Counts the calling thread as running: as `Wakeups::arrive`.
+pub fn come<M: RunState>(wakeups: &M) -> Came
+    ensures { M.came wakeups.now }
+{
+    wakeups.come();
+    Came(())
+}
 
 /// Evidence that a run was over.
 #[derive(Drop)]
 pub struct RunOver(());
 
-/// Evidence that a run is over, if it is.
-pub fn run_over(wakeups: &Wakeups) -> Option<RunOver> {
-    if wakeups.is_done() {
-        Some(RunOver(()))
+/// Evidence that a run is over, for a thread that was counted as running. The error is a turn, which the thread has to make
+/// since the run isn't.
+pub fn run_over<M: RunState>(wakeups: &M, _came: &Came) -> Result<RunOver, Turn>
+    ensures over { IfOk result (λ _. M.was_over wakeups.now) }
+    ensures on { IfErr result (λ _. M.went_on wakeups.now) }
+{
+    if wakeups.is_over() {
+        Ok(RunOver(()))
     } else {
-        None
+        Err(Turn::due())
     }
 }
 
@@ -45,8 +58,11 @@ pub struct AllArrived(());
 pub struct ThreadsMissing(());
 
 /// As `Wakeups::gather`. The result is evidence that it returned true, and the error that it returned false.
-pub fn gather<R: Wait>(rt: &R, wakeups: &Wakeups) -> Result<AllArrived, ThreadsMissing> {
-    if wakeups.gather(rt) {
+pub fn gather<R: Wait, M: RunState>(rt: &R, wakeups: &M) -> Result<AllArrived, ThreadsMissing>
+    ensures all { IfOk result (λ _. M.all_came wakeups.now) }
+    ensures missing { IfErr result (λ _. M.some_missing wakeups.now) }
+{
+    if wakeups.await_all(rt) {
         Ok(AllArrived(()))
     } else {
         Err(ThreadsMissing(()))
@@ -62,10 +78,11 @@ pub struct RunEnded {
 }
 
 /// Ends a run after the rounds of its poller, if it made any: as `Wakeups::finish`.
-pub fn end_after(wakeups: &Wakeups, pumping: Option<Pumping>) -> RunEnded
-    ensures { result.pumping ≡ pumping }
+pub fn end_after<M: RunState>(wakeups: &M, pumping: Option<Pumping>) -> RunEnded
+    ensures after { result.pumping ≡ pumping }
+    ensures ended { M.ended wakeups.now }
 {
-    wakeups.finish();
+    wakeups.end_run();
     RunEnded { pumping, ended: () }
 }
 
@@ -75,15 +92,18 @@ pub struct NotStarted {
     /// A thread couldn't be started, or memory for the list of the workers was refused.
     pub fault: RunFault,
     // private, so that nothing else makes any
-    ended: (),
+    ended: RunEnded,
 }
 
 /// Ends a run of which not all workers could be started, with this fault.
-pub fn end_unstarted(wakeups: &Wakeups, fault: RunFault) -> NotStarted
-    ensures { result.fault ≡ fault }
+pub fn end_unstarted<M: RunState>(wakeups: &M, fault: RunFault) -> NotStarted
+    ensures fault { result.fault ≡ fault }
+    ensures ended { M.ended wakeups.now }
 {
-    wakeups.finish();
-    NotStarted { fault, ended: () }
+    NotStarted {
+        fault,
+        ended: end_after(wakeups, None),
+    }
 }
 
 /// A route that the calling worker serves. It has no `Drop`: whoever entered a route has to leave it.
@@ -136,6 +156,7 @@ impl<C, M: RouteMarks> Entered<'_, C, M> {
     pub fn leave(self, is_left: bool) -> LeftRoute
         ensures left { result.is_left ≡ is_left }
         ensures passed { M.passed self.entry.marks.now self.entry.route }
+        ensures marked { is_left ≡ true → M.left self.entry.marks.now self.entry.route }
     {
         let Entered {
             marks,
@@ -173,6 +194,7 @@ pub fn take_polled<'a, C, M: RouteMarks>(
     ensures cell { IfOk result (λ p. slice_get cells.now p.route ≡ Some p.cell.now) }
     ensures marks { IfOk result (λ p. p.marks.now ≡ marks.now) }
     ensures before { IfOk result (λ p. (r : ℕ) → from ≤ r → r < p.route → M.attended marks.now r) }
+    ensures taken { IfOk result (λ p. M.taken_up marks.now p.route) }
     ensures none { IfErr result (λ _. (r : ℕ) → from ≤ r → r < length cells.now → M.attended marks.now r) }
 {
     let route = marks.next_offered(from);
@@ -193,6 +215,7 @@ impl<C, M: RouteMarks> PolledRoute<'_, C, M> {
     pub fn leave(self, is_left: bool) -> LeftRoute
         ensures left { result.is_left ≡ is_left }
         ensures attended { M.attended self.entry.marks.now self.entry.route }
+        ensures marked { is_left ≡ true → M.left self.entry.marks.now self.entry.route }
     {
         let PolledRoute {
             marks,
@@ -251,11 +274,23 @@ pub fn offered_to<E>(ends: &Vec<E>) -> TicksOffered
     TicksOffered { routes: ends.len() }
 }
 
+/// Evidence that the workers were told of ticks.
+#[derive(Drop)]
+pub struct TicksTold {
+    /// The number of the first routes that were ticked.
+    pub routes: usize,
+    told: (),
+}
+
 impl TicksOffered {
     /// As `Wakeups::ticked`.
-    pub fn tell(self, wakeups: &Wakeups) {
+    pub fn tell<M: RunState>(self, wakeups: &M) -> TicksTold
+        ensures routes { result.routes ≡ self.routes }
+        ensures told { M.ticks_told wakeups.now self.routes }
+    {
         let TicksOffered { routes } = self;
-        wakeups.ticked(routes);
+        wakeups.tell_ticks(routes);
+        TicksTold { routes, told: () }
     }
 }
 
@@ -267,15 +302,32 @@ pub struct NoNotice {
     found: (),
 }
 
-/// Clears a flag that is set; it may be set again at once. The error is evidence that it was clear at this look.
-pub fn take_flag(flag: &AtomicBool, look: u64) -> Result<(), NoNotice>
-    ensures { IfErr result (λ none. none.look ≡ look) }
+/// Evidence that a flag was cleared by this call.
+#[derive(Drop)]
+pub struct FlagLowered(());
+
+/// Clears a flag.
+fn lower_flag<W: SharedWord>(flag: &W) -> FlagLowered
+    requires { W.keeps 0 }
+    ensures { W.written flag.now 0 }
 {
-    if flag.load(Ordering::SeqCst) {
-        flag.store(false, Ordering::SeqCst);
-        Ok(())
-    } else {
+    flag.write(0);
+    FlagLowered(())
+}
+
+/// Clears a flag that is set; it may be set again at once. The error is evidence that it was clear at this look.
+pub fn take_flag<W: SharedWord>(flag: &W, look: u64) -> Result<FlagLowered, NoNotice>
+    requires { W.keeps 0 }
+    ensures look { IfErr result (λ none. none.look ≡ look) }
+    ensures set { IfOk result (λ _. WasSet W.had flag.now) }
+    ensures taken { IfOk result (λ _. W.written flag.now 0) }
+    ensures clear { IfErr result (λ _. W.had flag.now 0) }
+{
+    let noticed = flag.read();
+    if noticed == 0 {
         Err(NoNotice { look, found: () })
+    } else {
+        Ok(lower_flag(flag))
     }
 }
 
@@ -284,8 +336,11 @@ pub fn take_flag(flag: &AtomicBool, look: u64) -> Result<(), NoNotice>
 pub struct FlagRaised(());
 
 /// Sets a flag.
-pub fn raise_flag(flag: &AtomicBool) -> FlagRaised {
-    flag.store(true, Ordering::SeqCst);
+pub fn raise_flag<W: SharedWord>(flag: &W) -> FlagRaised
+    requires { W.keeps 1 }
+    ensures { W.written flag.now 1 }
+{
+    flag.write(1);
     FlagRaised(())
 }
 
@@ -306,11 +361,13 @@ pub struct MarkedBefore {
 }
 
 /// Marks a route. The error is evidence that it had the mark, or is beyond the marks.
-pub fn mark(marks: &AtomicBitSet, route: usize) -> Result<Marked, MarkedBefore>
+pub fn mark<S: SharedMarks>(marks: &S, route: usize) -> Result<Marked, MarkedBefore>
     ensures marked { IfOk result (λ m. m.route ≡ route) }
     ensures before { IfErr result (λ m. m.route ≡ route) }
+    ensures set { IfOk result (λ _. S.marked marks.now route) }
+    ensures had { IfErr result (λ _. S.was_marked marks.now route) }
 {
-    if marks.set(route) {
+    if marks.mark(route) {
         Ok(Marked { route, marked: () })
     } else {
         Err(MarkedBefore { route, found: () })
@@ -326,13 +383,20 @@ pub struct NoneMarked {
 }
 
 /// Clears the mark of the first route that has one, of this many. The error is evidence that none has at this look.
-pub fn take_mark(marks: &AtomicBitSet, routes: usize, look: u64) -> Result<usize, NoneMarked>
+pub fn take_mark<S: SharedMarks>(
+    marks: &S,
+    routes: usize,
+    look: u64,
+) -> Result<usize, NoneMarked>
     ensures some { IfOk result (λ route. route < routes) }
     ensures none { IfErr result (λ none. none.look ≡ look) }
+    ensures cleared { IfOk result (λ route. S.cleared marks.now route) }
+    ensures before { IfOk result (λ route. (r : ℕ) → r < route → S.was_clear marks.now r) }
+    ensures clear { IfErr result (λ _. (r : ℕ) → r < routes → S.was_clear marks.now r) }
 {
-    let first = marks.next_from(0);
+    let first = marks.next_marked(0);
     if first < routes {
-        marks.clear(first);
+        marks.unmark(first);
         Ok(first)
     } else {
         Err(NoneMarked { look, found: () })
@@ -382,15 +446,18 @@ pub struct NoneStated {
 }
 
 /// The route that a word states, if it is among this many. The error is evidence that it states none at this look.
-pub fn request_in<A: Answers>(
-    word: &AtomicIn<ClosesRoute<A>>,
+pub fn request_in<A: Answers, W: SharedWord>(
+    word: &W,
     routes: usize,
     look: u64,
 ) -> Result<CloseRequest<A>, NoneStated>
+    requires { (n route : ℕ) → W.keeps n → n ≡ suc route → A.answered (Closes route) }
     ensures some { IfOk result (λ request. request.route < routes) }
     ensures none { IfErr result (λ none. none.look ≡ look) }
+    ensures stated { IfOk result (λ request. W.had word.now (suc request.route)) }
+    ensures unstated { IfErr result (λ _. StatedNone W.had word.now routes) }
 {
-    let stated = word.load(Ordering::SeqCst);
+    let stated = word.read();
     if stated == 0 {
         return Err(NoneStated { look, found: () });
     }
@@ -432,34 +499,35 @@ fn order_of<A: Answers>(ends: u64, closes: u64) -> Order
 }
 
 /// Reads the order of a watcher from its words. It is to close all, or to end, only if the watcher gave that order.
-pub fn read_order<A: Answers>(
-    ends: &AtomicIn<EndsRun<A>>,
-    closes: &AtomicIn<ClosesAll<A>>,
-) -> OrderRead
-    ensures { IsOrdered A.answered result.order }
+pub fn read_order<A: Answers, E: SharedWord, C: SharedWord>(ends: &E, closes: &C) -> OrderRead
+    requires ends { (n : ℕ) → E.keeps n → n ≢ 0 → A.answered RunEnds }
+    requires closes { (n : ℕ) → C.keeps n → n ≢ 0 → A.answered AllClose }
+    ensures known { IsOrdered A.answered result.order }
+    ensures read { IsRead E.had C.had ends.now closes.now result.order }
 {
-    let ends = ends.load(Ordering::SeqCst);
-    let closes = closes.load(Ordering::SeqCst);
+    let ends = ends.read();
+    let closes = closes.read();
     OrderRead {
         order: order_of::<A>(ends, closes),
         read: (),
     }
 }
 
-/// Evidence that a word was written.
+/// Evidence that a word of this type was written.
 #[derive(Drop)]
-pub struct WordWritten<K> {
+pub struct WordWritten<W> {
     /// The number that it got.
     pub number: u64,
-    of: PhantomData<K>,
+    of: PhantomData<W>,
 }
 
 /// Writes a word, of which its rule's fact is known.
-pub fn write_word<K: Rule>(word: &AtomicIn<K>, number: u64) -> WordWritten<K>
-    requires { K.invariant number }
-    ensures { result.number ≡ number }
+pub fn write_word<W: SharedWord>(word: &W, number: u64) -> WordWritten<W>
+    requires { W.keeps number }
+    ensures number { result.number ≡ number }
+    ensures written { W.written word.now number }
 {
-    word.store(number, Ordering::SeqCst);
+    word.write(number);
     WordWritten {
         number,
         of: PhantomData,
@@ -468,19 +536,25 @@ pub fn write_word<K: Rule>(word: &AtomicIn<K>, number: u64) -> WordWritten<K>
 
 /// A mark of a route that was set once the route's word was written.
 #[derive(Drop)]
-pub struct MarkedAfter<K> {
+pub struct MarkedAfter<W> {
     /// The word.
-    pub word: WordWritten<K>,
+    pub word: WordWritten<W>,
     /// Evidence that the mark was set by this call, or had been.
     pub marked: Result<Marked, MarkedBefore>,
     after: (),
 }
 
 /// Marks a route, once its word was written.
-pub fn mark_after<K>(marks: &AtomicBitSet, route: usize, word: WordWritten<K>) -> MarkedAfter<K>
+pub fn mark_after<W, S: SharedMarks>(
+    marks: &S,
+    route: usize,
+    word: WordWritten<W>,
+) -> MarkedAfter<W>
     ensures word { result.word ≡ word }
     ensures marked { IfOk result.marked (λ m. m.route ≡ route) }
     ensures before { IfErr result.marked (λ m. m.route ≡ route) }
+    ensures set { IfOk result.marked (λ _. S.marked marks.now route) }
+    ensures had { IfErr result.marked (λ _. S.was_marked marks.now route) }
 {
     MarkedAfter {
         word,
@@ -504,56 +578,56 @@ impl<T> Drop for WasPut<T> {
     }
 }
 
-// Takes the value that has waited longest. It may be of any type, so that no value is dropped.
-fn pop_one<R: Wait, T>(rt: &R, queue: &ArrayQueue<T>) -> Result<T, NothingWaits> {
-    match queue.pop(rt) {
+/// Whether a queue has a place. The error is evidence that there was none.
+pub fn look_for_place<T, Q: SharedQueue<T>>(queue: &Q) -> Result<(), NoPlace>
+    ensures place { IfOk result (λ _. Q.had_place queue.now) }
+    ensures full { IfErr result (λ _. Q.was_full queue.now) }
+{
+    if queue.has_no_place() {
+        Err(NoPlace(()))
+    } else {
+        Ok(())
+    }
+}
+
+/// Puts a value into a queue. The error is evidence that there was no place; then the value is dropped.
+pub fn put<R: Wait, T: Drop, Q: SharedQueue<T>>(
+    rt: &R,
+    queue: &Q,
+    value: T,
+) -> Result<WasPut<T>, NoPlace>
+    ensures value { IfOk result (λ put. put.value.value ≡ value) }
+    ensures put { IfOk result (λ _. Q.was_put queue.now value) }
+    ensures full { IfErr result (λ _. Q.was_full queue.now) }
+{
+    let was = Snapshot::of(&value);
+    match queue.put(rt, value) {
+        Ok(()) => Ok(WasPut { value: was }),
+        Err(_) => Err(NoPlace(())),
+    }
+}
+
+// Takes the value out of a queue that has waited longest. It may be of any type, so that no value is dropped.
+fn take_one<R: Wait, T, Q: SharedQueue<T>>(rt: &R, queue: &Q) -> Result<T, NothingWaits>
+    ensures taken { IfOk result (λ value. Q.was_taken queue.now value) }
+    ensures none { IfErr result (λ _. Q.was_empty queue.now) }
+{
+    match queue.take(rt) {
         Some(value) => Ok(value),
         None => Err(NothingWaits(())),
     }
 }
 
-/// The refusals that wait for a watcher. What is taken out has to be reported to one.
-#[derive(Drop)]
-pub struct RefusalQueue {
-    queue: ArrayQueue<Refusal>,
-}
-
-impl RefusalQueue {
-    /// Allocates room for this many; an error means out of memory.
-    pub fn open(alloc: Global, places: usize) -> Result<RefusalQueue, AllocError>
-        requires { 0 < places }
-        ensures { IfOk result (λ refusals. queue_capacity refusals.queue ≡ places) }
-    {
-        Ok(RefusalQueue {
-            queue: ArrayQueue::new(alloc, places)?,
-        })
-    }
-
-    /// Whether there is a place. The error is evidence that there was none.
-    pub fn look_for_place(&self) -> Result<(), NoPlace> {
-        if self.queue.is_full() {
-            Err(NoPlace(()))
-        } else {
-            Ok(())
-        }
-    }
-
-    /// Puts a refusal into a place. The error is evidence that there was none; then the refusal is dropped.
-    pub fn put<R: Wait>(&self, rt: &R, refusal: Refusal) -> Result<WasPut<Refusal>, NoPlace>
-        ensures { IfOk result (λ put. put.value.value ≡ refusal) }
-    {
-        let was = Snapshot::of(&refusal);
-        match self.queue.push(rt, refusal) {
-            Ok(()) => Ok(WasPut { value: was }),
-            Err(_) => Err(NoPlace(())),
-        }
-    }
-
-    /// Takes the refusal that has waited longest. The error is evidence that none waits.
-    pub fn take<R: Wait>(&self, rt: &R) -> Result<TakenRefusal, NothingWaits> {
-        let refusal = pop_one(rt, &self.queue)?;
-        Ok(TakenRefusal { refusal })
-    }
+/// Takes the refusal out of a queue that has waited longest. The error is evidence that none waits.
+pub fn take_refusal<R: Wait, Q: SharedQueue<Refusal>>(
+    rt: &R,
+    queue: &Q,
+) -> Result<TakenRefusal, NothingWaits>
+    ensures taken { IfOk result (λ taken. Q.was_taken queue.now taken.refusal) }
+    ensures none { IfErr result (λ _. Q.was_empty queue.now) }
+{
+    let refusal = take_one(rt, queue)?;
+    Ok(TakenRefusal { refusal })
 }
 
 /// Evidence that nothing waited in a queue.
@@ -584,8 +658,11 @@ pub struct OutboxesRest(());
 pub struct OutboxHasHint(());
 
 /// As `Wakeups::any_outbox_ready`: the error is evidence that it returned true.
-pub fn look_at_outboxes(wakeups: &Wakeups) -> Result<OutboxesRest, OutboxHasHint> {
-    if wakeups.any_outbox_ready() {
+pub fn look_at_outboxes<M: RunState>(wakeups: &M) -> Result<OutboxesRest, OutboxHasHint>
+    ensures rest { IfOk result (λ _. M.outboxes_rest wakeups.now) }
+    ensures hint { IfErr result (λ _. M.has_ready_outbox wakeups.now) }
+{
+    if wakeups.is_an_outbox_ready() {
         Err(OutboxHasHint(()))
     } else {
         Ok(OutboxesRest(()))
@@ -601,91 +678,86 @@ pub struct FlagClear(());
 pub struct FlagSet(());
 
 /// Reads a flag, and changes nothing.
-pub fn read_flag(flag: &AtomicBool) -> Result<FlagSet, FlagClear> {
-    if flag.load(Ordering::SeqCst) {
-        Ok(FlagSet(()))
-    } else {
-        Err(FlagClear(()))
-    }
-}
-
-/// The number of counts in a report.
-pub const COUNTS: usize = 10;
-
-/// Evidence that counts were written.
-#[derive(Drop)]
-pub struct CountsWritten {
-    /// The counts.
-    pub numbers: [u64; COUNTS],
-    written: (),
-}
-
-/// Writes counts, in their order.
-pub fn write_counts(counts: &[AtomicU64; COUNTS], numbers: [u64; COUNTS]) -> CountsWritten
-    ensures { result.numbers ≡ numbers }
+pub fn read_flag<W: SharedWord>(flag: &W) -> Result<FlagSet, FlagClear>
+    ensures set { IfOk result (λ _. WasSet W.had flag.now) }
+    ensures clear { IfErr result (λ _. W.had flag.now 0) }
 {
-    let counts = &counts[..];
-    for at in 0..COUNTS {
-        counts[at].store(numbers[at], Ordering::SeqCst);
-    }
-    CountsWritten {
-        numbers,
-        written: (),
+    let number = flag.read();
+    if number == 0 {
+        Err(FlagClear(()))
+    } else {
+        Ok(FlagSet(()))
     }
 }
 
 /// Evidence that counts were written, and that a flag was cleared after that.
 #[derive(Drop)]
-pub struct CountsLeft {
+pub struct CountsLeft<N: Drop> {
     /// What was written.
-    pub written: CountsWritten,
-    cleared: (),
+    pub written: N,
+    cleared: FlagLowered,
 }
 
 /// Clears a flag, once counts have been written.
-pub fn clear_after(flag: &AtomicBool, written: CountsWritten) -> CountsLeft
-    ensures { result.written ≡ written }
+pub fn clear_after<W: SharedWord, N: Drop>(flag: &W, written: N) -> CountsLeft<N>
+    requires { W.keeps 0 }
+    ensures written { result.written ≡ written }
+    ensures cleared { W.written flag.now 0 }
 {
-    flag.store(false, Ordering::SeqCst);
     CountsLeft {
         written,
-        cleared: (),
+        cleared: lower_flag(flag),
     }
 }
 
 /// Counts as they were read. They have no `Drop`: whoever read them has to set their flag.
-pub struct CountsRead {
-    numbers: [u64; COUNTS],
+pub struct CountsRead<N> {
+    numbers: N,
 }
 
 /// Counts that were read before their flag was set.
 #[derive(Drop)]
-pub struct CountsTaken {
+pub struct CountsTaken<N: Drop> {
     /// The counts.
-    pub numbers: [u64; COUNTS],
-    raised: (),
+    pub numbers: N,
+    raised: FlagRaised,
+}
+
+impl<N: Drop> CountsRead<N> {
+    /// These counts, whose flag has to be set.
+    pub fn of(numbers: N) -> CountsRead<N>
+        ensures { result.numbers ≡ numbers }
+    {
+        CountsRead { numbers }
+    }
 }
 
 /// Sets a flag, once counts have been read.
-pub fn raise_after(flag: &AtomicBool, read: CountsRead) -> CountsTaken
-    ensures { result.numbers ≡ read.numbers }
+pub fn raise_after<W: SharedWord, N: Drop>(flag: &W, read: CountsRead<N>) -> CountsTaken<N>
+    requires { W.keeps 1 }
+    ensures numbers { result.numbers ≡ read.numbers }
+    ensures raised { W.written flag.now 1 }
 {
     let CountsRead { numbers } = read;
-    flag.store(true, Ordering::SeqCst);
     CountsTaken {
         numbers,
-        raised: (),
+        raised: raise_flag(flag),
     }
 }
 
-/// Reads counts, in their order.
-pub fn read_counts(counts: &[AtomicU64; COUNTS]) -> CountsRead {
-    let counts = &counts[..];
-    let mut numbers = [0; COUNTS];
-    for at in 0..COUNTS {
-        numbers[at] = counts[at].load(Ordering::SeqCst);
-    }
-    CountsRead { numbers }
+/// Evidence that one was added to a word of this type.
+#[derive(Drop)]
+pub struct OneAdded<W> {
+    of: PhantomData<W>,
+}
+
+/// Adds one to a word.
+pub fn add_one<W: SharedWord>(word: &W) -> OneAdded<W>
+    requires { StaysUnderAdd W.keeps 1 }
+    ensures { W.counted word.now }
+{
+    word.add_one();
+    OneAdded { of: PhantomData }
 }
 
 /// Evidence that a route was put into a place.

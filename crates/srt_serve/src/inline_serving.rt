@@ -14,7 +14,6 @@ use crate::evidence::{
     HandedOver, NonePolled, PolledRoute, ReadTold, hand_over, take_polled, tell_read,
 };
 use crate::refusal_reports::{lobby_refusal, refusal_in, route_refusal};
-use crate::route_marks::RouteMarks;
 use crate::watcher_channel::PollerChannel;
 use crate::working::{Stay, is_left, serve_route};
 use srt_lobby::Names;
@@ -22,6 +21,7 @@ use srt_mailbox::{Gate, Serve};
 use srt_poller::{Hints, InlineService, Orders, PollerObserver, Signals};
 use srt_supervision::{Order, Report};
 use srt_types::Peer;
+use srt_wakeups::RouteMarks;
 use srt_wakeups::pacing::{FEW_ROUTES, MANY_DATAGRAMS, POLLER_TURNS};
 use std::cell::Cell;
 use std::sync::Wait;
@@ -101,6 +101,7 @@ fn serve_polled<R: Wait, C: Serve, G: Gate, M: RouteMarks>(
     ensures held { result.visit.end ≡ Some GateRefused → result.left.is_left ≡ false }
     ensures left { result.visit.end ≢ Some (TurnedAs Idle) → result.visit.end ≢ Some GateRefused → result.left.is_left ≡ true }
     ensures replied { 0 < result.visit.moved → M.replied polled.entry.marks.now polled.entry.route }
+    ensures marked { result.left.is_left ≡ true → M.left polled.entry.marks.now polled.entry.route }
     ensures attended { M.attended polled.entry.marks.now polled.entry.route }
 {
     let visit = serve_route(rt, polled.cell, polled.route, gate, polled.marks, most);
@@ -188,7 +189,9 @@ impl<'a, R: Wait, C: Serve, G: Gate + Drop, H: PollerChannel> InlineServer<'a, R
     }
 
     // Wakes a worker that rests, unless all was done.
-    fn wake_for(&self, is_done: bool) {
+    fn wake_for(&self, is_done: bool)
+        ensures { is_done ≡ false → H.Marks.woken self.now.marks.now }
+    {
         if !is_done {
             self.marks.wake_one();
         }

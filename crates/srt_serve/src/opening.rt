@@ -76,6 +76,7 @@ fn take_first_clock<A: Answers + Beginning>(
     ensures taken { OnOk result ((n : CellIdentity) × (arrived arrivals.new.reader ≡ arrived arrivals.old.reader ++ n ∷ [])
         × (clocks.new.items ≡ clocks.old.items ++ new_clock n ∷ [])) }
     ensures places { locks_of arrivals.new.reader ≡ locks_of arrivals.old.reader }
+    ensures room { vec_capacity clocks.old ≤ vec_capacity clocks.new }
 {
     let Ok(hand) = arrivals.reader.next_clock() else {
         return Err(AllocError);
@@ -98,6 +99,7 @@ pub fn open_routes<'a, A: Answers + Beginning>(
     ensures clocks { IfOk result (λ o. o.clocks.items ≡ new_clocks (arrived o.arrivals.reader)) }
     ensures places { IfOk result (λ o. locks_of o.arrivals.reader ≡ locks_of o.routes) }
     ensures room { IfOk result (λ o. length places.now ≤ vec_capacity o.ends) }
+    ensures clock_room { IfOk result (λ o. length places.now ≤ vec_capacity o.clocks) }
     ensures put { IfOk result (λ o. (map (λ t. t.of) o.put.items ≡ take (length o.put.items) (locks_of o.routes))
         × (map (λ t. identity_in t.value.cell) o.put.items ≡ arrived o.routes)) }
 {

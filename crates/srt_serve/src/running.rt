@@ -349,6 +349,8 @@ where
     B: Beginning + Send + Sync,
     requires ready { AreReady context.now.schedules.now (names_of polling.names) polling.ends.items }
     requires room { IsSome context.now.channel → 511 ≤ vec_capacity polling.ends }
+    requires clock_room { IsSome context.now.channel → 511 ≤ vec_capacity others.clocks.ends }
+    requires requests { 511 ≤ vec_capacity polling.openings.requested }
     requires few { context.now.rounds ≤ 2 ^ 48 }
     requires routes { length (terms_in (arrived polling.openings.reader)) ≤ 511 }
     requires first { length (arrived polling.openings.reader) ≡ B.first }

@@ -1,21 +1,88 @@
 //! The poller's counts, as the polling thread leaves them for the watching one.
 
 ghost use Rattle.std.specs.Prelude.{◌≡◌};
-ghost use Rattle.srt_serve.specs.inside.Reported.{report_in};
+ghost use Rattle.srt_serve.specs.inside.Reported.{written_report, read_report};
 
+use crate::counters::{AnyNumber, Count, Counter};
 use crate::evidence::{
-    COUNTS, CountsLeft, CountsTaken, CountsWritten, FlagClear, FlagSet, clear_after, raise_after,
-    read_counts, read_flag, write_counts,
+    CountsLeft, CountsRead, CountsTaken, FlagClear, FlagSet, WordWritten, clear_after, raise_after,
+    read_flag,
 };
 use crate::known::Known;
 use srt_supervision::Report;
-use std::sync::atomic::{AtomicBool, AtomicU64};
+use std::sync::atomic::AtomicIn;
+
+/// Whether a report is wanted.
+pub struct Wanted;
+
+/// `Report::read`.
+pub struct DatagramsRead;
+
+/// `Report::answered`.
+pub struct DatagramsAnswered;
+
+/// `Report::accepted`.
+pub struct DatagramsAccepted;
+
+/// `Report::full`.
+pub struct DatagramsRefused;
+
+/// `Report::dropped`.
+pub struct DatagramsDropped;
+
+/// `Report::not_allowed`.
+pub struct DatagramsNotAllowed;
+
+/// `Report::memory`.
+pub struct DatagramsWithoutMemory;
+
+/// `Report::sent`.
+pub struct DatagramsSent;
+
+/// `Report::lost`.
+pub struct DatagramsLost;
+
+/// `Report::faults`.
+pub struct CallsFailed;
+
+/// Evidence that a number of `X` was written.
+type NumberWritten<X> = WordWritten<AtomicIn<AnyNumber<X>>>;
+
+/// Evidence that the counts of a report were written, each to its own place.
+#[derive(Drop)]
+pub struct ReportWritten {
+    read: NumberWritten<DatagramsRead>,
+    answered: NumberWritten<DatagramsAnswered>,
+    accepted: NumberWritten<DatagramsAccepted>,
+    full: NumberWritten<DatagramsRefused>,
+    dropped: NumberWritten<DatagramsDropped>,
+    not_allowed: NumberWritten<DatagramsNotAllowed>,
+    memory: NumberWritten<DatagramsWithoutMemory>,
+    sent: NumberWritten<DatagramsSent>,
+    lost: NumberWritten<DatagramsLost>,
+    faults: NumberWritten<CallsFailed>,
+}
+
+/// The counts of a report as they were read, each at its own place.
+#[derive(Drop)]
+pub struct ReportCounts {
+    read: Count<AnyNumber<DatagramsRead>>,
+    answered: Count<AnyNumber<DatagramsAnswered>>,
+    accepted: Count<AnyNumber<DatagramsAccepted>>,
+    full: Count<AnyNumber<DatagramsRefused>>,
+    dropped: Count<AnyNumber<DatagramsDropped>>,
+    not_allowed: Count<AnyNumber<DatagramsNotAllowed>>,
+    memory: Count<AnyNumber<DatagramsWithoutMemory>>,
+    sent: Count<AnyNumber<DatagramsSent>>,
+    lost: Count<AnyNumber<DatagramsLost>>,
+    faults: Count<AnyNumber<CallsFailed>>,
+}
 
 /// What became of a report that was to be left.
 #[derive(Drop)]
 pub enum ReportLeft {
     /// Its counts were written, and after that none is wanted.
-    Written(CountsLeft),
+    Written(CountsLeft<ReportWritten>),
     /// None was wanted.
     Unwanted(FlagClear),
 }
@@ -23,8 +90,8 @@ pub enum ReportLeft {
 /// A report as it was read, once the next one was wanted. It has no `Drop`: whoever took it has to note it.
 pub struct ReportRead {
     report: Report,
-    taken: CountsTaken,
-    ghost stated: { report ≡ report_in taken.numbers },
+    taken: CountsTaken<ReportCounts>,
+    ghost stated: { report ≡ read_report taken.numbers },
 }
 
 /// A report that was noted.
@@ -32,8 +99,8 @@ pub struct ReportRead {
 pub struct ReportNoted {
     /// The report.
     pub report: Report,
-    taken: CountsTaken,
-    ghost stated: { report ≡ report_in taken.numbers },
+    taken: CountsTaken<ReportCounts>,
+    ghost stated: { report ≡ read_report taken.numbers },
 }
 
 impl ReportRead {
@@ -53,45 +120,35 @@ impl ReportRead {
 /// other reads them only while they aren't, so that what is taken is a report of one time.
 #[derive(Drop)]
 pub struct SharedReport {
-    // no report was left since the last one was taken
-    is_wanted: AtomicBool,
-    // in the order of a report's fields
-    counts: [AtomicU64; COUNTS],
-}
-
-// The counts of a report, in the order of its fields.
-fn numbers_of(report: &Report) -> [u64; COUNTS]
-    ensures { report_in result ≡ report.now }
-{
-    [
-        report.read,
-        report.answered,
-        report.accepted,
-        report.full,
-        report.dropped,
-        report.not_allowed,
-        report.memory,
-        report.sent,
-        report.lost,
-        report.faults,
-    ]
+    // 0 once a report was left, until it is taken
+    is_wanted: AtomicIn<AnyNumber<Wanted>>,
+    read: Counter<AnyNumber<DatagramsRead>>,
+    answered: Counter<AnyNumber<DatagramsAnswered>>,
+    accepted: Counter<AnyNumber<DatagramsAccepted>>,
+    full: Counter<AnyNumber<DatagramsRefused>>,
+    dropped: Counter<AnyNumber<DatagramsDropped>>,
+    not_allowed: Counter<AnyNumber<DatagramsNotAllowed>>,
+    memory: Counter<AnyNumber<DatagramsWithoutMemory>>,
+    sent: Counter<AnyNumber<DatagramsSent>>,
+    lost: Counter<AnyNumber<DatagramsLost>>,
+    faults: Counter<AnyNumber<CallsFailed>>,
 }
 
 // The report of which these are the counts.
-fn report_of(numbers: &[u64; COUNTS]) -> Report
-    ensures { result ≡ report_in numbers.now }
+fn report_of(counts: &ReportCounts) -> Report
+    ensures { result ≡ read_report counts.now }
 {
     Report {
-        read: numbers[0],
-        answered: numbers[1],
-        accepted: numbers[2],
-        full: numbers[3],
-        dropped: numbers[4],
-        not_allowed: numbers[5],
-        memory: numbers[6],
-        sent: numbers[7],
-        lost: numbers[8],
-        faults: numbers[9],
+        read: counts.read.number,
+        answered: counts.answered.number,
+        accepted: counts.accepted.number,
+        full: counts.full.number,
+        dropped: counts.dropped.number,
+        not_allowed: counts.not_allowed.number,
+        memory: counts.memory.number,
+        sent: counts.sent.number,
+        lost: counts.lost.number,
+        faults: counts.faults.number,
     }
 }
 
@@ -99,21 +156,19 @@ impl SharedReport {
     ghost use Rattle.srt_serve.specs.inside.Leaving.{IsLeft};
 
     /// No report was left yet; the first one is wanted.
-    pub const fn new() -> SharedReport {
+    pub fn new() -> SharedReport {
         SharedReport {
-            is_wanted: AtomicBool::new(true),
-            counts: [
-                AtomicU64::new(0),
-                AtomicU64::new(0),
-                AtomicU64::new(0),
-                AtomicU64::new(0),
-                AtomicU64::new(0),
-                AtomicU64::new(0),
-                AtomicU64::new(0),
-                AtomicU64::new(0),
-                AtomicU64::new(0),
-                AtomicU64::new(0),
-            ],
+            is_wanted: AtomicIn::new(1),
+            read: Counter::new(),
+            answered: Counter::new(),
+            accepted: Counter::new(),
+            full: Counter::new(),
+            dropped: Counter::new(),
+            not_allowed: Counter::new(),
+            memory: Counter::new(),
+            sent: Counter::new(),
+            lost: Counter::new(),
+            faults: Counter::new(),
         }
     }
 
@@ -123,17 +178,44 @@ impl SharedReport {
         ensures { IsLeft report.now result }
     {
         match read_flag(&self.is_wanted) {
-            Ok(_) => { ReportLeft::Written(clear_after(&self.is_wanted, self.store(report))) }
+            Ok(_) => { ReportLeft::Written(clear_after(&self.is_wanted, self.write(report))) }
             Err(clear) => ReportLeft::Unwanted(clear),
         }
     }
 
     // Not written out in the poller's loop: a report is wanted many rounds apart.
     #[inline(never)]
-    fn store(&self, report: &Report) -> CountsWritten
-        ensures { report_in result.numbers ≡ report.now }
+    fn write(&self, report: &Report) -> ReportWritten
+        ensures { written_report result ≡ report.now }
     {
-        write_counts(&self.counts, numbers_of(report))
+        ReportWritten {
+            read: self.read.write(report.read),
+            answered: self.answered.write(report.answered),
+            accepted: self.accepted.write(report.accepted),
+            full: self.full.write(report.full),
+            dropped: self.dropped.write(report.dropped),
+            not_allowed: self.not_allowed.write(report.not_allowed),
+            memory: self.memory.write(report.memory),
+            sent: self.sent.write(report.sent),
+            lost: self.lost.write(report.lost),
+            faults: self.faults.write(report.faults),
+        }
+    }
+
+    // The counts that were left.
+    fn read(&self) -> ReportCounts {
+        ReportCounts {
+            read: self.read.read(),
+            answered: self.answered.read(),
+            accepted: self.accepted.read(),
+            full: self.full.read(),
+            dropped: self.dropped.read(),
+            not_allowed: self.not_allowed.read(),
+            memory: self.memory.read(),
+            sent: self.sent.read(),
+            lost: self.lost.read(),
+            faults: self.faults.read(),
+        }
     }
 
     /// The report that was left since the last was taken; from then on the next one is wanted. The error is evidence that
@@ -142,7 +224,7 @@ impl SharedReport {
         match read_flag(&self.is_wanted) {
             Ok(wanted) => Err(wanted),
             Err(_) => {
-                let taken = raise_after(&self.is_wanted, read_counts(&self.counts));
+                let taken = raise_after(&self.is_wanted, CountsRead::of(self.read()));
                 Ok(ReportRead {
                     report: report_of(&taken.numbers),
                     taken,

@@ -4,7 +4,8 @@ ghost use Rattle.std.specs.Prelude.{◌≡◌, ◌<◌, ◌≤◌, ◌^◌, List
 ghost use Rattle.std.specs.Vec.{vec_capacity};
 ghost use Rattle.srt_serve.specs.Ticks.{WereTicked, Ticked};
 
-use crate::evidence::{RunOver, TicksOffered, offered_to, run_over};
+use crate::evidence::{RunOver, TicksOffered, come, offered_to, run_over};
+use crate::turns::make_tick;
 use srt_mailbox::{ClockEnd, InboxFull};
 use srt_types::Item;
 use srt_wakeups::Wakeups;
@@ -172,8 +173,8 @@ fn tick_all<R: Wait, E: TickEnd>(rt: &R, ends: &mut [E], moment: u64)
     tick_each(rt, ends, moment);
 }
 
-// Takes the ends that were added, and offers a tick to every route, in the order of their indexes. The workers are to be told.
-fn tick_with_new<R: Wait, E: TickEnd + Drop, A: TickEnds<E>>(
+/// Takes the ends that were added, and offers a tick to every route, in the order of their indexes. The workers are to be told.
+pub fn tick_with_new<R: Wait, E: TickEnd + Drop, A: TickEnds<E>>(
     rt: &R,
     ends: &mut Vec<E>,
     arrivals: &mut A,
@@ -202,14 +203,14 @@ pub fn tick<R: Wait, K: Ticker + Drop, E: TickEnd + Drop, A: TickEnds<E> + Drop>
         clocks.old.ends.items clocks.new.ends.items }
     ensures same { A.places clocks.new.arrivals ≡ A.places clocks.old.arrivals }
 {
-    wakeups.arrive();
+    let came = come(wakeups);
     for _ in rt.forever() {
-        if let Some(over) = run_over(wakeups) {
-            return over;
+        match run_over(wakeups, &came) {
+            Ok(over) => return over,
+            Err(turn) => {
+                let _ = make_tick(rt, clocks, wakeups, turn);
+            }
         }
-        let moment = clocks.ticker.next();
-        let offered = tick_with_new(rt, &mut clocks.ends, &mut clocks.arrivals, moment);
-        offered.tell(wakeups);
         thread::yield_now();
     }
     unreachable!()

@@ -12,13 +12,11 @@ ghost use Rattle.srt_supervision.specs.Answers.{IsOrdered};
 
 use crate::answers::{ClosesAll, EndsRun};
 use crate::counters::{Count, Counted, Counter, MissedRefusals, SocketFaults};
-use crate::evidence::{
-    NoPlace, OrderRead, RefusalQueue, WasPut, WordWritten, read_order, write_word,
-};
-use crate::route_marks::RouteMarks;
+use crate::evidence::{NoPlace, OrderRead, WasPut, WordWritten, read_order, write_word};
+use crate::refusal_queue::RefusalQueue;
 use crate::shared_report::{ReportLeft, SharedReport};
 use srt_supervision::{Answers, Order, Refusal, Report};
-use srt_wakeups::Wakeups;
+use srt_wakeups::{RouteMarks, Wakeups};
 use std::alloc::{AllocError, Global};
 use std::sync::Wait;
 use std::sync::atomic::AtomicIn;
@@ -30,9 +28,9 @@ const REFUSAL_PLACES: usize = 64;
 #[derive(Drop)]
 pub enum OrderSet<A: Answers> {
     /// The word of the orders to close all.
-    Closes(WordWritten<ClosesAll<A>>),
+    Closes(WordWritten<AtomicIn<ClosesAll<A>>>),
     /// The word of the orders to end.
-    Ends(WordWritten<EndsRun<A>>),
+    Ends(WordWritten<AtomicIn<EndsRun<A>>>),
 }
 
 /// What became of a refusal.
@@ -186,7 +184,7 @@ impl<A: Answers> PollerChannel for WatcherChannel<A> {
     ghost faulted = { λ _. Unit {0} };
 
     fn order(&self) -> OrderRead {
-        read_order(&self.ends, &self.closes)
+        read_order::<A, _, _>(&self.ends, &self.closes)
     }
 
     fn report(&self, report: &Report) -> ReportLeft {

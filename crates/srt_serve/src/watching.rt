@@ -10,7 +10,7 @@ ghost use Rattle.srt_serve.specs.inside.Looking.{IsShown, IsShownAt, IsQuiet, Is
 ghost use Rattle.srt_serve.specs.inside.Orders.{IsSet};
 ghost use Rattle.srt_serve.specs.inside.Quiet.{HasNoSession, HasSession, is_check_quiet};
 ghost use Rattle.srt_serve.specs.inside.UpTo.{UpTo};
-ghost use Rattle.srt_serve.specs.inside.Watched.{known_with, known_checked, status_of, AreTurns};
+ghost use Rattle.srt_serve.specs.inside.Watched.{known_with, status_of, AreTurns};
 ghost use Rattle.srt_serve.specs.declared.known.Known.{Known as TheKnown};
 ghost use Rattle.srt_serve.specs.inside.Taken.{taken_in};
 ghost use Rattle.srt_supervision.specs.Answers.{Answer, AreClosings, AreOpenings};
@@ -20,12 +20,13 @@ use crate::answers::Beginning;
 use crate::arrivals::{ChangeNotices, NameAttachment, RouteNotices, seat_route};
 use crate::counters::{Count, MissedRefusals, SocketFaults};
 use crate::evidence::{
-    FlagSet, NothingWaits, OutboxHasHint, OutboxesRest, RouteHost, RunOver, look_at_outboxes,
+    FlagSet, NothingWaits, OutboxHasHint, OutboxesRest, RouteHost, RunOver, come, look_at_outboxes,
     run_over,
 };
 use crate::hosting::SeatsHosted;
 use crate::known::Known;
 use crate::shared_report::ReportNoted;
+use crate::turns::{WatchedRun, watch_once};
 use crate::watcher_channel::{OrderSet, WatcherChannel};
 use srt_mailbox::{Observer, Seat, Serve};
 use srt_route::Route;
@@ -86,8 +87,8 @@ impl<A: Answers + Beginning, C: RouteHost<Seat = Seat<NameAttachment<A>>>, N> Ch
         Ok(seats)
     }
 
-    // The places that are taken.
-    fn taken(&self) -> &[C]
+    /// The places that are taken.
+    pub fn taken(&self) -> &[C]
         ensures { result.now ≡ taken_in self.now }
     {
         let taken = self.routes.min(self.places.len());
@@ -253,17 +254,17 @@ fn has_hint(outboxes: &Result<OutboxesRest, OutboxHasHint>) -> bool
     }
 }
 
-// What a check of the routes found.
+/// What a check of the routes found.
 #[derive(Drop)]
-struct Check {
-    // it counts as one that found all quiet
-    is_quiet: bool,
+pub struct Check {
+    /// It counts as one that found all quiet.
+    pub is_quiet: bool,
     // what was found of the outboxes after the look at the routes
     outboxes: Result<OutboxesRest, OutboxHasHint>,
 }
 
-// Shows the routes to the watcher, if it wants them, and checks whether all are quiet, if the order is to close all or to end.
-fn check_routes<R: Wait, C: Serve, T: Watch>(
+/// Shows the routes to the watcher, if it wants them, and checks whether all are quiet, if the order is to close all or to end.
+pub fn check_routes<R: Wait, C: Serve, T: Watch>(
     rt: &R,
     cells: &[C],
     wakeups: &Wakeups,
@@ -305,15 +306,15 @@ pub fn report_refusals<R: Wait, A: Answers, T: Watch>(
     None
 }
 
-// A rest of the watcher.
+/// A rest of the watcher.
 #[derive(Drop)]
-struct Rested<A: Answers> {
+pub struct Rested<A: Answers> {
     // the counts that were left before, or evidence that none were
     left: Result<ReportNoted, FlagSet>,
     faults: Count<SocketFaults>,
     missed: Count<MissedRefusals>,
-    // the order that it gave then
-    order: Order,
+    /// The order that it gave then.
+    pub order: Order,
     // evidence that the order was set
     set: OrderSet<A>,
     ghost is_set: { ∥ IsSet order set ∥₁ },
@@ -332,8 +333,8 @@ fn note_report<A: Answers>(
     }
 }
 
-// Lets the watcher rest once, and sets its order.
-fn rest<A: Answers, T: Watch>(
+/// Lets the watcher rest once, and sets its order.
+pub fn rest<A: Answers, T: Watch>(
     channel: &WatcherChannel<A>,
     watch: &mut T,
     known: &mut Known,
@@ -355,8 +356,8 @@ fn rest<A: Answers, T: Watch>(
     }
 }
 
-// Lets the watcher change the routes, unless its order is to close all or to end.
-fn change_routes<A: Answers + Beginning, C, T: Watch>(
+/// Lets the watcher change the routes, unless its order is to close all or to end.
+pub fn change_routes<A: Answers + Beginning, C, T: Watch>(
     changer: &mut Changer<'_, C, RouteNotices<A>, A>,
     watch: &mut T,
     order: Order,
@@ -371,53 +372,6 @@ where
         return;
     }
     watch.change_routes(changer);
-}
-
-// A turn of the watching thread.
-#[derive(Drop)]
-struct WatchTurn<A: Answers> {
-    rested: Rested<A>,
-    // evidence that no refusal waited any more; none if many did
-    reported: Option<NothingWaits>,
-    // the watcher wanted the routes
-    looks: bool,
-    check: Check,
-}
-
-// Lets the watcher rest once, and then executes its order and its changes.
-fn watch_once<R: Wait, A: Answers + Beginning, C, T: Watch>(
-    rt: &R,
-    changer: &mut Changer<'_, C, RouteNotices<A>, A>,
-    wakeups: &Wakeups,
-    channel: &WatcherChannel<A>,
-    watch: &mut T,
-    known: &mut Known,
-) -> WatchTurn<A>
-where
-    C: Serve + RouteHost<Seat = Seat<NameAttachment<A>>>,
-    requires { (a : Answer) → T.answered a → A.answered a }
-    ensures rested { T.rested (status_of (known_with result.rested.left known.old) result.rested.faults.number result.rested.missed.number)
-        result.rested.order }
-    ensures reported { IfNone result.reported (AreReported T.told 1024) }
-    ensures wanted { T.wanted result.looks }
-    ensures changed { result.rested.order ≡ GoOn → T.changed }
-    ensures kept { result.rested.order ≢ GoOn → changer.new ≡ changer.old }
-    ensures shown { result.looks ≡ true → UpTo (IsShownAt C.holds C.shows_none T.shown true (taken_in changer.new)) (length (taken_in changer.new)) }
-    ensures check { IsCheckOf C.holds C.shows_none result.rested.order (taken_in changer.new) result.check }
-    ensures known { known.new ≡ known_checked result.check.is_quiet (known_with result.rested.left known.old) }
-{
-    let rested = rest(channel, watch, known);
-    let reported = report_refusals(rt, channel, watch);
-    let looks = watch.wants_routes();
-    change_routes(changer, watch, rested.order);
-    let check = check_routes(rt, changer.taken(), wakeups, rested.order, watch, looks);
-    known.check(check.is_quiet);
-    WatchTurn {
-        rested,
-        reported,
-        looks,
-        check,
-    }
 }
 
 /// Watches until the run has ended. After each rest of the watcher the poller gets its order, the refusals that wait are
@@ -438,12 +392,19 @@ where
     requires first { changer.routes ≡ A.first }
     ensures { (between : List TheKnown) × AreTurns T.rested between known.old known.new }
 {
-    wakeups.arrive();
+    let came = come(wakeups);
+    let run = WatchedRun {
+        rt,
+        wakeups,
+        channel,
+    };
     for _ in rt.forever() {
-        if let Some(over) = run_over(wakeups) {
-            return over;
+        match run_over(wakeups, &came) {
+            Ok(over) => return over,
+            Err(turn) => {
+                let _ = watch_once(&run, &mut changer, watch, known, turn);
+            }
         }
-        let _ = watch_once(rt, &mut changer, wakeups, channel, watch, known);
         thread::yield_now();
     }
     unreachable!()

@@ -5,19 +5,20 @@ ghost use Rattle.srt_mailbox.specs.Counts.{Grew};
 ghost use Rattle.srt_mailbox.specs.declared.gates.Served.TheVariants.{Turned as TurnedAs, GateRefused, ClaimedElsewhere};
 ghost use Rattle.srt_types.specs.declared.shared.Turned.TheVariants.{Idle};
 ghost use Rattle.srt_serve.specs.inside.Working.{round_first, round_with, is_thin, pause_after, sleeps, first_of, ArePassed};
+ghost use Rattle.srt_serve.specs.inside.Pausing.{IsPause};
 ghost use Rattle.srt_serve.specs.inside.UpTo.{UpTo};
 
-use crate::evidence::{Entered, LeftRoute, RunOver, enter, run_over};
-use crate::route_marks::RouteMarks;
+use crate::evidence::{Entered, LeftRoute, RunOver, come, enter, run_over};
+use crate::turns::make_round;
 use srt_mailbox::{Gate, Serve, Served, Visit};
 use srt_types::Turned;
-use srt_wakeups::Wakeups;
+use srt_wakeups::{RouteMarks, Wakeups, WorkerPauses};
 use srt_wakeups::pacing::{MANY_REPLIES, THIN_ROUTES, THIN_TURNS, WORKER_TURNS};
 use std::sync::Wait;
 
-// What a worker did in a round.
+/// What a worker did in a round.
 #[derive(Clone, Copy)]
-struct Round {
+pub struct Round {
     // the number of routes at which a turn applied an item or moved a reply
     served: u32,
     // the most such turns at one route
@@ -168,6 +169,7 @@ fn serve_entered<R: Wait, C: Serve, G: Gate, M: RouteMarks>(
     ensures held { result.visit.end ≡ Some GateRefused → result.left.is_left ≡ false }
     ensures left { result.visit.end ≢ Some (TurnedAs Idle) → result.visit.end ≢ Some GateRefused → result.left.is_left ≡ true }
     ensures replied { 0 < result.visit.moved → M.replied entered.entry.marks.now entered.entry.route }
+    ensures marked { result.left.is_left ≡ true → M.left entered.entry.marks.now entered.entry.route }
     ensures passed { M.passed entered.entry.marks.now entered.entry.route }
 {
     let visit = serve_route(
@@ -184,12 +186,15 @@ fn serve_entered<R: Wait, C: Serve, G: Gate, M: RouteMarks>(
     }
 }
 
-// The routes that a worker serves.
+/// The routes that a worker serves.
 #[derive(Drop)]
-struct WorkerRoutes<'a, R, C, M> {
-    rt: &'a R,
-    cells: &'a [C],
-    marks: &'a M,
+pub struct WorkerRoutes<'a, R, C, M> {
+    /// The host.
+    pub rt: &'a R,
+    /// Their cells.
+    pub cells: &'a [C],
+    /// Their marks.
+    pub marks: &'a M,
 }
 
 // A worker's pass over the routes.
@@ -250,9 +255,9 @@ fn serve_between<R: Wait, C: Serve, G: Gate, M: RouteMarks>(
     }
 }
 
-// Passes once over all routes, from the route `first` on, and serves each whose inbox is ready and that no other worker
-// serves.
-fn serve_round<R: Wait, C: Serve, G: Gate, M: RouteMarks>(
+/// Passes once over all routes, from the route `first` on, and serves each whose inbox is ready and that no other worker
+/// serves.
+pub fn serve_round<R: Wait, C: Serve, G: Gate, M: RouteMarks>(
     routes: &WorkerRoutes<'_, R, C, M>,
     first: usize,
     gate: &mut G,
@@ -266,6 +271,29 @@ fn serve_round<R: Wait, C: Serve, G: Gate, M: RouteMarks>(
     serve_between(routes, first, routes.cells.len(), gate, &mut pass);
     serve_between(routes, 0, first, gate, &mut pass);
     pass.round
+}
+
+/// Pauses after a round, which the worker began once there had been `seen` notifications, and before which it had slept or
+/// not. Whether it slept.
+pub fn pause_after<R: Wait, C, M: WorkerPauses>(
+    routes: &WorkerRoutes<'_, R, C, M>,
+    round: Round,
+    napped: bool,
+    seen: u64,
+) -> bool
+    ensures paused { IsPause M.saw M.napped M.rested M.dozed M.shared routes.now.marks.now (pause_after round napped) seen round.served }
+    ensures slept { result ≡ sleeps (pause_after round napped) }
+{
+    let WorkerRoutes { rt, marks, .. } = *routes;
+    let pause = round.pause(napped);
+    match pause {
+        Pause::Doze => marks.take_doze(rt, seen, round.served),
+        Pause::Share => marks.share_work(),
+        Pause::GoOn => {}
+        Pause::Rest => marks.take_rest(rt, seen),
+        Pause::Nap => marks.take_nap(rt, seen),
+    }
+    sleeps(pause)
 }
 
 /// Evidence that a worker has ended, since the run was over.
@@ -290,7 +318,7 @@ pub fn work<R: Wait, C: Serve, G: Gate + Drop>(
 ) -> WorkerEnded
     ensures { result.number ≡ number }
 {
-    wakeups.arrive();
+    let came = come(wakeups);
     let first = first_of(number, cells.len());
     let routes = WorkerRoutes {
         rt,
@@ -299,20 +327,10 @@ pub fn work<R: Wait, C: Serve, G: Gate + Drop>(
     };
     let mut napped = false;
     for _ in rt.forever() {
-        if let Some(over) = run_over(wakeups) {
-            return WorkerEnded { number, over };
+        match run_over(wakeups, &came) {
+            Ok(over) => return WorkerEnded { number, over },
+            Err(turn) => napped = make_round(&routes, first, &mut gate, napped, turn),
         }
-        let seen = wakeups.notifications();
-        let round = serve_round(&routes, first, &mut gate);
-        let pause = round.pause(napped);
-        match pause {
-            Pause::Doze => wakeups.doze(rt, seen, round.served),
-            Pause::Share => wakeups.wake_reserve(),
-            Pause::GoOn => {}
-            Pause::Rest => wakeups.rest(rt, seen),
-            Pause::Nap => wakeups.nap(rt, seen),
-        }
-        napped = sleeps(pause);
     }
     unreachable!()
 }

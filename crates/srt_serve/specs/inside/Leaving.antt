@@ -3,9 +3,9 @@ use Rattle.std.specs.Prelude.{◌≡◌}
 use Rattle.srt_supervision.specs.declared.report.Report.{Report}
 use Rattle.srt_serve.specs.declared.shared_report.ReportLeft.{ReportLeft}
 use Rattle.srt_serve.specs.declared.shared_report.ReportLeft.TheVariants.{Written, Unwanted}
-use Rattle.srt_serve.specs.inside.Reported.{report_in}
+use Rattle.srt_serve.specs.inside.Reported.{written_report}
 
 -- its counts were written, or none was wanted
 abbrev pub IsLeft : Report → ReportLeft → Type 0
-IsLeft report (Written counts) = report_in counts.written.numbers ≡ report
+IsLeft report (Written counts) = written_report counts.written ≡ report
 IsLeft report (Unwanted clear) = Unit {0}

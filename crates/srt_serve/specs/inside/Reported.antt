@@ -1,19 +1,36 @@
--- A report as a list of its counts.
-use Rattle.std.specs.Prelude.{ℕ, List, slice_index}
+-- A report as the counts that were written or read of it.
 use Rattle.srt_supervision.specs.declared.report.Report.{Report}
+use Rattle.srt_serve.specs.declared.shared_report.ReportWritten.{ReportWritten}
+use Rattle.srt_serve.specs.declared.shared_report.ReportCounts.{ReportCounts}
 
--- the report of which these are the counts, in the order of its fields
-abbrev pub report_in : (counts : List ℕ) → Report
-report_in counts =
+-- the report of which these counts were written
+abbrev pub written_report : ReportWritten → Report
+written_report counts =
     record {
-      read = slice_index counts 0;
-      answered = slice_index counts 1;
-      accepted = slice_index counts 2;
-      full = slice_index counts 3;
-      dropped = slice_index counts 4;
-      not_allowed = slice_index counts 5;
-      memory = slice_index counts 6;
-      sent = slice_index counts 7;
-      lost = slice_index counts 8;
-      faults = slice_index counts 9;
+      read = counts.read.number;
+      answered = counts.answered.number;
+      accepted = counts.accepted.number;
+      full = counts.full.number;
+      dropped = counts.dropped.number;
+      not_allowed = counts.not_allowed.number;
+      memory = counts.memory.number;
+      sent = counts.sent.number;
+      lost = counts.lost.number;
+      faults = counts.faults.number;
+    }
+
+-- the report of which these counts were read
+abbrev pub read_report : ReportCounts → Report
+read_report counts =
+    record {
+      read = counts.read.number;
+      answered = counts.answered.number;
+      accepted = counts.accepted.number;
+      full = counts.full.number;
+      dropped = counts.dropped.number;
+      not_allowed = counts.not_allowed.number;
+      memory = counts.memory.number;
+      sent = counts.sent.number;
+      lost = counts.lost.number;
+      faults = counts.faults.number;
     }

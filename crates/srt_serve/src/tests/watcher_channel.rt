@@ -1,6 +1,6 @@
 //! What the polling thread tells a watcher, and what it is asked, without threads.
 
-use crate::evidence::run_over;
+use crate::evidence::{come, run_over};
 use crate::inline_serving::InlineServer;
 use crate::known::Known;
 use crate::tests::datagrams::{
@@ -8,6 +8,7 @@ use crate::tests::datagrams::{
 };
 use crate::tests::peer;
 use crate::tests::watched::studio;
+use crate::turns::tests::give_up;
 use crate::watcher_channel::{PollerChannel, WatcherChannel};
 use crate::{Answers, ChangeRoutes, Refusal, RunStatus, Watch};
 use srt_lobby::Names;
@@ -174,7 +175,13 @@ fn refusals_that_find_no_place_are_counted(rt: HostRuntime) -> Result<(), Fail> 
 
 /// The report that was left, if one was. `ended` is of a run that is over.
 fn taken(channel: &WatcherChannel<Anything>, ended: &Wakeups) -> Option<Report> {
-    let over = run_over(ended)?;
+    let over = match run_over(ended, &come(ended)) {
+        Ok(over) => over,
+        Err(turn) => {
+            give_up(turn);
+            return None;
+        }
+    };
     let mut known = Known::new();
     let report = match channel.report.take() {
         Ok(read) => Some(read.note(&mut known).report),

@@ -21,6 +21,7 @@ loop-entry-preserved g c =
       places = c.take_first.ensures.places ∙ c.loop-entry.invariant.places;
       clocked = c.take_first_clock.ensures.places ∙ c.loop-entry.invariant.clocked;
       room = omega (arith, c.loop-entry.invariant.room, c.take_first.ensures.room);
+      clock_room = omega (arith, c.loop-entry.invariant.clock_room, c.take_first_clock.ensures.room);
       put =
           tokens_grow (λ t. t.of) (λ t. identity_in t.value.cell) (λ p. p.seat.id) c.args.places.now _ _ _ _ _ _
           c.loop-entry.invariant.put c.in_ok-push.ensures.items taken.1 c.in_ok-token.ensures.put.1

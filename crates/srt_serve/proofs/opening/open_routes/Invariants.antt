@@ -14,6 +14,7 @@ invariant-loop-entry g l = record {
   places : locks_of l.routes ≡ map (λ p. p.seat.id) l.places;
   clocked : locks_of l.arrivals.reader ≡ map (λ p. p.seat.id) l.places;
   room : length l.places ≤ vec_capacity l.ends;
+  clock_room : length l.places ≤ vec_capacity l.clocks;
   put :
       (map (λ t. t.of) l.put.items ≡ take (length l.put.items) (map (λ p. p.seat.id) l.places))
       × (map (λ t. identity_in t.value.cell) l.put.items ≡ arrived l.routes);

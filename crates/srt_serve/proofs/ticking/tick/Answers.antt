@@ -7,16 +7,17 @@ pub loop-init : goal.loop-init
 loop-init g c = (tt, tt, refl, ([], sym (joined_none _), sym (append-nil _), refl))
 
 pub loop-preserved : goal.loop-preserved
-loop-preserved g c = (
-  tt,
-  tt,
-  c.tick_with_new-offered.ensures.same ∙ c.loop.invariant.2,
-  one_tick_more g.E.TickEnd.inbox g.E.TickEnd.tried _ _ _ _ _ _ _ _ _ c.next-moment.result c.tick_with_new-offered.ensures.ticked.0
-      c.loop.invariant.3 c.next-moment.ensures.records c.tick_with_new-offered.ensures.ticked.1 c.tick_with_new-offered.ensures.ticked.2,
-)
+loop-preserved g c =
+    let turn = c.make_tick.ensures in (
+      tt,
+      tt,
+      turn.same ∙ c.loop.invariant.2,
+      one_tick_more g.E.TickEnd.inbox g.E.TickEnd.tried _ _ _ _ _ _ _ _ _ turn.ticked.0 turn.ticked.1 c.loop.invariant.3 turn.ticked.2
+          turn.ticked.3 turn.ticked.4,
+    )
 
-pub returns-in-Some-run_over-clause-ticked : goal.returns-in-Some-run_over-clause-ticked
-returns-in-Some-run_over-clause-ticked g c = c.loop.invariant.3
+pub returns-in-Ok-clause-ticked : goal.returns-in-Ok-clause-ticked
+returns-in-Ok-clause-ticked g c = c.loop.invariant.3
 
-pub returns-in-Some-run_over-clause-same : goal.returns-in-Some-run_over-clause-same
-returns-in-Some-run_over-clause-same g c = c.loop.invariant.2
+pub returns-in-Ok-clause-same : goal.returns-in-Ok-clause-same
+returns-in-Ok-clause-same g c = c.loop.invariant.2
