@@ -56,6 +56,15 @@ fn requested_name<'v>(routes: &'v WatchedRoutes, refusal: &'v Refusal) -> &'v [u
     }
 }
 
+// Counts a conclusion if the lobby refused it: a route counts those that it refuses.
+fn count_lobby_refusal(overview: &mut Overview, refusal: &Refusal)
+    ensures { overview.new ≡ after_refusal overview.old refusal.now }
+{
+    if refusal.route.is_none() {
+        overview.count_refusal(refusal.code, refusal.cause);
+    }
+}
+
 // Writes why a stop was requested, if it was.
 #[tactic(auto, using(crate::proofs::Logging::logged_nothing))]
 fn log_stop<W: Write + Drop>(log: &mut LogWriter<W>, when: When, by: Option<StopCause>)
@@ -363,9 +372,7 @@ where
         ensures kept { (self.new.routes ≡ self.old.routes) × (self.new.following ≡ self.old.following) × (self.new.form ≡ self.old.form)
             × (self.new.changes.counts ≡ self.old.changes.counts) × (self.new.page ≡ self.old.page) }
     {
-        if refusal.route.is_none() {
-            self.overview.count_refusal(refusal.code, refusal.cause);
-        }
+        count_lobby_refusal(&mut self.overview, refusal);
         let name = requested_name(&self.routes, refusal);
         log_refused(
             &mut self.repeats,
