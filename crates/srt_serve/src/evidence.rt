@@ -383,11 +383,7 @@ pub struct NoneMarked {
 }
 
 /// Clears the mark of the first route that has one, of this many. The error is evidence that none has at this look.
-pub fn take_mark<S: SharedMarks>(
-    marks: &S,
-    routes: usize,
-    look: u64,
-) -> Result<usize, NoneMarked>
+pub fn take_mark<S: SharedMarks>(marks: &S, routes: usize, look: u64) -> Result<usize, NoneMarked>
     ensures some { IfOk result (λ route. route < routes) }
     ensures none { IfErr result (λ none. none.look ≡ look) }
     ensures cleared { IfOk result (λ route. S.cleared marks.now route) }

@@ -3,7 +3,9 @@
 ghost use Rattle.std.specs.Prelude.{◌≡◌, ◌<◌, IfOk};
 ghost use Rattle.crossbeam_queue.specs.Passes.{queue_capacity};
 
-use crate::evidence::{NoPlace, NothingWaits, TakenRefusal, WasPut, look_for_place, put, take_refusal};
+use crate::evidence::{
+    NoPlace, NothingWaits, TakenRefusal, WasPut, look_for_place, put, take_refusal,
+};
 use crossbeam_queue::ArrayQueue;
 use srt_supervision::Refusal;
 use std::alloc::{AllocError, Global};

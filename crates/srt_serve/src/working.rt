@@ -12,8 +12,8 @@ use crate::evidence::{Entered, LeftRoute, RunOver, come, enter, run_over};
 use crate::turns::make_round;
 use srt_mailbox::{Gate, Serve, Served, Visit};
 use srt_types::Turned;
-use srt_wakeups::{RouteMarks, Wakeups, WorkerPauses};
 use srt_wakeups::pacing::{MANY_REPLIES, THIN_ROUTES, THIN_TURNS, WORKER_TURNS};
+use srt_wakeups::{RouteMarks, Wakeups, WorkerPauses};
 use std::sync::Wait;
 
 /// What a worker did in a round.
