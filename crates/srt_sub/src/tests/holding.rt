@@ -1,7 +1,7 @@
 //! Payloads that wait for a key.
 
 use super::turns::{Turn, other};
-use super::{CALLER, LOST, SESSION, media, media_again};
+use super::{LOST, media, media_again};
 use crate::Emitted;
 use srt_samples::{Loss, drop_request, keep_alive, light_ack, nak};
 use srt_types::Mode;
@@ -30,7 +30,7 @@ fn payloads_wait_behind_the_bound(rt: HostRuntime) -> Result<(), Fail> {
         (NOW, Turn::Ends),
         (NOW, Turn::Release),
         // it is sent again as always
-        (NOW, Turn::Hear(nak(&LOST).to(SESSION))),
+        (NOW, Turn::Hear(nak(&LOST))),
         (NOW, Turn::Hold(1)),
         (
             NOW,
@@ -59,12 +59,12 @@ fn no_acknowledgement_passes_what_waits(rt: HostRuntime) -> Result<(), Fail> {
         (NOW, Turn::Ends),
         (NOW, Turn::Release),
         // the second one isn't sent, so its acknowledgement changes nothing
-        (NOW, Turn::Hear(light_ack(11).to(SESSION))),
+        (NOW, Turn::Hear(light_ack(11))),
         (NOW, Turn::Room(126)),
-        (NOW, Turn::Hear(light_ack(10).to(SESSION))),
+        (NOW, Turn::Hear(light_ack(10))),
         (NOW, Turn::Room(127)),
         // and neither does a loss list with it
-        (NOW, Turn::Hear(nak(&BOTH).to(SESSION))),
+        (NOW, Turn::Hear(nak(&BOTH))),
         (NOW, Turn::Hold(1)),
         (NOW, Turn::Ends),
         (NOW, Turn::Release),
@@ -72,7 +72,7 @@ fn no_acknowledgement_passes_what_waits(rt: HostRuntime) -> Result<(), Fail> {
         (NOW, Turn::Wrote(Emitted::Data(1), media(10, 2, 500_000))),
         (NOW, Turn::Ends),
         (NOW, Turn::Release),
-        (NOW, Turn::Hear(light_ack(11).to(SESSION))),
+        (NOW, Turn::Hear(light_ack(11))),
         (NOW, Turn::Room(128)),
     ];
     assert_eq!(rt; other(rt.alloc(), &turns)?, None);
@@ -83,7 +83,7 @@ fn no_acknowledgement_passes_what_waits(rt: HostRuntime) -> Result<(), Fail> {
 fn what_waits_expires(rt: HostRuntime) -> Result<(), Fail> {
     // queued more than a second ago, and never sent
     let late = NOW + 1_000_001;
-    let dropped = drop_request(1, 9, 10).stamp(1_500_001).to(CALLER);
+    let dropped = drop_request(1, 9, 10).stamp(1_500_001);
     let third = media(11, 3, 1_500_001);
     let turns = [
         (4_000_000, Turn::Start(Mode::Live, 9)),
@@ -94,7 +94,7 @@ fn what_waits_expires(rt: HostRuntime) -> Result<(), Fail> {
         (late, Turn::GivenUp(2)),
         (late, Turn::Feed(b'a')),
         // a drop request for them is sent also while the session is held; the payload after them waits
-        (late, Turn::Hear(nak(&BOTH).to(SESSION))),
+        (late, Turn::Hear(nak(&BOTH))),
         (late, Turn::Hold(2)),
         (late, Turn::Wrote(Emitted::DropRequest, dropped)),
         (late, Turn::Ends),
@@ -112,7 +112,7 @@ fn what_waits_expires(rt: HostRuntime) -> Result<(), Fail> {
 fn in_buffer_mode_what_waits_takes_room(rt: HostRuntime) -> Result<(), Fail> {
     // an hour later, nothing has expired; a KEEPALIVE alone is sent
     let late = NOW + 3_600_000_000;
-    let alive = keep_alive().stamp(3_600_500_000).to(CALLER);
+    let alive = keep_alive().stamp(3_600_500_000);
     let turns = [
         (4_000_000, Turn::Start(Mode::Buffer, 9)),
         (NOW, Turn::Feed(b'a')),

@@ -1,8 +1,8 @@
 //! The index of a data packet's payload.
 
 use super::turns::{Turn, other};
-use super::{Answer, CALLER, LOST, SESSION, hears, media, media_again, number, unstarted};
-use crate::{Emitted, Opening, Resending};
+use super::{LOST, hears, media, media_again, number, opening, unstarted};
+use crate::Emitted;
 use srt_samples::{Loss, drop_request, keep_alive, light_ack, nak};
 use srt_types::Mode;
 use std::test::Fail;
@@ -27,19 +27,19 @@ fn an_index_stays_with_its_payload(rt: HostRuntime) -> Result<(), Fail> {
         (4_500_000, Turn::Wrote(Emitted::Data(1), second)),
         (4_500_000, Turn::Ends),
         // sent again, also after the first one is acknowledged
-        (4_600_000, Turn::Hear(nak(&WRAPPED).to(SESSION))),
+        (4_600_000, Turn::Hear(nak(&WRAPPED))),
         (
             4_600_000,
             Turn::Wrote(Emitted::Data(0), media_again(0x7fff_ffff, 1, 500_000)),
         ),
-        (4_700_000, Turn::Hear(light_ack(0).to(SESSION))),
+        (4_700_000, Turn::Hear(light_ack(0))),
         (
             4_700_000,
             Turn::Wrote(Emitted::Data(1), second.flags(0xe400_0002)),
         ),
         (4_700_000, Turn::Ends),
         // and the next payload
-        (4_700_000, Turn::Hear(light_ack(1).to(SESSION))),
+        (4_700_000, Turn::Hear(light_ack(1))),
         (4_800_000, Turn::Feed(b'c')),
         (4_800_000, Turn::Queued(3)),
         (4_800_000, Turn::Wrote(Emitted::Data(2), third)),
@@ -51,9 +51,9 @@ fn an_index_stays_with_its_payload(rt: HostRuntime) -> Result<(), Fail> {
 
 #[test]
 fn packets_without_a_payload(rt: HostRuntime) -> Result<(), Fail> {
-    let dropped = drop_request(1, 9, 9).stamp(2_000_001).to(CALLER);
+    let dropped = drop_request(1, 9, 9).stamp(2_000_001);
     let second = media(10, 2, 2_000_001).payload(b"b");
-    let alive = keep_alive().stamp(3_000_001).to(CALLER);
+    let alive = keep_alive().stamp(3_000_001);
     let turns = [
         (4_000_000, Turn::Start(Mode::Live, 9)),
         (5_000_000, Turn::Feed(b'a')),
@@ -63,13 +63,13 @@ fn packets_without_a_payload(rt: HostRuntime) -> Result<(), Fail> {
         ),
         (5_000_000, Turn::Ends),
         // the payload has expired, and a new one is queued
-        (6_000_001, Turn::Hear(nak(&LOST).to(SESSION))),
+        (6_000_001, Turn::Hear(nak(&LOST))),
         (6_000_001, Turn::Feed(b'b')),
         (6_000_001, Turn::Wrote(Emitted::DropRequest, dropped)),
         (6_000_001, Turn::Wrote(Emitted::Data(1), second)),
         (6_000_001, Turn::Ends),
         // nothing is sent for a second
-        (6_100_000, Turn::Hear(light_ack(11).to(SESSION))),
+        (6_100_000, Turn::Hear(light_ack(11))),
         (7_000_000, Turn::Ends),
         (7_000_001, Turn::Wrote(Emitted::KeepAlive, alive)),
         (7_000_001, Turn::Ends),
@@ -89,17 +89,7 @@ fn packets_without_a_payload(rt: HostRuntime) -> Result<(), Fail> {
 fn indexes_go_on(rt: HostRuntime) -> Result<(), Fail> {
     let mut trial = unstarted(rt.alloc())?;
     let initial = number(0x7fff_f000)?;
-    trial.session.start(Opening {
-        now: 4_000_000,
-        initial,
-        caller: CALLER,
-        delay: 120_000,
-        mode: Mode::Live,
-        mtu: 1500,
-        window: 8192,
-        resend_percent: None,
-        resending: Resending::AtEachTimeout,
-    });
+    trial.session.start(opening(4_000_000, 0x7fff_f000)?);
     // more than a window's 8192 payloads, and a sequence number that wraps after 4096 of them
     for count in 0..9000u32 {
         let fed = trial.session.feed(b"a", 4_500_000);
@@ -112,8 +102,8 @@ fn indexes_go_on(rt: HostRuntime) -> Result<(), Fail> {
             .session
             .emit_indexed(4_500_000, true, &mut trial.place);
         assert!(rt; over.is_none());
-        let acked = light_ack(initial.add(count + 1).get()).to(SESSION);
-        assert!(rt; hears(&mut trial, acked, 4_500_000, Answer::Nothing)?);
+        let acked = light_ack(initial.add(count + 1).get());
+        assert!(rt; hears(&mut trial, acked, 4_500_000)?);
     }
     assert_eq!(rt; trial.session.queued_payloads(), 9000);
     Ok(())

@@ -2,8 +2,8 @@
 
 ghost use Rattle.std.specs.Prelude.{◌^◌, ◌<◌};
 
-use super::{Answer, CALLER, Trial, hears, number, sends, unstarted};
-use crate::{Emitted, Opening, Resending};
+use super::{Trial, hears, opening, sends, unstarted};
+use crate::{Emitted, Opening};
 use srt_samples::Sample;
 use srt_types::{MOMENT_END, Mode};
 use std::alloc::Global;
@@ -35,22 +35,6 @@ pub enum Turn<'a> {
     FlowWindow(u32),
 }
 
-/// Begins a session.
-fn starts(trial: &mut Trial, now: u64, mode: Mode, initial: u32) -> Result<(), Fail> {
-    trial.session.start(Opening {
-        now,
-        initial: number(initial)?,
-        caller: CALLER,
-        delay: 120_000,
-        mode,
-        mtu: 1500,
-        window: 8192,
-        resend_percent: None,
-        resending: Resending::AtEachTimeout,
-    });
-    Ok(())
-}
-
 /// Whether the next packet of an event's end is this one, and the call tells that.
 fn wrote(trial: &mut Trial, now: u64, told: Emitted, sample: Sample<'_>) -> Result<bool, Fail>
     requires { now < 2 ^ 62 }
@@ -59,7 +43,7 @@ fn wrote(trial: &mut Trial, now: u64, told: Emitted, sample: Sample<'_>) -> Resu
     if wrote != Some(told) {
         return Ok(false);
     }
-    sends(trial, Answer::Sends(sample))
+    sends(trial, sample)
 }
 
 fn agrees(trial: &mut Trial, window: &mut u32, now: u64, turn: Turn<'_>) -> Result<bool, Fail>
@@ -67,11 +51,12 @@ fn agrees(trial: &mut Trial, window: &mut u32, now: u64, turn: Turn<'_>) -> Resu
 {
     match turn {
         Turn::Start(mode, initial) => {
-            starts(trial, now, mode, initial)?;
+            let live = opening(now, initial)?;
+            trial.session.start(Opening { mode, ..live });
             Ok(true)
         }
         Turn::Feed(byte) => Ok(trial.session.feed(&[byte], now)),
-        Turn::Hear(sample) => hears(trial, sample, now, Answer::Nothing),
+        Turn::Hear(sample) => hears(trial, sample, now),
         Turn::Expire => {
             trial.session.expire(now);
             Ok(true)
