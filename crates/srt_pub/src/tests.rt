@@ -151,12 +151,8 @@ fn assert_sent(
     let mut ack = EncodedPacket::new();
     let mut nak = EncodedPacket::new();
     let mut keep_alive = EncodedPacket::new();
-    let sent = publisher.transmit(
-        OPENING + u64::from(time),
-        &mut ack,
-        &mut nak,
-        &mut keep_alive,
-    );
+    let now = OPENING + u64::from(time);
+    let sent = publisher.transmit(now, &mut ack, &mut nak, &mut keep_alive);
     assert_written(rt, sent.ack, &ack, time, wanted[0])?;
     assert_written(rt, sent.nak, &nak, time, wanted[1])?;
     assert_written(rt, sent.keep_alive, &keep_alive, time, wanted[2])
@@ -285,54 +281,19 @@ fn a_light_ack_after_64_packets(rt: HostRuntime) -> Result<(), Fail> {
     )
 }
 
-/// Number 2 and every second one up to 66 arrive: there are 33 runs, and the NAK omits the last.
+/// Number 2 and every second one up to 66 arrive: there are 33 runs, and the NAK omits the last. Its runs are 0 and 1, 3, 5 and
+/// so on up to 63.
 #[test]
 fn a_nak_of_32_runs(rt: HostRuntime) -> Result<(), Fail> {
     let mut publisher = session(rt.alloc(), 128, 0, Mode::Live, 1_000_000)?;
     for half in 1..34u8 {
         hear_number(rt.alloc(), &mut publisher, 2 * half)?;
     }
-    assert_event(
-        &rt,
-        &mut publisher,
-        Event::SendsNak(
-            150_000,
-            nak(&[
-                Loss::Range(0, 1),
-                Loss::Single(3),
-                Loss::Single(5),
-                Loss::Single(7),
-                Loss::Single(9),
-                Loss::Single(11),
-                Loss::Single(13),
-                Loss::Single(15),
-                Loss::Single(17),
-                Loss::Single(19),
-                Loss::Single(21),
-                Loss::Single(23),
-                Loss::Single(25),
-                Loss::Single(27),
-                Loss::Single(29),
-                Loss::Single(31),
-                Loss::Single(33),
-                Loss::Single(35),
-                Loss::Single(37),
-                Loss::Single(39),
-                Loss::Single(41),
-                Loss::Single(43),
-                Loss::Single(45),
-                Loss::Single(47),
-                Loss::Single(49),
-                Loss::Single(51),
-                Loss::Single(53),
-                Loss::Single(55),
-                Loss::Single(57),
-                Loss::Single(59),
-                Loss::Single(61),
-                Loss::Single(63),
-            ]),
-        ),
-    )
+    let mut runs = [Loss::Range(0, 1); 32];
+    for k in 1..32usize {
+        runs[k] = Loss::Single(2 * k as u32 + 1);
+    }
+    assert_event(&rt, &mut publisher, Event::SendsNak(150_000, nak(&runs)))
 }
 
 #[test]
@@ -427,15 +388,24 @@ fn a_number_past_the_window_ends_it(rt: HostRuntime) -> Result<(), Fail> {
     )
 }
 
+/// Returns a session in which the numbers 9 and 7 arrived, and 8 is missing.
+fn behind_a_gap(rt: &(impl AllocGlobal + Abort)) -> Result<Publisher, Fail> {
+    let mut publisher = session(rt.alloc(), 1024, 7, Mode::Live, 100_000)?;
+    let events = [
+        Event::Comes(1_000, media(9, 3, 1_000, b"b")),
+        Event::Comes(1_000, media(7, 1, 500, b"a")),
+    ];
+    assert_events(rt, &mut publisher, &events)?;
+    Ok(publisher)
+}
+
 #[test]
 fn a_packet_behind_a_gap_is_delivered_at_its_moment(rt: HostRuntime) -> Result<(), Fail> {
-    let mut publisher = session(rt.alloc(), 1024, 7, Mode::Live, 100_000)?;
+    let mut publisher = behind_a_gap(&rt)?;
     assert_events(
         &rt,
         &mut publisher,
         &[
-            Event::Comes(1_000, media(9, 3, 1_000, b"b")),
-            Event::Comes(1_000, media(7, 1, 500, b"a")),
             Event::Delivers(100_499, 1, b""),
             Event::Delivers(100_500, 1, b"a"),
             Event::Delivers(100_999, 1, b""),
@@ -449,13 +419,11 @@ fn a_packet_behind_a_gap_is_delivered_at_its_moment(rt: HostRuntime) -> Result<(
 /// The same as the previous test, for a standby publisher.
 #[test]
 fn payloads_are_passed_over_as_they_are_delivered(rt: HostRuntime) -> Result<(), Fail> {
-    let mut publisher = session(rt.alloc(), 1024, 7, Mode::Live, 100_000)?;
+    let mut publisher = behind_a_gap(&rt)?;
     assert_events(
         &rt,
         &mut publisher,
         &[
-            Event::Comes(1_000, media(9, 3, 1_000, b"b")),
-            Event::Comes(1_000, media(7, 1, 500, b"a")),
             Event::PassesOver(100_499, false),
             Event::PassesOver(100_500, true),
             Event::PassesOver(100_999, false),
@@ -578,31 +546,54 @@ fn assert_no_end(end: Option<PubEnd>) -> Result<(), Fail> {
     }
 }
 
+/// Asserts the words of the first Full ACK of a session in buffer mode, 10 ms after its opening, if this many packets came.
+fn assert_rates(
+    rt: &(impl AllocGlobal + Abort),
+    packets: u32,
+    apart: u32,
+    words: [u32; 7],
+) -> Result<(), Fail> {
+    let mut publisher = libsrt_session(rt.alloc(), Mode::Buffer)?;
+    come(rt.alloc(), &mut publisher, packets, apart)?;
+    assert_sent(
+        rt,
+        &mut publisher,
+        10_000,
+        [Some(ack(1, &words)), None, None],
+    )
+}
+
 /// 17 packets, 100 microseconds apart: 10,000 per second.
 #[test]
 fn rates_of_17_packets(rt: HostRuntime) -> Result<(), Fail> {
-    let mut publisher = libsrt_session(rt.alloc(), Mode::Buffer)?;
-    come(rt.alloc(), &mut publisher, 17, 100)?;
-    let reported = ack(1, &[24, 100_000, 50_000, 15, 10_000, 100_000, 14_560_000]);
-    assert_sent(&rt, &mut publisher, 10_000, [Some(reported), None, None])
+    assert_rates(
+        &rt,
+        17,
+        100,
+        [24, 100_000, 50_000, 15, 10_000, 100_000, 14_560_000],
+    )
 }
 
 /// Ten packets, and so nine intervals, are enough.
 #[test]
 fn rates_of_10_packets(rt: HostRuntime) -> Result<(), Fail> {
-    let mut publisher = libsrt_session(rt.alloc(), Mode::Buffer)?;
-    come(rt.alloc(), &mut publisher, 10, 100)?;
-    let reported = ack(1, &[17, 100_000, 50_000, 22, 10_000, 100_000, 14_560_000]);
-    assert_sent(&rt, &mut publisher, 10_000, [Some(reported), None, None])
+    assert_rates(
+        &rt,
+        10,
+        100,
+        [17, 100_000, 50_000, 22, 10_000, 100_000, 14_560_000],
+    )
 }
 
 /// Nine packets are too few, and the minimum rate is reported.
 #[test]
 fn rates_of_9_packets(rt: HostRuntime) -> Result<(), Fail> {
-    let mut publisher = libsrt_session(rt.alloc(), Mode::Buffer)?;
-    come(rt.alloc(), &mut publisher, 9, 100)?;
-    let reported = ack(1, &[16, 100_000, 50_000, 23, 1_000, 100_000, 1_456_000]);
-    assert_sent(&rt, &mut publisher, 10_000, [Some(reported), None, None])
+    assert_rates(
+        &rt,
+        9,
+        100,
+        [16, 100_000, 50_000, 23, 1_000, 100_000, 1_456_000],
+    )
 }
 
 /// Passes packets from number 7 on: the first at the opening, each further one this number of microseconds after the
@@ -621,6 +612,19 @@ fn come_after(alloc: Global, publisher: &mut Publisher, intervals: &[u32]) -> Re
     Ok(())
 }
 
+/// Asserts the words of the first Full ACK of a session in buffer mode, at this time after its opening, if packets came with
+/// these intervals.
+fn assert_rates_after(
+    rt: &(impl AllocGlobal + Abort),
+    intervals: &[u32],
+    time: u32,
+    words: [u32; 7],
+) -> Result<(), Fail> {
+    let mut publisher = libsrt_session(rt.alloc(), Mode::Buffer)?;
+    come_after(rt.alloc(), &mut publisher, intervals)?;
+    assert_sent(rt, &mut publisher, time, [Some(ack(1, &words)), None, None])
+}
+
 /// Two bursts of packets 100 microseconds apart, with a pause of 10 ms after each.
 const BURSTS: [u32; 16] = [
     100, 100, 100, 100, 100, 100, 100, 10_000, 100, 100, 100, 100, 100, 100, 100, 10_000,
@@ -629,10 +633,12 @@ const BURSTS: [u32; 16] = [
 /// Fourteen of 16 intervals are 100 microseconds, 10,000 packets per second. The length of the pauses has no effect.
 #[test]
 fn rates_of_bursts(rt: HostRuntime) -> Result<(), Fail> {
-    let mut publisher = libsrt_session(rt.alloc(), Mode::Buffer)?;
-    come_after(rt.alloc(), &mut publisher, &BURSTS)?;
-    let reported = ack(1, &[24, 100_000, 50_000, 15, 10_000, 100_000, 14_560_000]);
-    assert_sent(&rt, &mut publisher, 30_000, [Some(reported), None, None])
+    assert_rates_after(
+        &rt,
+        &BURSTS,
+        30_000,
+        [24, 100_000, 50_000, 15, 10_000, 100_000, 14_560_000],
+    )
 }
 
 /// Eight intervals of 50 microseconds and eight of 400.
@@ -643,10 +649,12 @@ const AS_MANY_SHORT: [u32; 16] = [
 /// The ninth interval by length is 400 microseconds: 2500 packets per second.
 #[test]
 fn rates_of_as_many_short_intervals(rt: HostRuntime) -> Result<(), Fail> {
-    let mut publisher = libsrt_session(rt.alloc(), Mode::Buffer)?;
-    come_after(rt.alloc(), &mut publisher, &AS_MANY_SHORT)?;
-    let reported = ack(1, &[24, 100_000, 50_000, 15, 2_500, 100_000, 3_640_000]);
-    assert_sent(&rt, &mut publisher, 10_000, [Some(reported), None, None])
+    assert_rates_after(
+        &rt,
+        &AS_MANY_SHORT,
+        10_000,
+        [24, 100_000, 50_000, 15, 2_500, 100_000, 3_640_000],
+    )
 }
 
 /// Two long intervals, which are not among the last 16, and then nine of 50 microseconds among seven of 400.
@@ -657,22 +665,23 @@ const MORE_SHORT: [u32; 18] = [
 /// The ninth interval by length is 50 microseconds: 20,000 packets per second.
 #[test]
 fn rates_of_more_short_intervals(rt: HostRuntime) -> Result<(), Fail> {
-    let mut publisher = libsrt_session(rt.alloc(), Mode::Buffer)?;
-    come_after(rt.alloc(), &mut publisher, &MORE_SHORT)?;
-    let reported = ack(1, &[26, 100_000, 50_000, 13, 20_000, 100_000, 29_120_000]);
-    assert_sent(&rt, &mut publisher, 10_000, [Some(reported), None, None])
+    assert_rates_after(
+        &rt,
+        &MORE_SHORT,
+        10_000,
+        [26, 100_000, 50_000, 13, 20_000, 100_000, 29_120_000],
+    )
 }
 
 /// 17 packets at once: the maximum rate is reported, and the capacity is at least as large.
 #[test]
 fn rates_of_packets_at_once(rt: HostRuntime) -> Result<(), Fail> {
-    let mut publisher = libsrt_session(rt.alloc(), Mode::Buffer)?;
-    come(rt.alloc(), &mut publisher, 17, 0)?;
-    let reported = ack(
-        1,
-        &[24, 100_000, 50_000, 15, 1_000_000, 1_000_000, 1_456_000_000],
-    );
-    assert_sent(&rt, &mut publisher, 10_000, [Some(reported), None, None])
+    assert_rates(
+        &rt,
+        17,
+        0,
+        [24, 100_000, 50_000, 15, 1_000_000, 1_000_000, 1_456_000_000],
+    )
 }
 
 /// In live mode the reported rates are 0. The first round trip, of 4 ms, replaces the initial values.
@@ -738,12 +747,8 @@ fn assert_acknowledged(rt: &(impl AllocGlobal + Abort), publisher: &mut Publishe
     let mut ack = EncodedPacket::new();
     let mut nak = EncodedPacket::new();
     let mut keep_alive = EncodedPacket::new();
-    let sent = publisher.transmit(
-        OPENING + u64::from(time),
-        &mut ack,
-        &mut nak,
-        &mut keep_alive,
-    );
+    let now = OPENING + u64::from(time);
+    let sent = publisher.transmit(now, &mut ack, &mut nak, &mut keep_alive);
     assert!(rt; sent.ack);
 }
 
@@ -808,37 +813,35 @@ fn skip_due(publisher: &mut Publisher, time: u32) {
     }
 }
 
+/// A payload with the timestamp of five seconds arrives at 3.3 s: asserts that it isn't due at the one moment, but at the other.
+fn assert_due(
+    rt: &(impl AllocGlobal + Abort),
+    publisher: &mut Publisher,
+    early: u32,
+    due: u32,
+) -> Result<(), Fail> {
+    skip_due(publisher, 3_300_000);
+    let events = [
+        Event::Comes(3_300_000, media(6, 1, 5_000_000, b"b")),
+        Event::Delivers(early, 1, b""),
+        Event::Delivers(due, 1, b"b"),
+    ];
+    assert_events(rt, publisher, &events)
+}
+
 #[test]
 fn a_live_session_follows_its_senders_clock(rt: HostRuntime) -> Result<(), Fail> {
     let mut publisher = session_with(rt.alloc(), 32, 0, Mode::Live, 120_000, Callers::Libsrt)?;
     assert_eq!(rt; publisher.statistics().correction, Some(0));
     assert_followed(&rt, &mut publisher, [Some(0), Some(950)])?;
-    skip_due(&mut publisher, 3_300_000);
-    assert_events(
-        &rt,
-        &mut publisher,
-        &[
-            Event::Comes(3_300_000, media(6, 1, 5_000_000, b"b")),
-            Event::Delivers(5_120_949, 1, b""),
-            Event::Delivers(5_120_950, 1, b"b"),
-        ],
-    )
+    assert_due(&rt, &mut publisher, 5_120_949, 5_120_950)
 }
 
 #[test]
 fn the_clock_of_a_caller_of_the_draft_is_not_followed(rt: HostRuntime) -> Result<(), Fail> {
     let mut publisher = session(rt.alloc(), 32, 0, Mode::Live, 120_000)?;
     assert_followed(&rt, &mut publisher, [None, None])?;
-    skip_due(&mut publisher, 3_300_000);
-    assert_events(
-        &rt,
-        &mut publisher,
-        &[
-            Event::Comes(3_300_000, media(6, 1, 5_000_000, b"b")),
-            Event::Delivers(5_119_999, 1, b""),
-            Event::Delivers(5_120_000, 1, b"b"),
-        ],
-    )
+    assert_due(&rt, &mut publisher, 5_119_999, 5_120_000)
 }
 
 #[test]
