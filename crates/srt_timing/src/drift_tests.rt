@@ -43,6 +43,15 @@ fn assert_rows(rt: &impl Abort, drift: &mut Drift, rows: &[Row]) {
     }
 }
 
+/// Asserts the corrections of a first window, whose reference is a lateness of 750.
+fn assert_reference(rt: &impl Abort, drift: &mut Drift) {
+    let rows = [
+        sampled(1_010_000, 1_005_250, 8_000, 0),
+        sampled(2_010_000, 2_005_250, 8_000, 0),
+    ];
+    assert_rows(rt, drift, &rows);
+}
+
 #[test]
 fn the_correction_moves_once_a_second(rt: HostRuntime) -> Result<(), Fail> {
     let mut drift = Drift::none();
@@ -74,13 +83,11 @@ fn the_correction_moves_once_a_second(rt: HostRuntime) -> Result<(), Fail> {
 #[test]
 fn a_window_is_discarded_after_ten_seconds(rt: HostRuntime) -> Result<(), Fail> {
     let mut drift = Drift::none();
+    assert_reference(&rt, &mut drift);
     assert_rows(
         &rt,
         &mut drift,
         &[
-            // the reference is 750
-            sampled(1_010_000, 1_005_250, 8_000, 0),
-            sampled(2_010_000, 2_005_250, 8_000, 0),
             // 123, and 750 ten seconds later: it begins anew, and 50,750 with a longer round trip closes it with 750
             sampled(5_500_010, 5_499_882, 10, 0),
             sampled(15_500_010, 15_499_255, 10, 0),
@@ -97,13 +104,11 @@ fn a_window_is_discarded_after_ten_seconds(rt: HostRuntime) -> Result<(), Fail> 
 #[test]
 fn early_timestamps_move_it_beyond_the_slack(rt: HostRuntime) -> Result<(), Fail> {
     let mut drift = Drift::none();
+    assert_reference(&rt, &mut drift);
     assert_rows(
         &rt,
         &mut drift,
         &[
-            // the reference is 750
-            sampled(1_010_000, 1_005_250, 8_000, 0),
-            sampled(2_010_000, 2_005_250, 8_000, 0),
             // -1,250 is 2,000 less, -1,251 is 2,001 less
             sampled(2_110_000, 2_105_000, 10_000, 0),
             sampled(3_110_000, 3_106_250, 10_000, 0),
