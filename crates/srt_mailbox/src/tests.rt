@@ -704,35 +704,16 @@ fn offer_and_await(
     drain: &mut Drain,
 ) -> Result<(), Fail> {
     let mut alone = Alone::open(rt.alloc())?;
-    offer_and_compare(
-        rt,
-        ingress,
-        drain,
-        &mut alone,
-        publisher_conclusion(),
-        (1, 1),
-    )?;
+    let publishes = publisher_conclusion();
+    let requests = subscriber_conclusion();
+    offer_and_compare(rt, ingress, drain, &mut alone, publishes, (1, 1))?;
     offer_and_compare(rt, ingress, drain, &mut alone, publisher_data(), (1, 0))?;
-    offer_and_compare(
-        rt,
-        ingress,
-        drain,
-        &mut alone,
-        subscriber_conclusion(),
-        (1, 2),
-    )?;
+    offer_and_compare(rt, ingress, drain, &mut alone, requests, (1, 2))?;
     let late = Item::Tick { moment: DELIVERY };
     assert!(rt; ingress.offer(rt, Item::Tick { moment: DELIVERY }).is_ok());
     assert_eq!(rt; await_the_same(rt, &mut alone, drain, &late)?, 2);
     for _ in 0..100 {
-        offer_and_compare(
-            rt,
-            ingress,
-            drain,
-            &mut alone,
-            publisher_conclusion(),
-            (8, 1),
-        )?;
+        offer_and_compare(rt, ingress, drain, &mut alone, publishes, (8, 1))?;
     }
     Ok(())
 }

@@ -6,7 +6,8 @@ ghost use Rattle.srt_types.specs.Items.{input_of, moment_of};
 
 use crate::tests::peer;
 use srt_samples::{
-    Acknowledged, Block, Handshake, Offer, Phase, Sample, data_packet, full_ack, handshake_packet,
+    Acknowledged, Block, Caller, HSREQ, HSRSP, Sample, conclusion, conclusion_answer, data_packet,
+    full_ack,
 };
 use srt_types::{Item, MOMENT_END};
 use std::alloc::Global;
@@ -66,59 +67,28 @@ const PUBLISHER_SESSION: u32 = 0x10_0000;
 
 const SUBSCRIBER_SESSION: u32 = 0x10_0001;
 
-const HSREQ: Block<'static> = Block::Request(Offer {
-    version: 0x1_0500,
-    flags: 0xbf,
-    receiver_ms: 120,
-    sender_ms: 120,
-});
-
 const PUBLISHES: [Block<'static>; 2] = [HSREQ, Block::StreamId("#!::r=studio,m=publish")];
 
 const REQUESTS: [Block<'static>; 2] = [HSREQ, Block::StreamId("studio")];
 
 /// The block of an answer.
-const RESPONSE: [Block<'static>; 1] = [Block::Response(Offer {
-    version: 0x1_0500,
-    flags: 0x3f,
-    receiver_ms: 120,
-    sender_ms: 120,
-})];
+const RESPONSE: [Block<'static>; 1] = [HSRSP];
 
 /// Returns a conclusion of the caller with this ID and this initial number, with these blocks.
 fn conclusion_of<'a>(id: u32, initial: u32, blocks: &'a [Block<'a>]) -> Sample<'a> {
-    handshake_packet(
-        Handshake {
-            version: 5,
-            fields: 5,
-            initial,
-            mtu: 1500,
-            window: 8192,
-            phase: Phase::Conclusion,
-            id,
-            cookie: 0xecc9_58a6,
-            address: 0,
-        },
-        blocks,
-    )
+    let caller = Caller {
+        id,
+        initial,
+        mtu: 1500,
+        window: 8192,
+        cookie: 0xecc9_58a6,
+    };
+    conclusion(caller, blocks)
 }
 
 /// Returns the answer to a conclusion with this initial number, from the session with this ID.
 fn answer_to<'a>(initial: u32, session: u32) -> Sample<'a> {
-    handshake_packet(
-        Handshake {
-            version: 5,
-            fields: 1,
-            initial,
-            mtu: 1500,
-            window: 1024,
-            phase: Phase::Conclusion,
-            id: session,
-            cookie: 0,
-            address: 0,
-        },
-        &RESPONSE,
-    )
+    conclusion_answer(initial, 1024, session, &RESPONSE)
 }
 
 /// Returns the conclusion of a caller that requests to publish.

@@ -12,30 +12,13 @@ use crate::tests::datagrams::{
 };
 use crate::tests::{Fixed, entry, peer};
 use crate::{ClockEnd, Drain, Ingress, RouteCell, Serve, open_route};
+use srt_samples::Dice;
 use srt_types::{Item, Turned};
 use std::alloc::{AllocError, Global};
 use std::collections::VecDeque;
 use std::process::Abort;
 use std::sync::Wait;
 use std::test::Fail;
-
-/// A linear congruential generator.
-#[derive(Drop)]
-struct Dice {
-    state: u64,
-}
-
-impl Dice {
-    /// Returns a number below a count; 0 if the count is 0.
-    fn below(&mut self, count: u32) -> u32 {
-        self.state = self
-            .state
-            .wrapping_mul(6364136223846793005)
-            .wrapping_add(1442695040888963407);
-        let high = (self.state >> 33) as u32;
-        if count == 0 { 0 } else { high % count }
-    }
-}
 
 /// The reply that a message requests of the route.
 #[derive(Clone, Copy, Debug, PartialEq, Eq)]
@@ -216,7 +199,7 @@ impl Both {
         match open_route(alloc, &entry, 0) {
             Ok((ingress, clock, cell, drain)) => Ok(Both {
                 alloc,
-                dice: Dice { state: seed },
+                dice: Dice::new(seed),
                 callers: Callers {
                     publisher: Caller::new(alloc, publisher_conclusion(), publisher_answer())?,
                     subscriber: Caller::new(alloc, subscriber_conclusion(), subscriber_answer())?,
