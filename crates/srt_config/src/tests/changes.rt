@@ -51,6 +51,14 @@ fn assert_changes(
     Ok(())
 }
 
+/// Asserts that the second route opens again if it has this line too, and that nothing else changes.
+fn assert_second_reopens(rt: &(impl AllocGlobal + Abort), line: &str) -> Result<(), Fail> {
+    let none = fixed(false, false, false, false);
+    let second = [RouteChange::Stays(0), RouteChange::Reopens(1)];
+    let both = format!(in rt.alloc(); "buffer = 32\n{line}")?;
+    assert_changes(rt, "buffer = 32\n", both.as_str(), none, &second, &[])
+}
+
 #[test]
 fn the_same_text_asks_nothing(rt: HostRuntime) -> Result<(), Fail> {
     let none = fixed(false, false, false, false);
@@ -76,32 +84,15 @@ fn a_route_that_is_renamed_closes_and_opens(rt: HostRuntime) -> Result<(), Fail>
 fn a_route_with_another_key_opens_again(rt: HostRuntime) -> Result<(), Fail> {
     let none = fixed(false, false, false, false);
     let first = [RouteChange::Reopens(0), RouteChange::Stays(1)];
-    let second = [RouteChange::Stays(0), RouteChange::Reopens(1)];
     assert_changes(&rt, "buffer = 1024\n", "buffer = 512\n", none, &first, &[])?;
-    assert_changes(
-        &rt,
-        "buffer = 32\n",
-        "buffer = 32\nclose_round = 9\n",
-        none,
-        &second,
-        &[],
-    )?;
-    assert_changes(
-        &rt,
-        "buffer = 32\n",
-        "buffer = 32\nrequest_key = \"k\"\n",
-        none,
-        &second,
-        &[],
-    )?;
-    assert_changes(
-        &rt,
-        "buffer = 32\n",
-        "buffer = 32\nreserved = 1\n",
-        none,
-        &second,
-        &[],
-    )
+    for line in [
+        "close_round = 9\n",
+        "request_key = \"k\"\n",
+        "reserved = 1\n",
+    ] {
+        assert_second_reopens(&rt, line)?;
+    }
+    Ok(())
 }
 
 #[test]
@@ -120,46 +111,29 @@ fn routes_are_found_by_their_names(rt: HostRuntime) -> Result<(), Fail> {
 #[test]
 fn keys_that_cannot_change_are_reported(rt: HostRuntime) -> Result<(), Fail> {
     let stay = [RouteChange::Stays(0), RouteChange::Stays(1)];
-    assert_changes(
-        &rt,
-        "\"0001",
-        "\"0101",
-        fixed(true, false, false, false),
-        &stay,
-        &[],
-    )?;
-    assert_changes(
-        &rt,
-        "127.0.0.1:0",
-        "127.0.0.1:9",
-        fixed(false, true, false, false),
-        &stay,
-        &[],
-    )?;
-    assert_changes(
-        &rt,
-        "workers = 1\n",
-        "workers = 2\n",
-        fixed(false, false, true, false),
-        &stay,
-        &[],
-    )?;
     let page = "workers = 1\nstatus = \"127.0.0.1:0\"\n";
-    assert_changes(
-        &rt,
-        "workers = 1\n",
-        page,
-        fixed(false, false, false, true),
-        &stay,
-        &[],
-    )
+    for (from, to, keys) in [
+        ("\"0001", "\"0101", fixed(true, false, false, false)),
+        (
+            "127.0.0.1:0",
+            "127.0.0.1:9",
+            fixed(false, true, false, false),
+        ),
+        (
+            "workers = 1\n",
+            "workers = 2\n",
+            fixed(false, false, true, false),
+        ),
+        ("workers = 1\n", page, fixed(false, false, false, true)),
+    ] {
+        assert_changes(&rt, from, to, keys, &stay, &[])?;
+    }
+    Ok(())
 }
 
 #[test]
 fn lists_keys_and_rules_are_compared(rt: HostRuntime) -> Result<(), Fail> {
-    let none = fixed(false, false, false, false);
-    let second = [RouteChange::Stays(0), RouteChange::Reopens(1)];
-    for line in &[
+    for line in [
         "publish_from = [\"10.0.0.0/8\"]\n",
         "request_from = [\"10.0.0.0/8\"]\n",
         "publish_key = \"k\"\n",
@@ -168,8 +142,7 @@ fn lists_keys_and_rules_are_compared(rt: HostRuntime) -> Result<(), Fail> {
         "takeover_ms = 100\n",
         "resend_percent = 5\n",
     ] {
-        let both = format!(in rt.alloc(); "buffer = 32\n{line}")?;
-        assert_changes(&rt, "buffer = 32\n", both.as_str(), none, &second, &[])?;
+        assert_second_reopens(&rt, line)?;
     }
     Ok(())
 }

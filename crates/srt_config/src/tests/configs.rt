@@ -200,6 +200,13 @@ fn a_status_page_may_have_an_address(rt: HostRuntime) -> Result<(), Fail> {
     Ok(())
 }
 
+/// The valid configuration with this text after the first route's outbox.
+fn with_first_route(rt: &(impl AllocGlobal + Abort), keys: &str) -> Result<Config, Fail> {
+    let both = format!(in rt.alloc(); "outbox = 16\n{keys}")?;
+    let text = changed(rt, RIGHT, "outbox = 16\n", both.as_str())?;
+    config_of(rt, text.as_str())
+}
+
 /// What may follow the first route's outbox, and the route's schedule.
 type ScheduleRow = (&'static str, u32, Option<u32>);
 
@@ -217,9 +224,7 @@ const SCHEDULES: [ScheduleRow; 5] = [
 
 /// Asserts the schedules of the valid configuration with this text after the first route's outbox.
 fn assert_schedules(rt: &(impl AllocGlobal + Abort), row: &ScheduleRow) -> Result<(), Fail> {
-    let both = format!(in rt.alloc(); "outbox = 16\n{}", row.0)?;
-    let text = changed(rt, RIGHT, "outbox = 16\n", both.as_str())?;
-    let config = config_of(rt, text.as_str())?;
+    let config = with_first_route(rt, row.0)?;
     let first = Schedule {
         open_round: row.1,
         close_round: row.2,
@@ -279,9 +284,7 @@ fn assert_has_rules(rt: &(impl AllocGlobal + Abort), entry: Option<&Entry>, rule
 
 /// Asserts the rules of the valid configuration with this text after the first route's outbox.
 fn assert_rules(rt: &(impl AllocGlobal + Abort), row: &RulesRow) -> Result<(), Fail> {
-    let both = format!(in rt.alloc(); "outbox = 16\n{}", row.0)?;
-    let text = changed(rt, RIGHT, "outbox = 16\n", both.as_str())?;
-    let config = config_of(rt, text.as_str())?;
+    let config = with_first_route(rt, row.0)?;
     assert_eq!(rt; config.entries.len(), 2);
     assert_has_rules(rt, config.entries.as_slice().first(), row.1);
     assert_has_rules(rt, config.entries.as_slice().last(), Rules::DRAFT);
@@ -322,7 +325,21 @@ workers = 1
 [defaults]
 ";
 
-/// Every key of a route but its name, with numbers of the most digits and lists of the most networks.
+/// A list of the most networks, each of the most digits.
+const MOST_NETWORKS: &str = "\
+[
+  \"2001:db8:ffff:ffff:ffff:ffff:ffff:fff0\", \"2001:db8:ffff:ffff:ffff:ffff:ffff:fff1\",
+  \"2001:db8:ffff:ffff:ffff:ffff:ffff:fff2\", \"2001:db8:ffff:ffff:ffff:ffff:ffff:fff3\",
+  \"2001:db8:ffff:ffff:ffff:ffff:ffff:fff4\", \"2001:db8:ffff:ffff:ffff:ffff:ffff:fff5\",
+  \"2001:db8:ffff:ffff:ffff:ffff:ffff:fff6\", \"2001:db8:ffff:ffff:ffff:ffff:ffff:fff7\",
+  \"2001:db8:ffff:ffff:ffff:ffff:ffff:fff8\", \"2001:db8:ffff:ffff:ffff:ffff:ffff:fff9\",
+  \"2001:db8:ffff:ffff:ffff:ffff:ffff:fffa\", \"2001:db8:ffff:ffff:ffff:ffff:ffff:fffb\",
+  \"2001:db8:ffff:ffff:ffff:ffff:ffff:fffc\", \"2001:db8:ffff:ffff:ffff:ffff:ffff:fffd\",
+  \"2001:db8:ffff:ffff:ffff:ffff:ffff:fffe\", \"2001:db8:ffff:ffff:ffff:ffff:ffff:ffff\",
+]
+";
+
+/// Every key of a route but its name and its lists, with numbers of the most digits.
 const ALL_KEYS: &str = "\
 mode = \"live\"
 latency_ms = 8000
@@ -333,26 +350,6 @@ outbox = 4096
 open_round = 999999999
 close_round = 1000000000
 callers = \"libsrt\"
-publish_from = [
-  \"2001:db8:ffff:ffff:ffff:ffff:ffff:fff0\", \"2001:db8:ffff:ffff:ffff:ffff:ffff:fff1\",
-  \"2001:db8:ffff:ffff:ffff:ffff:ffff:fff2\", \"2001:db8:ffff:ffff:ffff:ffff:ffff:fff3\",
-  \"2001:db8:ffff:ffff:ffff:ffff:ffff:fff4\", \"2001:db8:ffff:ffff:ffff:ffff:ffff:fff5\",
-  \"2001:db8:ffff:ffff:ffff:ffff:ffff:fff6\", \"2001:db8:ffff:ffff:ffff:ffff:ffff:fff7\",
-  \"2001:db8:ffff:ffff:ffff:ffff:ffff:fff8\", \"2001:db8:ffff:ffff:ffff:ffff:ffff:fff9\",
-  \"2001:db8:ffff:ffff:ffff:ffff:ffff:fffa\", \"2001:db8:ffff:ffff:ffff:ffff:ffff:fffb\",
-  \"2001:db8:ffff:ffff:ffff:ffff:ffff:fffc\", \"2001:db8:ffff:ffff:ffff:ffff:ffff:fffd\",
-  \"2001:db8:ffff:ffff:ffff:ffff:ffff:fffe\", \"2001:db8:ffff:ffff:ffff:ffff:ffff:ffff\",
-]
-request_from = [
-  \"2001:db8:ffff:ffff:ffff:ffff:ffff:fff0\", \"2001:db8:ffff:ffff:ffff:ffff:ffff:fff1\",
-  \"2001:db8:ffff:ffff:ffff:ffff:ffff:fff2\", \"2001:db8:ffff:ffff:ffff:ffff:ffff:fff3\",
-  \"2001:db8:ffff:ffff:ffff:ffff:ffff:fff4\", \"2001:db8:ffff:ffff:ffff:ffff:ffff:fff5\",
-  \"2001:db8:ffff:ffff:ffff:ffff:ffff:fff6\", \"2001:db8:ffff:ffff:ffff:ffff:ffff:fff7\",
-  \"2001:db8:ffff:ffff:ffff:ffff:ffff:fff8\", \"2001:db8:ffff:ffff:ffff:ffff:ffff:fff9\",
-  \"2001:db8:ffff:ffff:ffff:ffff:ffff:fffa\", \"2001:db8:ffff:ffff:ffff:ffff:ffff:fffb\",
-  \"2001:db8:ffff:ffff:ffff:ffff:ffff:fffc\", \"2001:db8:ffff:ffff:ffff:ffff:ffff:fffd\",
-  \"2001:db8:ffff:ffff:ffff:ffff:ffff:fffe\", \"2001:db8:ffff:ffff:ffff:ffff:ffff:ffff\",
-]
 publish_key = \"kkkkkkkkkkkkkkkkkkkkkkkkkkkkkkkkkkkkkkkkkkkkkkkkkkkkkkkkkkkkkkkk\"
 request_key = \"kkkkkkkkkkkkkkkkkkkkkkkkkkkkkkkkkkkkkkkkkkkkkkkkkkkkkkkkkkkkkkkk\"
 reserved = 2
@@ -367,6 +364,10 @@ fn routes_with_every_key_fit_into_a_file(rt: HostRuntime) -> Result<(), Fail> {
     for number in 0usize..511 {
         let route = format!(in rt.alloc(); "[[route]]\nname = \"r{number}\"\n{ALL_KEYS}")?;
         text.push_str(route.as_str())?;
+        for list in ["publish_from = ", "request_from = "] {
+            text.push_str(list)?;
+            text.push_str(MOST_NETWORKS)?;
+        }
     }
     assert!(rt; text.len() > 900_000);
     assert!(rt; text.len() <= 1_048_576);
@@ -452,11 +453,15 @@ const PLACES_WITH_DEFAULTS: [PlaceRow; 8] = [
     ),
 ];
 
-#[test]
-fn a_fault_has_its_part_with_defaults(rt: HostRuntime) -> Result<(), Fail> {
-    for row in &PLACES_WITH_DEFAULTS {
-        let text = changed(&rt, SHORT, row.0, row.1)?;
-        let placed = fault_of(&rt, text.as_str())?;
+/// Asserts the faults of these changes of a configuration.
+fn assert_places(
+    rt: &(impl AllocGlobal + Abort),
+    whole: &str,
+    rows: &[PlaceRow],
+) -> Result<(), Fail> {
+    for row in rows {
+        let text = changed(rt, whole, row.0, row.1)?;
+        let placed = fault_of(rt, text.as_str())?;
         assert_eq!(rt; placed.fault.key(), row.2);
         assert_eq!(rt; placed.place, row.3);
     }
@@ -464,14 +469,13 @@ fn a_fault_has_its_part_with_defaults(rt: HostRuntime) -> Result<(), Fail> {
 }
 
 #[test]
+fn a_fault_has_its_part_with_defaults(rt: HostRuntime) -> Result<(), Fail> {
+    assert_places(&rt, SHORT, &PLACES_WITH_DEFAULTS)
+}
+
+#[test]
 fn a_fault_has_its_route(rt: HostRuntime) -> Result<(), Fail> {
-    for row in &PLACES {
-        let text = changed(&rt, RIGHT, row.0, row.1)?;
-        let placed = fault_of(&rt, text.as_str())?;
-        assert_eq!(rt; placed.fault.key(), row.2);
-        assert_eq!(rt; placed.place, row.3);
-    }
-    Ok(())
+    assert_places(&rt, RIGHT, &PLACES)
 }
 
 /// The valid configuration with the keys that its routes have in common in its defaults, and others besides.
