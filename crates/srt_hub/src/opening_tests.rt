@@ -4,27 +4,21 @@ use crate::caller_tests::{
     Arrival, FIRST, REQUESTS, SESSION, agreed, assert_arrives, assert_concludes, near, opened,
     refused,
 };
-use crate::tests::{assert_sends, assert_sends_nothing, assert_turns};
+use crate::tests::{assert_sends, assert_sends_nothing, assert_turns, live_entry};
 use crate::{Arrived, Cause, Closing, Hub, SrtGateway, Ticked};
 use srt_cookie::Secret;
 use srt_samples::{conclusion, first_difference, keep_alive, shutdown};
-use srt_types::{Access, Entry, Mode, OpenFault, Rules, Turned};
+use srt_types::{Entry, OpenFault, Turned};
 use std::alloc::Global;
 use std::process::Abort;
 use std::test::Fail;
 
 fn small(alloc: Global, name: &str, latency_ms: u32) -> Result<Entry, Fail> {
-    Ok(Entry {
-        name: String::from_str(alloc, name)?,
-        mode: Mode::Live,
-        latency_ms,
-        buffer: 32,
-        sessions: 2,
-        inbox: 16,
-        outbox: 16,
-        access: Access::anyone(),
-        rules: Rules::DRAFT,
-    })
+    let mut entry = live_entry(alloc, name)?;
+    entry.latency_ms = latency_ms;
+    entry.buffer = 32;
+    entry.sessions = 2;
+    Ok(entry)
 }
 
 /// Asserts the result of opening one more route.
