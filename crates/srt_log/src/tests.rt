@@ -805,18 +805,7 @@ fn followed(correction: Option<i64>) -> SessionView {
     let mut seen = view(1, true);
     seen.opened = 1_000_000;
     seen.traffic = Traffic::Received(srt_pub::Statistics {
-        counts: srt_pub::Counts {
-            arrived: 0,
-            late: 0,
-            ahead: 0,
-            received: 0,
-            bytes: 0,
-            delivered: 0,
-            given_up: 0,
-            naks: 0,
-            reported_lost: 0,
-            full_windows: 0,
-        },
+        counts: srt_pub::Counts::none(),
         in_use: 0,
         available: 32,
         rtt: 100_000,
