@@ -284,6 +284,12 @@ fn a_route_that_opens_has_its_list_and_its_key(rt: HostRuntime) -> Result<(), Fa
     Ok(())
 }
 
+/// Asserts that nothing is requested at the next poll of the file, and that these lines are logged.
+fn assert_not_taken(rt: &impl Abort, watcher: &mut Watching<'_>, lines: &str) {
+    assert!(rt; next_change(watcher, Ok(1)).is_none());
+    assert_lines(rt, watcher, lines);
+}
+
 #[test]
 fn what_is_not_taken_is_logged_once(rt: HostRuntime) -> Result<(), Fail> {
     let config = config(rt.alloc(), &[HEAD, STUDIO])?;
@@ -300,25 +306,20 @@ fn what_is_not_taken_is_logged_once(rt: HostRuntime) -> Result<(), Fail> {
             &[HEAD],
         ],
     )?;
-    assert!(rt; next_change(&mut watcher, Ok(1)).is_none());
-    assert_lines(
+    assert_not_taken(
         &rt,
         &mut watcher,
         "configuration not taken: line 9: route 1 (studio): sessions = 40: allowed are 1 to 17\n",
     );
-    assert!(rt; next_change(&mut watcher, Ok(1)).is_none());
-    assert_lines(&rt, &mut watcher, "");
-    assert!(rt; next_change(&mut watcher, Ok(1)).is_none());
-    assert_lines(
+    assert_not_taken(&rt, &mut watcher, "");
+    assert_not_taken(
         &rt,
         &mut watcher,
         "configuration can't be read: No such file or directory (os error 2)\n",
     );
     assert!(rt; next_change(&mut watcher, Ok(1)).is_none());
-    assert!(rt; next_change(&mut watcher, Ok(1)).is_none());
-    assert_lines(&rt, &mut watcher, "");
-    assert!(rt; next_change(&mut watcher, Ok(1)).is_none());
-    assert_lines(
+    assert_not_taken(&rt, &mut watcher, "");
+    assert_not_taken(
         &rt,
         &mut watcher,
         "configuration not taken: bind can't change while the gateway runs (also: workers, secret); restart it to change it\n",
@@ -355,8 +356,7 @@ fn what_the_run_rejects_is_logged(rt: HostRuntime) -> Result<(), Fail> {
         &mut watcher,
         "configuration not taken: 2 routes are to open, 1 indexes are left; restart the gateway\n",
     );
-    assert!(rt; next_change(&mut watcher, Ok(1)).is_none());
-    assert_lines(&rt, &mut watcher, "");
+    assert_not_taken(&rt, &mut watcher, "");
     assert_page(&rt, &mut watcher, b"s", [0, 2, 1]);
     Ok(())
 }

@@ -12,6 +12,11 @@ use std::test::Fail;
 const HELD: &str =
     "configuration closes studio, which has sessions; it is taken if it stays so for 5 s\n";
 
+/// The file with the routes `studio` and `news`, and with the second one alone.
+const BOTH: &[&str] = &[HEAD, STUDIO, NEWS];
+
+const NEWS_ALONE: &[&str] = &[HEAD, NEWS];
+
 /// Returns the first route of a configuration, in which a publisher's session is open.
 fn used_route(alloc: Global, config: &Config) -> Result<Route, Fail> {
     let Some(entry) = config.entries.first() else {
@@ -37,13 +42,7 @@ fn a_route_with_sessions_closes_five_seconds_later(rt: HostRuntime) -> Result<()
         rt.alloc(),
         &config,
         &[
-            &[HEAD, STUDIO, NEWS],
-            &[HEAD, NEWS],
-            &[HEAD, NEWS],
-            &[HEAD, NEWS],
-            &[HEAD, NEWS],
-            &[HEAD, NEWS],
-            &[HEAD, NEWS],
+            BOTH, NEWS_ALONE, NEWS_ALONE, NEWS_ALONE, NEWS_ALONE, NEWS_ALONE, NEWS_ALONE,
         ],
     )?;
     let route = used_route(rt.alloc(), &config)?;
@@ -70,15 +69,7 @@ fn a_writer_that_pauses_closes_nothing(rt: HostRuntime) -> Result<(), Fail> {
         rt.alloc(),
         &config,
         &[
-            &[HEAD, NEWS],
-            &[HEAD, STUDIO, NEWS],
-            &[HEAD, STUDIO, NEWS],
-            &[HEAD, STUDIO, NEWS],
-            &[HEAD, STUDIO, NEWS],
-            &[HEAD, STUDIO, NEWS],
-            &[HEAD, STUDIO, NEWS],
-            &[HEAD, NEWS],
-            &[HEAD, NEWS],
+            NEWS_ALONE, BOTH, BOTH, BOTH, BOTH, BOTH, BOTH, NEWS_ALONE, NEWS_ALONE,
         ],
     )?;
     let route = used_route(rt.alloc(), &config)?;
