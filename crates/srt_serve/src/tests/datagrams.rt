@@ -1,7 +1,9 @@
 //! The datagrams of these runs. The cookie was computed by Python's hashlib; the other words were worked out from the
 //! draft by hand.
 
-use srt_samples::{Block, Body, Handshake, Offer, Phase, Sample, handshake_packet};
+use srt_samples::{
+    Block, Body, Caller, HSREQ, HSRSP, Handshake, Phase, Sample, conclusion, handshake_packet,
+};
 
 /// The socket IDs of the callers.
 pub const FIRST: u32 = 1;
@@ -20,25 +22,13 @@ pub const LAST_ROUTE: u32 = 0x1ff0_0000;
 /// The cookie of port 5000 in the first minute.
 const COOKIE: u32 = 0xecc9_58a6;
 
-const HSREQ: Block<'static> = Block::Request(Offer {
-    version: 0x1_0500,
-    flags: 0xbf,
-    receiver_ms: 120,
-    sender_ms: 120,
-});
-
 /// The blocks of a publisher on the route `studio`, and of one on the route `studia`.
 pub const STUDIO: [Block<'static>; 2] = [HSREQ, Block::StreamId("#!::r=studio,m=publish")];
 
 pub const STUDIA: [Block<'static>; 2] = [HSREQ, Block::StreamId("#!::r=studia,m=publish")];
 
 /// The block of an answer.
-const RESPONSE: [Block<'static>; 1] = [Block::Response(Offer {
-    version: 0x1_0500,
-    flags: 0x3f,
-    receiver_ms: 120,
-    sender_ms: 120,
-})];
+const RESPONSE: [Block<'static>; 1] = [HSRSP];
 
 /// An answer of the lobby, but for its type.
 const FROM_THE_LOBBY: Handshake = Handshake {
@@ -54,40 +44,20 @@ const FROM_THE_LOBBY: Handshake = Handshake {
 };
 
 /// The CONCLUSION from port 5000 of the caller with this ID, with these blocks.
-pub fn conclusion_of<'a>(caller: u32, blocks: &'a [Block<'a>]) -> Sample<'a> {
-    handshake_packet(
-        Handshake {
-            version: 5,
-            fields: 5,
-            initial: 5,
-            mtu: 1500,
-            window: 8192,
-            phase: Phase::Conclusion,
-            id: caller,
-            cookie: COOKIE,
-            address: 0,
-        },
-        blocks,
-    )
+pub fn conclusion_of<'a>(id: u32, blocks: &'a [Block<'a>]) -> Sample<'a> {
+    let caller = Caller {
+        id,
+        initial: 5,
+        mtu: 1500,
+        window: 8192,
+        cookie: COOKIE,
+    };
+    conclusion(caller, blocks)
 }
 
 /// The answer to a caller whose session has this socket ID, with a window of so many packets.
 pub fn answer_to<'a>(caller: u32, session: u32, window: u32) -> Sample<'a> {
-    handshake_packet(
-        Handshake {
-            version: 5,
-            fields: 1,
-            initial: 5,
-            mtu: 1500,
-            window,
-            phase: Phase::Conclusion,
-            id: session,
-            cookie: 0,
-            address: 0,
-        },
-        &RESPONSE,
-    )
-    .to(caller)
+    srt_samples::conclusion_answer(5, window, session, &RESPONSE).to(caller)
 }
 
 /// The answer to the first caller of the route `studio` with a window of 1024 packets.
@@ -97,14 +67,7 @@ pub fn conclusion_answer<'a>() -> Sample<'a> {
 
 /// The lobby's answer to the first caller while there is no route `studio`: 1002.
 pub fn refusal<'a>() -> Sample<'a> {
-    handshake_packet(
-        Handshake {
-            phase: Phase::Refused(1002),
-            ..FROM_THE_LOBBY
-        },
-        &[],
-    )
-    .to(FIRST)
+    srt_samples::refusal(5, 1002).to(FIRST)
 }
 
 /// An answer to an INDUCTION of the first caller.
