@@ -59,15 +59,15 @@ none_found first name (e ∷ routes) h zero old there =
 none_found first name (e ∷ routes) h (suc at) old there =
     none_found (suc first) name routes (first_differs name e (bytes_eq name e.name) first (place_from (suc first) name routes) refl h).1 at old there
 
-same_route : (terms : Terms) (old : Option Terms) → has_terms terms old ≡ true → old ≡ Some terms
+pub same_route : (terms : Terms) (old : Option Terms) → has_terms terms old ≡ true → old ≡ Some terms
 same_route terms None h = absurd (false≢true h)
 same_route terms (Some old) h = ap Some ((terms_decide old terms).0 h)
 
-same_rounds : (schedule : Schedule) (old : Option Schedule) → has_schedule schedule old ≡ true → old ≡ Some schedule
+pub same_rounds : (schedule : Schedule) (old : Option Schedule) → has_schedule schedule old ≡ true → old ≡ Some schedule
 same_rounds schedule None h = absurd (false≢true h)
 same_rounds schedule (Some old) h = ap Some ((schedules_decide old schedule).0 h)
 
-both : (a b : Bool) → a ≡ true → b ≡ true → (a && b) ≡ true
+pub both : (a b : Bool) → a ≡ true → b ≡ true → (a && b) ≡ true
 both a b p q = ap (λ (t : Bool). t && b) p ∙ q
 
 module _ (before : Settings) (terms : Terms) (schedule : Schedule) where

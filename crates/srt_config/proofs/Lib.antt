@@ -8,6 +8,7 @@ pub mod Sameness
 pub mod SameFile
 pub mod Compared
 pub mod Changed
+pub mod Readmitted
 pub mod Placed
 pub mod Completed
 pub mod Groups

@@ -20,14 +20,14 @@ use Rattle.srt_config.specs.SameKeys.{same_if, same_mode, same_callers, same_net
 use Rattle.srt_config.specs.SameKeys.{same_length}
 use Rattle.srt_config.specs.SameKeys.{same_numbers, same_terms, same_schedule}
 
-if_decides : {A : Type 0} (same : A → A → Bool) → ((a b : A) → Decides (same a b) (a ≡ b)) → (a b : Option A) → Decides (same_if same a b) (a ≡ b)
+pub if_decides : {A : Type 0} (same : A → A → Bool) → ((a b : A) → Decides (same a b) (a ≡ b)) → (a b : Option A) → Decides (same_if same a b) (a ≡ b)
 if_decides same each None None = (λ e. refl, λ p. refl)
 if_decides same each None (Some b) = (λ e. cc, λ p. cc)
 if_decides same each (Some a) None = (λ e. cc, λ p. cc)
 if_decides same each (Some a) (Some b) =
     Decides-like (same a b) (ap Some) (λ p. let equal : a ≡ b = cc in equal) (each a b)
 
-mode_decides : (a b : Mode) → Decides (same_mode a b) (a ≡ b)
+pub mode_decides : (a b : Mode) → Decides (same_mode a b) (a ≡ b)
 mode_decides Live Live = (λ e. refl, λ p. refl)
 mode_decides Live Buffer = (λ e. cc, λ p. cc)
 mode_decides Buffer Live = (λ e. cc, λ p. cc)
@@ -65,7 +65,7 @@ role_decides a b =
     (Decides-and _ _ (if_decides same_networks networks_decide a.from b.from) (if_decides bytes_eq bytes_eq-Decides a.key b.key))
     (if_decides bytes_eq bytes_eq-Decides a.passphrase b.passphrase))
 
-length_decides : (a b : KeyLength) → Decides (same_length a b) (a ≡ b)
+pub length_decides : (a b : KeyLength) → Decides (same_length a b) (a ≡ b)
 length_decides Aes128 Aes128 = (λ e. refl, λ p. refl)
 length_decides Aes128 Aes192 = (λ e. cc, λ p. cc)
 length_decides Aes128 Aes256 = (λ e. cc, λ p. cc)
@@ -83,7 +83,7 @@ access_decides a b =
     (Decides-and _ _ (Decides-and _ _ (role_decides a.publish b.publish) (role_decides a.request b.request))
     (if_decides same_length length_decides a.key_length b.key_length))
 
-rules_decide : (a b : Rules) → Decides (same_rules a b) (a ≡ b)
+pub rules_decide : (a b : Rules) → Decides (same_rules a b) (a ≡ b)
 rules_decide a b =
     Decides-like (same_rules a b)
     (λ h i. record {
@@ -113,7 +113,7 @@ abbrev Numbers : Terms → Terms → Type 0
 Numbers a b =
     (((((a.latency_ms ≡ b.latency_ms) × (a.buffer ≡ b.buffer)) × (a.sessions ≡ b.sessions)) × (a.inbox ≡ b.inbox)) × (a.outbox ≡ b.outbox))
 
-numbers_decide : (a b : Terms) → Decides (same_numbers a b) (Numbers a b)
+pub numbers_decide : (a b : Terms) → Decides (same_numbers a b) (Numbers a b)
 numbers_decide a b =
     Decides-and _ _
     (Decides-and _ _

@@ -17,6 +17,7 @@ pub mod DefaultLaws
 pub mod SameKeys
 pub mod Changes
 pub mod ChangeLaws
+pub mod Readmission
 pub mod KeyFaults
 pub mod FaultPlace
 pub mod PlaceLaws

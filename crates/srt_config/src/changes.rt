@@ -109,7 +109,7 @@ fn has_terms(entry: &Entry, before: Option<&Entry>) -> bool
     }
 }
 
-fn has_schedule(schedule: Schedule, before: Option<&Schedule>) -> bool
+pub(crate) fn has_schedule(schedule: Schedule, before: Option<&Schedule>) -> bool
     ensures { result ≡ has_schedule schedule (option_map (λ s. s.now) before.entry) }
 {
     match before {
@@ -118,7 +118,7 @@ fn has_schedule(schedule: Schedule, before: Option<&Schedule>) -> bool
     }
 }
 
-fn has_keys_at(before: &Config, place: usize, entry: &Entry, schedule: Schedule) -> bool
+pub(crate) fn has_keys_at(before: &Config, place: usize, entry: &Entry, schedule: Schedule) -> bool
     ensures { result ≡ has_keys_at (settings_of before.now) place (terms_of entry.now) schedule }
 {
     has_terms(entry, before.entries.get(place))

@@ -6,6 +6,7 @@ ghost use Rattle.srt_config.specs.PlaceLaws.{PlacesTheFault, PlacesTheDefaults};
 ghost use Rattle.srt_config.specs.DefaultLaws.{OwnBeforeDefault, NoneWithoutDefaults, WrittenOutStays};
 ghost use Rattle.srt_config.specs.ChangeLaws.{SameKeysDecide, SameRequestsNothing, ChangesAreMeant, RunsTheFile};
 ghost use Rattle.srt_config.specs.ChangeLaws.{ExpectationsRequestNothing};
+ghost use Rattle.srt_config.specs.Readmission.{ReadmissionsAreMeant, ReadmissionsReopen};
 
 /// The fault of a configuration is that of the first key that has one, in this order: the least unknown key of the
 /// table, `secret`, `bind`, `workers`, `status`, the keys of `defaults`, and `route`; then for each route its least unknown key
@@ -39,6 +40,13 @@ pub fn changes()
     ensures expectations { ExpectationsRequestNothing }
     ensures meant { ChangesAreMeant }
     ensures runs { RunsTheFile }
+{}
+
+/// A route of a changed configuration is found to differ in lists and keys alone exactly if it does: it isn't the route from before, and
+/// with its lists and keys in place of its own that one is the route of the file. Such a route is one that closes and opens again.
+pub fn readmissions()
+    ensures meant { ReadmissionsAreMeant }
+    ensures reopen { ReadmissionsReopen }
 {}
 
 /// The first of all faults of a configuration is the one that reading it returns, with the part that has it; there is none exactly if it

@@ -6,6 +6,7 @@ ghost use Rattle.srt_types.specs.Access.{role_access_of, access_of};
 ghost use Rattle.srt_types.specs.Terms.{terms_of};
 ghost use Rattle.srt_config.specs.SameKeys.{same_if, same_mode, same_callers, same_network, same_networks, same_role, same_access};
 ghost use Rattle.srt_config.specs.SameKeys.{same_length, same_rules, same_numbers, same_terms, same_schedule};
+ghost use Rattle.srt_config.specs.Readmission.{same_secrets, same_besides};
 
 use srt_types::{Access, Callers, Entry, KeyLength, Mode, Network, RoleAccess, Rules, Schedule};
 
@@ -159,6 +160,26 @@ pub(crate) fn same_entry(a: &Entry, b: &Entry) -> bool
         && same_mode(a.mode, b.mode)
         && same_numbers(a, b)
         && same_access(&a.access, &b.access)
+        && same_rules(a.rules, b.rules)
+}
+
+fn same_secrets(a: &Access, b: &Access) -> bool
+    ensures { result ≡ same_secrets (access_of a.now) (access_of b.now) }
+{
+    same_key(&a.publish.passphrase, &b.publish.passphrase)
+        && same_key(&a.request.passphrase, &b.request.passphrase)
+        && same_length(a.key_length, b.key_length)
+}
+
+/// Whether both entries have the same keys, with the same values, besides the lists and the keys of roles. Linear in the length of
+/// their names and passphrases. Doesn't allocate.
+pub(crate) fn same_besides(a: &Entry, b: &Entry) -> bool
+    ensures { result ≡ same_besides (terms_of a.now) (terms_of b.now) }
+{
+    a.name.as_bytes() == b.name.as_bytes()
+        && same_mode(a.mode, b.mode)
+        && same_numbers(a, b)
+        && same_secrets(&a.access, &b.access)
         && same_rules(a.rules, b.rules)
 }
 
