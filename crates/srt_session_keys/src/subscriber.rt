@@ -141,8 +141,9 @@ impl SubscriberKeys {
 
     /// The contents of the KMREQ that announces the next key, once [`announce`](Self::announce) made it. Computes nothing.
     pub fn message(&self) -> &[u8]
-        ensures { IfSome (subscriber_of self.now).announced
+        ensures value { IfSome (subscriber_of self.now).announced
             (λ a. result.now ≡ own_message (subscriber_of self.now).source (subscriber_of self.now).confirmed) }
+        ensures short { length result.now ≤ 104 }
     {
         &self.message[..self.message_len]
     }
