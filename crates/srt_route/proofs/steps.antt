@@ -14,6 +14,7 @@ pub mod Turns
 pub mod Delivered
 pub mod Besides
 pub mod Saying
+pub mod Encrypting
 pub mod Serving
 pub mod Refreshing
 pub mod Securing

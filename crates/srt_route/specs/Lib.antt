@@ -7,6 +7,7 @@ pub mod Shifted
 pub mod Decryption
 pub mod KeyRefresh
 pub mod Route
+pub mod EncryptedOutput
 pub mod KeyLaws
 pub mod Rests
 pub mod ShiftLaws

@@ -9,3 +9,4 @@ pub mod Drains
 pub mod Notes
 pub mod Event
 pub mod Secured
+pub mod Encrypting

@@ -25,7 +25,8 @@
 //!   refusal, `refusals.rt` has the causes, `agreement.rt` the negotiated values and `answer_writing.rt` the answer. If a
 //!   role has a passphrase, `secured.rt` judges a conclusion before.
 //! - 4: `delivery.rt` delivers payloads, and `draining.rt` ends sessions that have drained.
-//! - 5 and 6: `transmit.rt` sends the publishers' packets and then the subscribers'.
+//! - 5 and 6: `transmit.rt` sends the publishers' packets and then the subscribers'. `encrypted_transmit.rt` has what a
+//!   subscriber's session with keys sends; no event calls it yet.
 //!
 //! Other modules: `resting.rt` opens a route that continues where another one rests; `files.rt` has the end of a file,
 //! and which subscribers have all of it; `standby.rt`, which of two publishers is active; `socket_ids.rt`, the socket
@@ -45,6 +46,7 @@ mod conclusion_reading;
 mod delivery;
 mod dispatch;
 mod draining;
+mod encrypted_transmit;
 mod event;
 mod files;
 mod key_confirmation;
