@@ -22,7 +22,7 @@ use srt_poller::{Hints, InlineService, Orders, PollerObserver, Signals};
 use srt_supervision::{Order, Report};
 use srt_types::Peer;
 use srt_wakeups::RouteMarks;
-use srt_wakeups::pacing::{FEW_ROUTES, MANY_DATAGRAMS, POLLER_TURNS};
+use srt_wakeups::pacing::{DATAGRAMS_FOR_WORKERS, FEW_ROUTES, POLLER_TURNS};
 use std::cell::Cell;
 use std::sync::Wait;
 
@@ -30,7 +30,7 @@ use std::sync::Wait;
 fn serves_itself(datagrams: u32, polled: u64) -> bool
     ensures { result ≡ serves_itself datagrams polled }
 {
-    datagrams < MANY_DATAGRAMS && polled <= FEW_ROUTES
+    datagrams < DATAGRAMS_FOR_WORKERS && polled <= FEW_ROUTES
 }
 
 // Reports a conclusion that the lobby, which has these names, refused with this code; or counts it, if there is no place.

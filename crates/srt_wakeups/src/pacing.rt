@@ -23,12 +23,12 @@ pub const GATHER_SLEEPS: u32 = 120;
 
 /// A round that read at least this many datagrams leaves them to the workers, and wakes one even if another is awake, if
 /// they are for few routes.
-pub const MANY_DATAGRAMS: u32 = 64;
+pub const DATAGRAMS_FOR_WORKERS: u32 = 64;
 
 /// A round is for few routes if it read at least this many datagrams for each route whose inbox it made ready.
 pub const DATAGRAMS_PER_ROUTE: u64 = 8;
 
-/// The polling thread leaves the datagrams of a round to the workers if they are `MANY_DATAGRAMS`, since it has enough to
+/// The polling thread leaves the datagrams of a round to the workers if they are `DATAGRAMS_FOR_WORKERS`, since it has enough to
 /// do with reading and sending, and if they are for more routes than this, since it would wait for the memory of each.
 pub const FEW_ROUTES: u64 = 8;
 
@@ -74,10 +74,10 @@ pub(crate) fn all_rest(resting: u64, reserve: u64, workers: u64) -> bool
 }
 
 /// Whether a round of the poller wakes a worker that read this many datagrams and made this many inboxes ready: if it read
-/// `MANY_DATAGRAMS` or more, for few routes, or any while no worker is awake.
+/// `DATAGRAMS_FOR_WORKERS` or more, for few routes, or any while no worker is awake.
 pub(crate) fn wakes_worker(datagrams: u32, begun: u64, all_rest: bool) -> bool
     ensures { result ≡ wakes_worker datagrams begun all_rest }
 {
     let are_for_few = begun.saturating_mul(DATAGRAMS_PER_ROUTE) <= u64::from(datagrams);
-    (datagrams >= MANY_DATAGRAMS && are_for_few) || (datagrams > 0 && all_rest)
+    (datagrams >= DATAGRAMS_FOR_WORKERS && are_for_few) || (datagrams > 0 && all_rest)
 }

@@ -18,7 +18,7 @@
 //! One worker is woken by each of these:
 //!
 //! - `ticked`, after each tick, if no worker dozes.
-//! - `read_ended`, for what the polling thread leaves to the workers, if the round read `MANY_DATAGRAMS` or more for
+//! - `read_ended`, for what the polling thread leaves to the workers, if the round read `DATAGRAMS_FOR_WORKERS` or more for
 //!   few routes, or if it read any and all workers rest or are in reserve.
 //! - `wake_resting`, if a worker rests: by the polling thread that leaves something of its own turns, and by a worker
 //!   in whose round `MANY_REPLIES` were moved if a further inbox is ready.
