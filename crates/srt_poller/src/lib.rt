@@ -56,7 +56,7 @@ pub use context::PollerTask;
 pub use devices::{Clock, Polled, Read, Sent, Source, Wire};
 pub use ends::Ends;
 pub use memory::MemoryRefused;
-pub use openings::{AddedRoute, Openings, Unchanged};
+pub use openings::{AddedRoute, Openings};
 pub use pumping::{Pumping, pump, pump_under};
 pub use scripts::{
     ClockScript, ScriptDatagram, SentDatagram, SourceScript, SourceStep, WireScript,

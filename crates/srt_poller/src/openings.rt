@@ -65,33 +65,3 @@ pub trait Openings {
         ensures no_more { no_more self.old → no_more self.new }
         ensures all { IfNone result (none_to_close self.new routes) };
 }
-
-/// No route is added, and none is requested to close.
-#[derive(Clone, Copy, Debug, PartialEq, Eq)]
-pub struct Unchanged;
-
-impl Openings for Unchanged {
-    ghost use Rattle.std.specs.Prelude.{Some, None, [], false};
-
-    ghost added = { λ o. Some [] };
-
-    ghost requested = { λ o. Some [] };
-
-    fn has_changes(&mut self) -> bool
-        ensures { result ≡ false }
-    {
-        false
-    }
-
-    fn next(&mut self) -> Option<AddedRoute>
-        ensures { result ≡ None }
-    {
-        None
-    }
-
-    fn next_close(&mut self, _routes: usize) -> Option<usize>
-        ensures { result ≡ None }
-    {
-        None
-    }
-}

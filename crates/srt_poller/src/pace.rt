@@ -4,7 +4,7 @@ ghost use Rattle.std.specs.Prelude.{◌≡◌};
 ghost use Rattle.srt_poller.specs.Pauses.{at_first, pause, after_wait, after_datagram, after_end, after_put_off};
 
 use crate::density::Density;
-use crate::tuning::{DENSE, MANY_DATAGRAMS, SHORT_WAITS, TOO_DENSE};
+use crate::tuning::{BURST, DENSE, SHORT_WAITS, TOO_DENSE};
 
 /// A wait.
 #[derive(Clone, Copy, Debug, PartialEq, Eq)]
@@ -59,7 +59,7 @@ impl Pace {
         }
         self.warm -= 1;
         let is_dense = DENSE <= self.density.last && self.density.last < TOO_DENSE;
-        if is_dense && 0 < read && read < MANY_DATAGRAMS && sent < MANY_DATAGRAMS {
+        if is_dense && 0 < read && read < BURST && sent < BURST {
             Pause::Nap
         } else {
             Pause::Poll(1)
@@ -72,7 +72,7 @@ impl Pace {
     {
         self.more = true;
         self.warm = SHORT_WAITS;
-        if self.read < MANY_DATAGRAMS {
+        if self.read < BURST {
             self.read += 1;
         }
         self.density.arrived(moment);

@@ -18,7 +18,7 @@ pub(crate) const SHORT_WAITS: u32 = 100;
 
 /// After a round that read or sent this many datagrams there may be more to do at once. A nap could then leave a route
 /// with more replies than a round sends.
-pub(crate) const MANY_DATAGRAMS: u32 = 64;
+pub(crate) const BURST: u32 = 64;
 
 /// Datagrams arrive densely if a millisecond had this many, and too densely for naps if it had `TOO_DENSE`: then many are
 /// there at each wait without them.

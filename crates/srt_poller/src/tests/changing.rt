@@ -15,8 +15,7 @@ use super::{
 use crate::rounds::PollerRounds;
 use crate::tables::ChangingRoutes;
 use crate::{
-    AddedRoute, Ends, Openings, Order, PollerTask, Report, SourceStep, Unchanged, WireScript,
-    pump_changing,
+    AddedRoute, Ends, Openings, Order, PollerTask, Report, SourceStep, WireScript, pump_changing,
 };
 use srt_cookie::Secret;
 use srt_lobby::NewName;
@@ -32,6 +31,36 @@ use std::test::Fail;
 const ON: Order = Order::GoOn;
 
 const CLOSE: Order = Order::CloseAll;
+
+/// No route is added, and none is requested to close.
+#[derive(Drop)]
+struct Unchanged;
+
+impl Openings for Unchanged {
+    ghost use Rattle.std.specs.Prelude.{Some, None, [], false};
+
+    ghost added = { λ o. Some [] };
+
+    ghost requested = { λ o. Some [] };
+
+    fn has_changes(&mut self) -> bool
+        ensures { result ≡ false }
+    {
+        false
+    }
+
+    fn next(&mut self) -> Option<AddedRoute>
+        ensures { result ≡ None }
+    {
+        None
+    }
+
+    fn next_close(&mut self, _routes: usize) -> Option<usize>
+        ensures { result ≡ None }
+    {
+        None
+    }
+}
 
 /// A route comes before a round, another one of its name later, and routes are asked to close before others, in the order of these.
 #[derive(Drop)]
