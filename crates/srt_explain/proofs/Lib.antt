@@ -1,4 +1,5 @@
 pub mod Added
 pub mod KeyValues
+pub mod Grouped
 pub mod Secrets
 pub mod Told

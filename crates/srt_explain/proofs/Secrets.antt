@@ -11,6 +11,7 @@ use Rattle.srt_explain.specs.declared.warnings.Warning.{Warning}
 use Rattle.srt_explain.specs.declared.warnings.Warning.TheVariants.{ExampleSecret, NoCallers, NoTakeover, NoResendLimit}
 use Rattle.srt_explain.specs.Warnings.{given, value_warnings, lacks, reserved_warning, if_live, route_warnings, routes_warnings, route_table}
 use Rattle.srt_explain.specs.Warnings.{status_warnings, warnings_of, route_of, name_if, name_for, with_keys}
+use Rattle.srt_explain.specs.Grouping.{grouped}
 use Rattle.srt_explain.specs.Texts.{warning_line, line_for, AreAlike, TellsNoSecret}
 use Rattle.srt_explain.proofs.KeyValues.{warns_of_no_key}
 
@@ -45,6 +46,6 @@ same_names publish request routes (Some number) =
 
 pub tells_no_secret : TellsNoSecret
 tells_no_secret table other status routes publish request alike =
-    (λ i. map (λ (w : Warning). warning_line w (same_names publish request routes (route_of w) i)) (warnings_of table status routes))
-    ∙ ap (map (line_for (map (with_keys publish request) routes)))
+    (λ i. map (λ (w : Warning). warning_line w (same_names publish request routes (route_of w) i)) (grouped (warnings_of table status routes)))
+    ∙ ap (λ (ws : List Warning). map (line_for (map (with_keys publish request) routes)) (grouped ws))
     (same_tables table other status routes alike ∙ sym (warns_of_no_key other status routes publish request))

@@ -17,6 +17,7 @@ use Rattle.srt_explain.specs.declared.explanation.Part.{Part}
 use Rattle.srt_explain.specs.declared.explanation.Part.TheVariants as parts
 use Rattle.srt_explain.specs.declared.explanation.Hint.{Hint}
 use Rattle.srt_explain.specs.declared.explanation.Hint.TheVariants as hints
+use Rattle.srt_explain.specs.Grouping.{grouped}
 use Rattle.srt_explain.specs.Warnings.{warnings_of}
 
 -- what is explained, without the explanation
@@ -85,7 +86,8 @@ IsPrivate explanation =
 
 -- the warnings are those of this table, and of the status page and the routes that were read from it
 abbrev pub WarnsOf : Members → Explained → Type 0
-WarnsOf table explained = explained.warnings.items ≡ warnings_of table explained.config.status (map terms_of explained.config.entries.items)
+WarnsOf table explained =
+    explained.warnings.items ≡ grouped (warnings_of table explained.config.status (map terms_of explained.config.entries.items))
 
 -- the same of the table that the text is, with the defaults in each route
 abbrev pub HasWarnings : Option Members → Explained → Type 0

@@ -1,5 +1,6 @@
 pub mod Explaining
 pub mod Listing
 pub mod Warnings
+pub mod Grouping
 pub mod Texts
 pub mod inside

@@ -13,6 +13,8 @@ use Rattle.srt_config.specs.declared.config.keys.Key.TheVariants.{PublishFrom, R
 use Rattle.srt_config.specs.KeyTable.{key_name}
 use Rattle.srt_explain.specs.declared.warnings.Warning.{Warning}
 use Rattle.srt_explain.specs.declared.warnings.Warning.TheVariants as warnings
+use Rattle.srt_explain.specs.declared.grouping.RouteRisk.{RouteRisk}
+use Rattle.srt_explain.specs.Grouping.{risk_key, grouped}
 use Rattle.srt_explain.specs.Warnings.{route_of, name_for, warnings_of, has_example_secret, lacks, route_table, with_keys}
 
 -- four numbers with dots between them
@@ -112,6 +114,10 @@ unfoldable pub no_resend_limit_text : List ℕ
 no_resend_limit_text =
     codes "resend_percent is missing, so one player that requests packets again and again " ++ codes "can fill the line; write resend_percent = 50"
 
+-- how many more routes have a risk
+unfoldable pub more_routes_text : RouteRisk → (count : ℕ) → List ℕ
+more_routes_text risk count = risk_key risk ++ codes ": more routes have this warning: " ++ decimal count
+
 -- a warning without its route
 abbrev pub warning_text : Warning → List ℕ
 warning_text warnings.ExampleSecret = example_secret_text
@@ -127,6 +133,7 @@ warning_text (warnings.NoCallers route) = no_callers_text
 warning_text (warnings.NoReserved route slots) = no_reserved_text slots
 warning_text (warnings.NoTakeover route) = no_takeover_text
 warning_text (warnings.NoResendLimit route) = no_resend_limit_text
+warning_text (warnings.MoreRoutes risk count) = more_routes_text risk count
 
 -- the route that a warning is about, with its name
 unfoldable pub route_text : (route : Option ℕ) → (name : List ℕ) → List ℕ
@@ -142,7 +149,7 @@ abbrev pub line_for : List Terms → Warning → List ℕ
 line_for routes warning = warning_line warning (name_for (route_of warning) routes)
 
 abbrev pub warning_lines : Members → (status : Option BindAddress) → List Terms → List (List ℕ)
-warning_lines table status routes = map (line_for routes) (warnings_of table status routes)
+warning_lines table status routes = map (line_for routes) (grouped (warnings_of table status routes))
 
 -- two tables whose routes have the same keys, whatever the values, and whose secrets are both that of the example or neither is
 pub record AreAlike (table other : Members) : Type 0 where

@@ -12,7 +12,9 @@ use Rattle.srt_config.specs.declared.config.address.BindAddress.{BindAddress}
 use Rattle.srt_explain.specs.declared.warnings.Warning.{Warning}
 use Rattle.srt_explain.specs.declared.warnings.Warning.TheVariants.{ExampleSecret, ExposedStatus, SmallOutbox, SmallWindow, OneSession, OpenKey}
 use Rattle.srt_explain.specs.declared.warnings.Warning.TheVariants.{UnusedTakeover, UnusedAddressLimit, OneUnreserved}
-use Rattle.srt_explain.specs.declared.warnings.Warning.TheVariants.{NoCallers, NoReserved, NoTakeover, NoResendLimit}
+use Rattle.srt_explain.specs.declared.warnings.Warning.TheVariants.{NoCallers, NoReserved, NoTakeover, NoResendLimit, MoreRoutes}
+use Rattle.srt_explain.specs.declared.grouping.RouteRisk.{RouteRisk}
+use Rattle.srt_explain.specs.declared.grouping.RouteRisk.TheVariants as risks
 use Rattle.srt_config.specs.declared.config.keys.Key.{Key}
 use Rattle.srt_config.specs.declared.config.keys.Key.TheVariants.{Callers, Reserved, TakeoverMs, ResendPercent}
 use Rattle.srt_config.specs.KeyTable.{key_name}
@@ -194,6 +196,7 @@ warnings_of table status routes = given (has_example_secret table) ExampleSecret
 -- the number of the route that a warning is about
 abbrev pub route_of : Warning → Option ℕ
 route_of ExampleSecret = None
+route_of (MoreRoutes risk count) = None
 route_of (ExposedStatus address) = None
 route_of (SmallOutbox route outbox replies) = Some route
 route_of (SmallWindow route buffer packets millis) = Some route
@@ -207,12 +210,21 @@ route_of (NoReserved route slots) = Some route
 route_of (NoTakeover route) = Some route
 route_of (NoResendLimit route) = Some route
 
+-- a risk of routes whose tables don't have a key
+abbrev pub is_of_missing_key : RouteRisk → Bool
+is_of_missing_key risks.NoCallers = true
+is_of_missing_key risks.NoReserved = true
+is_of_missing_key risks.NoTakeover = true
+is_of_missing_key risks.NoResendLimit = true
+is_of_missing_key _ = false
+
 -- whether a warning is about a key that the route's table doesn't have
 abbrev pub names_missing_key : Warning → Bool
 names_missing_key (NoCallers route) = true
 names_missing_key (NoReserved route slots) = true
 names_missing_key (NoTakeover route) = true
 names_missing_key (NoResendLimit route) = true
+names_missing_key (MoreRoutes risk count) = is_of_missing_key risk
 names_missing_key _ = false
 
 abbrev pub name_if : Option Terms → List ℕ

@@ -16,13 +16,14 @@ ghost use Rattle.srt_explain.specs.inside.Others.{HasOthers};
 ghost use Rattle.srt_explain.specs.Explaining.{plain, place_of, HasPlace, is_fault_private, is_hint_private, IsPrivate, WarnsOf, HasWarnings};
 
 use crate::explanation::{Explanation, Faults, Hint, Part, RouteAt, bare, only_fault};
+use crate::grouping::told_warnings;
 use crate::hints::{
     of_bad_address, of_kind, of_name, of_range, of_same_name, of_secret, of_text, of_unknown,
 };
 use crate::lines::{Sought, line_of};
 use crate::others::others_in;
 use crate::values::{defaults_of, route_at, routes_before, text_or_empty, value_at};
-use crate::warnings::{Warning, WarningText, warnings_of};
+use crate::warnings::{Warning, WarningText};
 use srt_config::{Config, ConfigFault, Key, Place, PlacedFault, read_table, with_defaults};
 use srt_types::{Entry, is_name};
 use std::alloc::Global;
@@ -35,7 +36,8 @@ use toml::{Table, Value};
 pub struct Explained {
     /// The configuration, as `srt_config::read_config` reads it.
     pub config: Config,
-    /// Its warnings: first those of the keys above the routes, then route by route.
+    /// Its warnings: first those of the keys above the routes, then route by route. Of a risk that many routes have the first three
+    /// are told, and behind all others how many more routes have it.
     pub warnings: Vec<Warning>,
 }
 
@@ -231,7 +233,7 @@ fn explain_table(alloc: Global, text: &str, table: &Table) -> Result<Explained, 
         Ok(config) => config,
         Err(placed) => return Err(explained_line(text, table, placed)),
     };
-    match warnings_of(alloc, table, &config) {
+    match told_warnings(alloc, table, &config) {
         Ok(warnings) => Ok(Explained { config, warnings }),
         Err(_) => Err(bare(ConfigFault::OutOfMemory)),
     }

@@ -11,12 +11,14 @@
 //!
 //! Files: `explaining.rt` joins the others; `others.rt` explains the faults after the first; `hints.rt` and `resemblance.rt` find what
 //! may have been meant; `values.rt` reads the table at the fault; `places.rt` counts lines and columns, and `lines.rt` finds the lines
-//! of keys; `texts.rt` has the words; `warnings.rt` the risks; `laws.rt` relates the definitions to `srt_route`, and states that
+//! of keys; `texts.rt` has the words; `warnings.rt` the risks, and `grouping.rt` which of
+//! them are told; `laws.rt` relates the definitions to `srt_route`, and states that
 //! warnings tell no secret.
 #![tactic(auto)]
 
 mod explaining;
 mod explanation;
+mod grouping;
 mod hints;
 pub mod laws;
 mod lines;
@@ -31,5 +33,6 @@ mod warnings;
 
 pub use explaining::{Explained, explain};
 pub use explanation::{Explanation, Faults, Hint, Part, RouteAt};
+pub use grouping::RouteRisk;
 pub use places::TextPlace;
 pub use warnings::{Warning, WarningText};

@@ -1,6 +1,6 @@
 //! The lines of faults. Their words are rows of `tests/cli`.
 
-use crate::explain;
+use crate::{Explained, explain};
 use std::fmt::InlineText;
 use std::process::Abort;
 use std::test::Fail;
@@ -117,5 +117,51 @@ fn a_key_that_is_not_written_has_the_line_of_its_part(rt: HostRuntime) -> Result
         "line 21: route 2 (files): outbox is missing",
     )?;
     assert_fault(&rt, "bind = \"127.0.0.1:0\"\n", "", "bind is missing")?;
+    Ok(())
+}
+
+/// Asserts the text of the warning at this place.
+fn assert_warning(rt: &impl Abort, explained: &Explained, at: usize, wanted: &str) {
+    match explained.warnings.get(at) {
+        Some(warning) => {
+            let said = InlineText::<256>::of(explained.text_of(*warning));
+            let said = said.as_str();
+            assert!(rt; said == wanted, "it is {said}");
+        }
+        None => assert!(rt; false, "there is none"),
+    }
+}
+
+#[test]
+fn warnings_of_many_routes_are_told_of_three(rt: HostRuntime) -> Result<(), Fail> {
+    let mut text = format!(in rt.alloc(); "{TOP}")?;
+    for name in ["a", "b", "c", "d", "e", "f"] {
+        let route = format!(in rt.alloc();
+            "\n[[route]]\nname = \"{name}\"\nbuffer = 256\nsessions = 2\ninbox = 16\noutbox = 136\ncallers = \"libsrt\"\n"
+        )?;
+        text.push_str(route.as_str())?;
+    }
+    let Ok(explained) = explain(rt.alloc(), text.as_bytes()) else {
+        return Err(Fail::from("a wrong configuration"));
+    };
+    assert!(&rt; explained.warnings.len() == 9);
+    assert_warning(
+        &rt,
+        &explained,
+        1,
+        "warning: route 1 (a): takeover_ms is missing, so a backup encoder waits for the end of the other session, five silent seconds; write takeover_ms = 500",
+    );
+    assert_warning(
+        &rt,
+        &explained,
+        7,
+        "warning: takeover_ms: more routes have this warning: 3",
+    );
+    assert_warning(
+        &rt,
+        &explained,
+        8,
+        "warning: resend_percent: more routes have this warning: 3",
+    );
     Ok(())
 }

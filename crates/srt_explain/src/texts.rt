@@ -7,8 +7,10 @@ ghost use Rattle.srt_explain.specs.Texts.{open_key_text, small_outbox_text};
 ghost use Rattle.srt_explain.specs.Texts.{brought_text, enough_text, small_window_text, one_session_text};
 ghost use Rattle.srt_explain.specs.Texts.{unused_takeover_text, unused_limit_text, one_unreserved_text, no_callers_text, no_reserved_text};
 ghost use Rattle.srt_explain.specs.Texts.{no_takeover_text, no_resend_limit_text, example_secret_text, warning_text, route_text, warning_line};
+ghost use Rattle.srt_explain.specs.Texts.{more_routes_text};
 
 use crate::explanation::{Explanation, Faults, Hint, Part, RouteAt};
+use crate::grouping::{RouteRisk, risk_key};
 use crate::warnings::{Warning, WarningText};
 use srt_config::{
     BindAddress, ConfigFault, DEFAULT_KEYS, Key, Limits, ROUTE_KEYS, TOP_KEYS, ValueKind,
@@ -720,6 +722,18 @@ fn write_example_secret<W: fmt::Write>(f: &mut fmt::Formatter<W>) -> fmt::Result
     f.write_str("read; put the output of openssl rand -hex 32 in its place")
 }
 
+#[tactic(auto, unfolding(crate::specs::Texts::more_routes_text))]
+fn write_more_routes<W: fmt::Write>(
+    f: &mut fmt::Formatter<W>,
+    risk: RouteRisk,
+    count: usize,
+) -> fmt::Result
+    ensures { DisplaysOnOk W.write_str_gives f.old result (Some (more_routes_text risk count)) f.new }
+{
+    let key = risk_key(risk);
+    write!(f, "{key}: more routes have this warning: {count}")
+}
+
 /// Writes a warning without its route.
 fn write_warning<W: fmt::Write>(f: &mut fmt::Formatter<W>, warning: Warning) -> fmt::Result
     ensures { DisplaysOnOk W.write_str_gives f.old result (Some (warning_text warning)) f.new }
@@ -755,6 +769,7 @@ fn write_warning<W: fmt::Write>(f: &mut fmt::Formatter<W>, warning: Warning) -> 
         Warning::NoReserved { slots, .. } => write_no_reserved(f, slots),
         Warning::NoTakeover { .. } => write_no_takeover(f),
         Warning::NoResendLimit { .. } => write_no_resend_limit(f),
+        Warning::MoreRoutes { risk, count } => write_more_routes(f, risk, count),
     }
 }
 

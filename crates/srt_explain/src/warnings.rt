@@ -12,6 +12,7 @@ ghost use Rattle.srt_explain.specs.Warnings.{route_table, lacks, advised_slots, 
 ghost use Rattle.srt_explain.specs.Warnings.{default_admission, default_limits, value_warnings};
 ghost use Rattle.srt_explain.specs.Warnings.{warnings_of, route_of, names_missing_key};
 
+use crate::grouping::RouteRisk;
 use crate::values::{lacks, text_at};
 use srt_config::{BindAddress, Config, Key};
 use srt_types::{Access, Entry, Mode, Role, RoleAccess, is_mapped};
@@ -106,6 +107,13 @@ pub enum Warning {
         /// The route.
         route: usize,
     },
+    /// More routes than have their own warning of a risk have it.
+    MoreRoutes {
+        /// The risk.
+        risk: RouteRisk,
+        /// How many more there are.
+        count: usize,
+    },
 }
 
 impl Warning {
@@ -114,7 +122,9 @@ impl Warning {
         ensures { result ≡ route_of self }
     {
         match self {
-            Warning::ExampleSecret | Warning::ExposedStatus { .. } => None,
+            Warning::ExampleSecret | Warning::ExposedStatus { .. } | Warning::MoreRoutes { .. } => {
+                None
+            }
             Warning::SmallOutbox { route, .. }
             | Warning::SmallWindow { route, .. }
             | Warning::OneSession { route }
@@ -139,6 +149,7 @@ impl Warning {
             | Warning::NoReserved { .. }
             | Warning::NoTakeover { .. }
             | Warning::NoResendLimit { .. } => true,
+            Warning::MoreRoutes { risk, .. } => risk.is_of_missing_key(),
             _ => false,
         }
     }
@@ -239,7 +250,12 @@ fn window_warning(route: usize, entry: &Entry) -> Warning
     }
 }
 
-fn push_if(list: &mut Vec<Warning>, some: bool, warning: Warning) -> Result<(), AllocError>
+/// Adds a warning, if it is to be given.
+pub(crate) fn push_if(
+    list: &mut Vec<Warning>,
+    some: bool,
+    warning: Warning,
+) -> Result<(), AllocError>
     ensures { OnOk result (list.new.items ≡ list.old.items ++ given some warning) }
 {
     if some {
