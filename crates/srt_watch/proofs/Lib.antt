@@ -3,6 +3,7 @@ pub mod Appended
 pub mod Asked
 pub mod BeginningRoutes
 pub mod ChangedRoutes
+pub mod Evidence
 pub mod ExpectedRoutes
 pub mod Floods
 pub mod GrownRoutes

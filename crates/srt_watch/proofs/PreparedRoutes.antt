@@ -1,6 +1,6 @@
 -- A change that is prepared route by route.
 use Rattle.std.proofs.Common.{◌≡◌, ℕ, ◌<◌, List, [], ◌∷◌, ◌++◌, length, map, drop, get_or, refl, sym, ap, ◌∙◌, subst, append_assoc, append-nil, suc, arith}
-use Rattle.std.proofs.Common.{◌==◌, false}
+use Rattle.std.proofs.Common.{◌==◌, false, true, if◌then◌else◌, Some, slice_get}
 use Rattle.std.proofs.lemmas.Bool.Decides.{nat_tests}
 use Rattle.std.specs.List.{flat_map}
 use Rattle.srt_types.specs.declared.shared.Entry.{Entry}
@@ -10,12 +10,14 @@ use Rattle.srt_config.specs.Changes.{changes_of}
 use Rattle.srt_config.specs.Config.{Settings}
 use Rattle.srt_config.specs.declared.changes.RouteChange.{RouteChange}
 use Rattle.srt_watch.specs.Following.{IsWanted}
-use Rattle.srt_watch.specs.Indexes.{closing, reopened_at, counted_all, numbers_of}
+use Rattle.srt_watch.specs.Indexes.{closing, reopened_at, counted_all, numbers_of, opens}
 use Rattle.srt_watch.specs.Openings.{AreOpening}
-use Rattle.srt_watch.specs.Preparing.{HasClosings, HasPrepared, IsPrepared}
+use Rattle.srt_watch.specs.Preparing.{HasClosings, HasPrepared, IsPrepared, NamesRoute, NamesNone, IsNoRoom}
 use Rattle.srt_watch.specs.Requests.{opened_at, opened_by}
 use Rattle.srt_watch.specs.declared.in_force.InForce.{InForce}
 use Rattle.srt_watch.specs.declared.in_force.Wanted.{Wanted}
+use Rattle.srt_watch.specs.declared.prepared_change.NoRoom.{NoRoom}
+use Rattle.srt_watch.specs.declared.prepared_change.NoRoom.TheVariants.{Route, Lists}
 use Rattle.srt_watch.specs.declared.prepared_change.Preparation.{Preparation}
 use Rattle.srt_watch.specs.declared.watched_routes.OpeningRoute.{OpeningRoute}
 
@@ -114,3 +116,36 @@ each_changes in_force wanted many is =
     ap (λ r. length r.routes) is.changes_are
     ∙ as_many_changes _ (map terms_of wanted.config.entries.items) wanted.config.schedules.items (many ∙ sym (length_mapped wanted.config.entries.items))
     ∙ length_mapped wanted.config.entries.items
+
+-- memory lacks for something that isn't a route
+pub none_named : (opening : List Terms) (why : NoRoom) → NamesNone why → IsNoRoom opening why
+none_named opening (Route name want) none = absurd none
+none_named opening (Lists want) none = tt
+
+-- memory lacks for the first of those that are left, which opens
+slice_get_seam : {A : Type 0} (xs : List A) (y : A) (ys : List A) → slice_get (xs ++ y ∷ ys) (length xs) ≡ Some y
+slice_get_seam [] y ys = refl
+slice_get_seam (x ∷ xs) y ys = slice_get_seam xs y ys
+
+first_opens : (x : RouteChange) (t : Terms) (more : List Terms) → opens x ≡ true → opened_at x t ++ more ≡ t ∷ more
+first_opens x t more o = ap (λ b. (if b then t ∷ [] else []) ++ more) o
+
+pub one_named : (indexes gone : List ℕ) (all : List RouteChange) (terms : List Terms) (rest : List RouteChange) (left : List Entry) (p : Preparation)
+    (change first : RouteChange) (entry one : Entry) (why : NoRoom) → (length rest == 0) ≡ false → length rest ≡ length left → change ≡ get_or rest 0 first →
+    entry ≡ get_or left 0 one → IsPartly indexes gone all terms rest left p → opens change ≡ true → NamesRoute (terms_of entry) why →
+    IsNoRoom (opened_by all terms) why
+one_named indexes gone all terms [] left p change first entry one why some many ec ee h o k = absurd (cc some)
+one_named indexes gone all terms (x ∷ rest) [] p change first entry one why some many ec ee h o k = absurd (omega (arith, many))
+one_named indexes gone all terms (x ∷ rest) (y ∷ left) p change first entry one (Lists want) some many ec ee h o k = absurd k
+one_named indexes gone all terms (x ∷ rest) (y ∷ left) p change first entry one (Route name want) some many ec ee h o k =
+    let es = map terms_of p.entries.items in
+    let more = opened_by rest (map terms_of left) in
+    record {
+      place = length es;
+      route = terms_of entry;
+      route_at =
+          subst (λ (l : List Terms). slice_get l (length es) ≡ Some (terms_of entry)) h.opens_are
+          (subst (λ (l : List Terms). slice_get (es ++ l) (length es) ≡ Some (terms_of entry)) (sym (first_opens x (terms_of y) more (sym (ap opens ec) ∙ o)))
+          (slice_get_seam es (terms_of y) more ∙ ap (λ (e : Entry). Some (terms_of e)) (sym ee)));
+      name_is = k;
+    }

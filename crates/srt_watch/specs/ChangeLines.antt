@@ -47,13 +47,13 @@ no_memory_said = config_said (events.Wrong (lent (codes "out of memory")))
 abbrev pub not_taken_said : NotTaken → Said
 not_taken_said (Unread why) = config_said (events.Unread (lent (inline_text why)))
 not_taken_said (Wrong reason) = config_said (events.Wrong (lent (inline_text reason.text)))
-not_taken_said NoMemory = no_memory_said
+not_taken_said (NoMemory want) = no_memory_said
 not_taken_said (KeysDiffer keys) = config_said (events.KeysDiffer keys)
 
 abbrev pub counted_not_taken : NotTaken → ChangeCounts → ChangeCounts
 counted_not_taken (Unread why) counts = counts
 counted_not_taken (Wrong reason) counts = one_refused counts
-counted_not_taken NoMemory counts = one_refused counts
+counted_not_taken (NoMemory want) counts = one_refused counts
 counted_not_taken (KeysDiffer keys) counts = one_refused counts
 
 -- that a configuration is held since the route of this name has sessions
@@ -62,8 +62,8 @@ held_said route = config_said (events.Held (lent route))
 
 -- for lack of memory: of the route of this name, or of lists
 abbrev pub no_room_said : NoRoom → Said
-no_room_said (Route name) = config_said (events.NoMemory (lent (inline_text name)))
-no_room_said Lists = no_memory_said
+no_room_said (Route name want) = config_said (events.NoMemory (lent (inline_text name)))
+no_room_said (Lists want) = no_memory_said
 
 -- why the run rejected a change by which these routes open
 abbrev pub rejected_said : (opening : List OpeningRoute) → ChangeFault → Said

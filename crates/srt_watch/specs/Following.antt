@@ -34,13 +34,13 @@ pub record HasOtherKeys (in_force : InForce) (text : List ℕ) (keys : FixedKeys
 abbrev pub IsWrong : (text : List ℕ) → NotTaken → Type 0
 IsWrong text (Unread why) = ⊥
 IsWrong text (Wrong reason) = HasFaults text reason.of.value
-IsWrong text NoMemory = ⊥
+IsWrong text (NoMemory want) = ⊥
 IsWrong text (KeysDiffer keys) = ⊥
 
 abbrev pub IsNotTaken : InForce → (text : List ℕ) → NotTaken → Type 0
 IsNotTaken in_force text (Unread why) = ⊥
 IsNotTaken in_force text (Wrong reason) = HasFaults text reason.of.value
-IsNotTaken in_force text NoMemory = Unit {0}
+IsNotTaken in_force text (NoMemory want) = Unit {0}
 IsNotTaken in_force text (KeysDiffer keys) = HasOtherKeys in_force text keys
 
 -- why what was found in a file isn't taken

@@ -11,6 +11,7 @@ use Rattle.srt_watch.specs.Holding.{held_calls, waits_for, look_of}
 use Rattle.srt_watch.specs.Indexes.{numbers_of}
 use Rattle.srt_watch.specs.Log.{LogCall, Always, Logged}
 use Rattle.srt_watch.specs.Openings.{AreOpening}
+use Rattle.srt_watch.specs.Preparing.{IsNoRoom}
 use Rattle.srt_watch.specs.Polls.{FoundFile, news_of, after_look, held, kept_after}
 use Rattle.srt_watch.specs.Requests.{config_of}
 use Rattle.srt_watch.specs.Routes.{used_of}
@@ -68,7 +69,8 @@ pub data IsTold (found : Option FoundFile) (before after : InForce) (asked_befor
       after ≡ before → asked_after ≡ asked_before → new ≡ old →
       Logged written_before written_after p q (held_calls when old (waits_for was_held old before wanted)) → d ≡ c →
       IsTold found before after asked_before asked_after when old new written_before written_after p q c d
-  NoMemory : (wanted : Wanted) (why : NoRoom) → IsFoundConfig found wanted.config → after ≡ before → asked_after ≡ asked_before → SameRoutes old new →
+  NoMemory : (wanted : Wanted) (why : NoRoom) → IsFoundConfig found wanted.config → IsNoRoom (opens_of wanted) why → after ≡ before →
+      asked_after ≡ asked_before → SameRoutes old new →
       Logged written_before written_after p q (Always when (no_room_said why) ∷ []) → d ≡ one_refused c →
       IsTold found before after asked_before asked_after when old new written_before written_after p q c d
   Requested : (wanted : Wanted) (ready : WatchedRoutes) → IsFoundConfig found wanted.config → SameRoutes old ready →

@@ -94,7 +94,7 @@ impl<W: Write + Drop> ChangeLog<W> {
                 let why = reason.text.as_str().as_bytes();
                 self.refuse(when, ConfigEvent::Wrong { why });
             }
-            NotTaken::NoMemory => self.refuse_for_memory(when),
+            NotTaken::NoMemory(_) => self.refuse_for_memory(when),
             NotTaken::KeysDiffer(keys) => self.refuse(
                 when,
                 ConfigEvent::KeysDiffer { keys: *keys },
@@ -119,11 +119,11 @@ impl<W: Write + Drop> ChangeLog<W> {
             (Always when (no_room_said no_room.now) ∷ []) }
     {
         match no_room {
-            NoRoom::Route(name) => {
+            NoRoom::Route(name, _) => {
                 let route = name.as_str().as_bytes();
                 self.refuse(when, ConfigEvent::NoMemory { route });
             }
-            NoRoom::Lists => self.refuse_for_memory(when),
+            NoRoom::Lists(_) => self.refuse_for_memory(when),
         }
     }
 

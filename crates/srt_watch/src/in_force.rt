@@ -8,6 +8,7 @@ ghost use Rattle.srt_watch.specs.Following.{IsWrong, IsNotTaken};
 ghost use Rattle.srt_watch.specs.Requests.{config_of, first_indexes};
 
 use crate::config_file::MAX_REASON;
+use crate::memory::{WantOfMemory, or_want_of_memory};
 use crate::reasons::{Reason, reason_of};
 use srt_config::{Changes, Config, FixedKeys, changes_between, read_config};
 use srt_explain::{Faults, explain};
@@ -31,7 +32,7 @@ pub(crate) enum NotTaken {
     /// It has these faults.
     Wrong(Reason<Faults>),
     /// There is no memory for the list of its changes.
-    NoMemory,
+    NoMemory(WantOfMemory),
     /// Keys differ that can't change.
     KeysDiffer(FixedKeys),
 }
@@ -102,12 +103,21 @@ impl<'a> InForce<'a> {
         ensures not_taken { IfErr result (IsNotTaken self.now content.now) }
     {
         let config = config_of_text(alloc, content)?;
-        match changes_between(alloc, self.config(), &config) {
+        match changes_to(alloc, self.config(), &config) {
             Ok(changes) if changes.fixed.any() => Err(NotTaken::KeysDiffer(changes.fixed)),
             Ok(changes) => Ok(Wanted { config, changes }),
-            Err(_) => Err(NotTaken::NoMemory),
+            Err(want) => Err(NotTaken::NoMemory(want)),
         }
     }
+}
+
+// Returns what a configuration changes of the one before; evidence, if memory for that was refused. Allocates the list of changes.
+#[tactic(auto, using(crate::proofs::Evidence::same_made))]
+fn changes_to(alloc: Global, before: &Config, after: &Config) -> Result<Changes, WantOfMemory>
+    ensures { IfOk result (λ changes. requested_by changes ≡ requested (settings_of before.now) (settings_of after.now)) }
+{
+    let outcome = changes_between(alloc, before, after);
+    or_want_of_memory(outcome)
 }
 
 // Reads the configuration of this content, or explains its faults. Allocates it. Its warnings aren't computed: those of

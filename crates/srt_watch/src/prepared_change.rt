@@ -1,17 +1,18 @@
 //! A change of the run's routes, with all memory that it needs here allocated.
 
-ghost use Rattle.std.specs.Prelude.{◌≡◌, ◌≤◌, ◌+◌, [], ◌∷◌, ◌++◌, IfOk, OnOk, length, map, slice_get, vec_len, vec_capacity};
+ghost use Rattle.std.specs.Prelude.{◌≡◌, ◌≤◌, ◌+◌, true, [], ◌∷◌, ◌++◌, IfOk, IfErr, OnOk, length, map, slice_get, vec_len, vec_capacity};
 ghost use Rattle.srt_types.specs.Terms.{terms_of};
 ghost use Rattle.srt_watch.specs.Expecting.{IsExpecting};
 ghost use Rattle.srt_watch.specs.Following.{IsWanted};
-ghost use Rattle.srt_watch.specs.Indexes.{closing, indexes_from, numbers_of, changes_nothing};
+ghost use Rattle.srt_watch.specs.Indexes.{closing, indexes_from, numbers_of, changes_nothing, opens};
 ghost use Rattle.srt_watch.specs.Requests.{opened_by, config_of};
 ghost use Rattle.srt_watch.specs.Openings.{opening_name, AreOpening};
-ghost use Rattle.srt_watch.specs.Preparing.{HasClosings, HasOpening, HasPrepared, IsPrepared};
+ghost use Rattle.srt_watch.specs.Preparing.{HasClosings, HasOpening, HasPrepared, IsPrepared, NamesRoute, NamesNone, IsNoRoom};
 ghost use Rattle.srt_watch.specs.Outcomes.{SameRoutes};
 
 use crate::in_force::{InForce, Wanted};
 use crate::indexes::{fill_indexes, index_at};
+use crate::memory::{WantForRoute, WantOfMemory};
 use crate::watched_routes::{OpeningRoute, WatchedRoutes};
 use srt_config::RouteChange;
 use srt_log::ChangeSummary;
@@ -24,20 +25,31 @@ use std::fmt::InlineText;
 /// What the memory of a change was for, where its allocation failed.
 #[derive(Clone, Copy)]
 pub(crate) enum NoRoom {
-    /// The route of this name.
-    Route(InlineText<64>),
+    /// The route of this name, cut off at 64 bytes.
+    Route(InlineText<64>, WantForRoute),
     /// Something else.
-    Lists,
+    Lists(WantOfMemory),
 }
 
-impl From<AllocError> for NoRoom {
-    fn from(_error: AllocError) -> NoRoom {
-        NoRoom::Lists
+impl NoRoom {
+    // Returns that there was none for the route of this entry.
+    fn of_route(entry: &Entry, want: WantForRoute) -> NoRoom
+        ensures { NamesRoute (terms_of entry.now) result }
+    {
+        NoRoom::Route(InlineText::of(entry.name.as_str()), want)
     }
 }
 
-// A copy of an entry, for the run. Allocates; the only error is out of memory.
-fn copied(alloc: Global, entry: &Entry) -> Result<Entry, AllocError>
+impl From<AllocError> for NoRoom {
+    ghost from_gives = { λ _ why. NamesNone why };
+
+    fn from(error: AllocError) -> NoRoom {
+        NoRoom::Lists(WantOfMemory::from(error))
+    }
+}
+
+// A copy of an entry, for the run. Allocates; the error is evidence that memory for it was refused.
+fn copied(alloc: Global, entry: &Entry) -> Result<Entry, WantForRoute>
     ensures { IfOk result (λ copy. terms_of copy ≡ terms_of entry.now) }
 {
     Ok(Entry {
@@ -89,9 +101,9 @@ impl Preparation {
         })
     }
 
-    // Adds a route that opens. Allocates; the only error is out of memory.
+    // Adds a route that opens. Allocates; the error is evidence that memory for it was refused.
     #[tactic(auto, using(crate::proofs::Appended::entry_added))]
-    fn open(&mut self, alloc: Global, entry: &Entry) -> Result<(), AllocError>
+    fn open(&mut self, alloc: Global, entry: &Entry) -> Result<(), WantForRoute>
         ensures entries { OnOk result (map terms_of self.new.entries.items ≡ map terms_of self.old.entries.items ++ terms_of entry.now ∷ []) }
         ensures opening { OnOk result (HasOpening (terms_of entry.now) self.old.opening.items self.new.opening.items) }
         ensures numbers { self.new.numbers ≡ self.old.numbers }
@@ -103,15 +115,16 @@ impl Preparation {
     }
 
     // Adds a route of the changed configuration: counts it, closes the route that it replaces, and opens it if it has to.
-    // Allocates; the only error is out of memory.
+    // Allocates; the error is evidence that memory for it was refused, and such a route opens.
     fn add(
         &mut self,
         alloc: Global,
         indexes: &[usize],
         change: RouteChange,
         entry: &Entry,
-    ) -> Result<(), AllocError>
-        ensures { OnOk result (HasPrepared indexes.now change (terms_of entry.now) self.old self.new) }
+    ) -> Result<(), WantForRoute>
+        ensures refused { IfErr result (λ _. opens change ≡ true) }
+        ensures prepared { OnOk result (HasPrepared indexes.now change (terms_of entry.now) self.old self.new) }
     {
         match change {
             RouteChange::Stays(_) => {
@@ -133,16 +146,18 @@ impl Preparation {
     // The whole change to a configuration. Allocates; the error names the route for which that failed.
     fn of(alloc: Global, indexes: &[usize], wanted: &Wanted) -> Result<Preparation, NoRoom>
         requires { length wanted.now.changes.routes.items ≡ length wanted.now.config.entries.items }
-        ensures { IfOk result (IsPrepared indexes.now wanted.now.changes.gone.items wanted.now.changes.routes.items
+        ensures prepared { IfOk result (IsPrepared indexes.now wanted.now.changes.gone.items wanted.now.changes.routes.items
             (map terms_of wanted.now.config.entries.items)) }
+        ensures no_room { IfErr result (IsNoRoom (opened_by wanted.now.changes.routes.items (map terms_of wanted.now.config.entries.items))) }
     {
         let mut prepared = Preparation::begin(alloc, indexes, wanted.changes.gone.as_slice())?;
         let mut rest = wanted.changes.routes.as_slice();
         let mut entries = wanted.config.entries.as_slice();
         while !rest.is_empty() {
-            let Ok(()) = prepared.add(alloc, indexes, rest[0], &entries[0]) else {
-                return Err(NoRoom::Route(InlineText::of(entries[0].name.as_str())));
-            };
+            match prepared.add(alloc, indexes, rest[0], &entries[0]) {
+                Ok(()) => {}
+                Err(want) => return Err(NoRoom::of_route(&entries[0], want)),
+            }
             rest = &rest[1..];
             entries = &entries[1..];
         }
@@ -176,7 +191,7 @@ pub(crate) struct PreparedChange {
 impl PreparedChange {
     /// The change to a valid configuration, and what the run is to be requested. Allocates; after an error nothing has
     /// changed.
-    #[tactic(auto, using(crate::proofs::PreparedRoutes::each_changes))]
+    #[tactic(auto, using(crate::proofs::PreparedRoutes::each_changes, crate::proofs::PreparedRoutes::none_named))]
     pub(crate) fn of(
         alloc: Global,
         in_force: &InForce<'_>,
@@ -190,6 +205,7 @@ impl PreparedChange {
         ensures opens { IfOk result (λ p. map terms_of p.1.opens.items ≡ opened_by wanted.changes.routes.items (map terms_of wanted.config.entries.items)) }
         ensures opening { IfOk result (λ p. AreOpening (opened_by wanted.changes.routes.items (map terms_of wanted.config.entries.items))
             p.0.room.opening.items) }
+        ensures no_room { IfErr result (IsNoRoom (opened_by wanted.changes.routes.items (map terms_of wanted.config.entries.items))) }
         ensures routes { SameRoutes routes.old routes.new }
         ensures room { IfOk result (λ p. vec_len routes.new.routes + length p.0.room.opening.items ≤ vec_capacity routes.new.routes) }
     {

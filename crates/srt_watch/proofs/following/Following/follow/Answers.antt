@@ -93,7 +93,8 @@ returns-in-Err-clause-told g c =
       says_is = ap g.F.ConfigFile.says (c.holds.ensures.file.0 ∙ c.poll.ensures.file);
       polling_is = polled_so _ c.args.when.moment _ _ _ c.poll.ensures.polling (held_or _ _ _ _ c.holds.ensures.polling);
       kept_is = ap (option_map (λ v. v.items)) c.holds.ensures.file.1 ∙ found.kept_is;
-      told = NoMemory c.in-Some-Ok.found.wanted c.in-Err.no_room file (c.holds.ensures.in_force ∙ c.poll.ensures.in_force) refl c.of.ensures.routes
+      told = NoMemory c.in-Some-Ok.found.wanted c.in-Err.no_room file c.in-Err.ensures.no_room (c.holds.ensures.in_force ∙ c.poll.ensures.in_force) refl
+          c.of.ensures.routes
           (subst (λ l. Logged (g.W.Write.contents l.log.out.out) (g.W.Write.contents c.no_room.new.self.log.out.out) l.log.pace c.no_room.new.self.log.pace
           (Always c.args.when (no_room_said c.in-Err.no_room) ∷ [])) log c.no_room.ensures.logged)
           (c.no_room.ensures.counts ∙ ap (λ l. one_refused l.counts) log);
