@@ -19,3 +19,4 @@ pub mod LeftAlone
 pub mod OpenRoutes
 pub mod Looks
 pub mod WorkersJoined
+pub mod Recorded

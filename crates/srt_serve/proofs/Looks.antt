@@ -1,5 +1,5 @@
 -- A look at one cell after another, and the places of a change.
-use Rattle.std.proofs.Common.{◌≡◌, ◌∙◌, ◌⊎◌, inl, inr, ℕ, zero, suc, ◌+◌, ◌<◌, List, [], ◌∷◌, ◌++◌, length, map, get_or, slice_get, option_map}
+use Rattle.std.proofs.Common.{◌≡◌, ◌≢◌, ◌∙◌, ◌⊎◌, inl, inr, ℕ, zero, suc, ◌+◌, ◌<◌, List, [], ◌∷◌, ◌++◌, length, map, get_or, slice_get, option_map}
 use Rattle.std.proofs.Common.{Some, refl, sym, ap, subst, arith, drop, Bool, true, false, ◌&&◌}
 use Rattle.std.proofs.lemmas.Bool.{cases_lt, and_parts}
 use Rattle.std.proofs.lemmas.Option.{get_or_from_slice_get, slice_get-map}
@@ -142,36 +142,44 @@ rest_left [] ys i below h = absurd (omega (arith, below))
 rest_left (x ∷ xs) ys zero below h = subst (λ zs. 0 < length zs) h (omega arith)
 rest_left (x ∷ xs) ys (suc i) below h = rest_left xs ys i (omega (arith, below)) h
 
+only_quiet : (order : Order) (all ready : Bool) (A B : Type 0) → (all ≡ true → A) → (ready ≡ false → B) → is_check_quiet order all ready ≡ true
+    → (order ≢ GoOn) × A × B
+only_quiet GoOn all ready A B quiet none t = absurd cc
+only_quiet CloseAll true false A B quiet none t = ((λ same. cc), quiet refl, none refl)
+only_quiet CloseAll true true A B quiet none t = absurd cc
+only_quiet CloseAll false ready A B quiet none t = absurd cc
+only_quiet End true false A B quiet none t = ((λ same. cc), quiet refl, none refl)
+only_quiet End true true A B quiet none t = absurd cc
+only_quiet End false ready A B quiet none t = absurd cc
+
+only_busy : (order : Order) (all ready : Bool) (B C : Type 0) → (all ≡ false → B) → (ready ≡ true → C) → is_check_quiet order all ready ≡ false
+    → (order ≡ GoOn) ⊎ (B ⊎ C)
+only_busy GoOn all ready B C busy some f = inl refl
+only_busy CloseAll true false B C busy some f = absurd cc
+only_busy CloseAll true true B C busy some f = inr (inr (some refl))
+only_busy CloseAll false ready B C busy some f = inr (inl (busy refl))
+only_busy End true false B C busy some f = absurd cc
+only_busy End true true B C busy some f = inr (inr (some refl))
+only_busy End false ready B C busy some f = inr (inl (busy refl))
+
 -- what a check finds, by what it found of the routes and of the outboxes
 pub checked : {Cell : Type 0} (holds : Cell → Route → ℕ → Type 0) (shows_none : Cell → Type 0) (order : Order) (cells : List Cell) (check : Check)
-    (all ready : Bool) → check.is_quiet ≡ is_check_quiet order all ready → (all ≡ true → UpTo (IsQuietAt holds cells) (length cells))
-    → (all ≡ false → IsOneBusy holds shows_none cells) → (ready ≡ false → IsOk check.outboxes) → (ready ≡ true → IsErr check.outboxes)
-    → IsCheckOf holds shows_none order cells check
-checked holds shows_none GoOn cells check all ready is quiet busy none some = record {
-  quiet = λ t. (let bad : false ≡ true = sym is ∙ t in cc);
-  busy = λ f. inl refl;
+    (all ready : Bool) → check.seen.routes.all_quiet ≡ all → check.is_quiet ≡ is_check_quiet order all ready
+    → (all ≡ true → UpTo (IsQuietAt holds cells) (length cells)) → (all ≡ false → IsOneBusy holds shows_none cells)
+    → (ready ≡ false → IsOk check.seen.outboxes) → (ready ≡ true → IsErr check.seen.outboxes) → IsCheckOf holds shows_none order cells check
+checked holds shows_none order cells check all ready seen is quiet busy none some = record {
+  quiet = λ t. only_quiet order all ready _ _ quiet none (sym is ∙ t);
+  busy = λ f. only_busy order all ready _ _ busy some (sym is ∙ f);
+  seen_quiet = λ t. quiet (sym seen ∙ t);
+  seen_busy = λ f. inr (busy (sym seen ∙ f));
 }
-checked holds shows_none CloseAll cells check true false is quiet busy none some = record {
-  quiet = λ t. ((λ same. cc), quiet refl, none refl);
-  busy = λ f. (let bad : true ≡ false = sym is ∙ f in cc);
-}
-checked holds shows_none CloseAll cells check true true is quiet busy none some = record {
-  quiet = λ t. (let bad : false ≡ true = sym is ∙ t in cc);
-  busy = λ f. inr (inr (some refl));
-}
-checked holds shows_none CloseAll cells check false ready is quiet busy none some = record {
-  quiet = λ t. (let bad : false ≡ true = sym is ∙ t in cc);
-  busy = λ f. inr (inl (busy refl));
-}
-checked holds shows_none End cells check true false is quiet busy none some = record {
-  quiet = λ t. ((λ same. cc), quiet refl, none refl);
-  busy = λ f. (let bad : true ≡ false = sym is ∙ f in cc);
-}
-checked holds shows_none End cells check true true is quiet busy none some = record {
-  quiet = λ t. (let bad : false ≡ true = sym is ∙ t in cc);
-  busy = λ f. inr (inr (some refl));
-}
-checked holds shows_none End cells check false ready is quiet busy none some = record {
-  quiet = λ t. (let bad : false ≡ true = sym is ∙ t in cc);
-  busy = λ f. inr (inl (busy refl));
+
+-- a check of a turn in which the routes weren't looked at
+pub unchecked : {Cell : Type 0} (holds : Cell → Route → ℕ → Type 0) (shows_none : Cell → Type 0) (order : Order) (cells : List Cell) (check : Check)
+    → order ≡ GoOn → check.is_quiet ≡ false → check.seen.routes.all_quiet ≡ false → IsCheckOf holds shows_none order cells check
+unchecked holds shows_none order cells check goes is seen = record {
+  quiet = λ t. absurd (let bad : false ≡ true = sym is ∙ t in cc);
+  busy = λ f. inl goes;
+  seen_quiet = λ t. absurd (let bad : false ≡ true = sym seen ∙ t in cc);
+  seen_busy = λ f. inl goes;
 }

@@ -19,4 +19,6 @@ pub mod Ended
 pub mod Did
 pub mod Found
 pub mod Pausing
+pub mod Reaching
+pub mod Reporting
 pub mod TickTurn

@@ -1,6 +1,6 @@
 //! Places for the routes of a run, and how the polling thread and the ticking one reach the routes in them.
 
-ghost use Rattle.std.specs.Prelude.{◌≡◌, ◌<◌, ◌≤◌, [], IfOk, IfErr, length, map};
+ghost use Rattle.std.specs.Prelude.{◌≡◌, ◌<◌, ◌≤◌, [], ◌∷◌, ◌++◌, IfOk, IfErr, length, map};
 ghost use Rattle.std.specs.Vec.{vec_capacity};
 ghost use Rattle.srt_types.specs.Terms.{terms_of};
 ghost use Rattle.srt_lobby.specs.Names.{as_hidden, name_of, new_name};
@@ -18,6 +18,7 @@ use crate::evidence::{
     write_word,
 };
 use crate::hosting::SeatsHosted;
+use crate::route_sets::RouteSet;
 use crate::ticking::TickEnds;
 use srt_lobby::NewName;
 use srt_mailbox::{
@@ -58,6 +59,21 @@ pub fn open_places<A: Answers + Beginning>(
     Ok(opened)
 }
 
+/// Evidence that a route got no seat: out of memory, or its entry or its index is out of its limits.
+#[derive(Drop)]
+pub struct NotSeated {
+    /// The route's index.
+    pub index: usize,
+    refused: (),
+}
+
+// The route with this index got no seat.
+fn not_seated(index: usize) -> NotSeated
+    ensures { result.index ≡ index }
+{
+    NotSeated { index, refused: () }
+}
+
 /// Opens the route of this entry, with a seat. Allocates all memory that it will ever need. An error means out of memory,
 /// or that the entry or the index is out of its limits. Nothing is kept then. Unless the run begins with the route, the
 /// watcher has requested to open it.
@@ -65,18 +81,32 @@ pub fn seat_route<A: Answers + Beginning>(
     alloc: Global,
     entry: &Entry,
     index: usize,
-) -> Result<Seat<NameAttachment<A>>, AllocError>
+) -> Result<Seat<NameAttachment<A>>, NotSeated>
     requires { IsAnswered A.answered A.first index (terms_of entry.now) }
-    ensures { IfOk result (λ s. ((identity_in s.cell).terms ≡ terms_of entry.now) × ((identity_in s.cell).index ≡ index)) }
+    ensures seated { IfOk result (λ s. ((identity_in s.cell).terms ≡ terms_of entry.now) × ((identity_in s.cell).index ≡ index)) }
+    ensures refused { IfErr result (λ n. n.index ≡ index) }
 {
-    let name = NewName::of(alloc, entry)?;
+    let Ok(name) = NewName::of(alloc, entry) else {
+        return Err(not_seated(index));
+    };
     let attachment = NameAttachment {
         name,
         of: PhantomData,
     };
     match open_seat(alloc, entry, index, attachment) {
         Ok(seat) => Ok(seat),
-        Err(_) => Err(AllocError),
+        Err(_) => Err(not_seated(index)),
+    }
+}
+
+/// Keeps the seat of the route with this index behind those of others. The error means out of memory.
+pub fn keep_seat<T: Drop>(seats: &mut Vec<T>, seat: T, index: usize) -> Result<(), NotSeated>
+    ensures kept { IfOk result (λ _. seats.new.items ≡ seats.old.items ++ seat ∷ []) }
+    ensures refused { IfErr result (λ n. n.index ≡ index) }
+{
+    match seats.push(seat) {
+        Ok(()) => Ok(()),
+        Err(_) => Err(not_seated(index)),
     }
 }
 
@@ -135,15 +165,25 @@ pub trait ChangeNotices: Answers {
 /// Whether there is a notice.
 pub struct Pending;
 
+/// The routes that were requested to close so far.
+pub struct Requested;
+
+/// Those of them that the polling thread hasn't taken.
+pub struct Closings;
+
+type RequestedSet = RouteSet<Requested, AtomicBitSet>;
+
+type ClosingSet = RouteSet<Closings, AtomicBitSet>;
+
 /// Notices of the watching thread to the polling one: that routes were added, and which are to close.
 #[derive(Drop)]
 pub struct RouteNotices<A: Answers> {
     // 0 unless there was a notice since the polling thread last checked
     is_pending: AtomicIn<AnyNumber<Pending>>,
     // the routes that were requested to close so far
-    requested: AtomicBitSet,
+    requested: RequestedSet,
     // those of them that the polling thread hasn't taken
-    closings: AtomicBitSet,
+    closings: ClosingSet,
     // of each route, 0, or one more than its index once it was requested to close
     words: Vec<AtomicIn<ClosesRoute<A>>>,
 }
@@ -152,9 +192,9 @@ pub struct RouteNotices<A: Answers> {
 #[derive(Drop)]
 pub enum CloseNotice<A: Answers> {
     /// Its word states it, and it is marked among those that are to close, by this call or before.
-    Left(MarkedAfter<AtomicIn<ClosesRoute<A>>>),
+    Left(MarkedAfter<AtomicIn<ClosesRoute<A>>, ClosingSet>),
     /// It was requested before.
-    Repeated(MarkedBefore),
+    Repeated(MarkedBefore<RequestedSet>),
     /// There is no such route.
     NoSuchRoute,
 }
@@ -163,7 +203,7 @@ pub enum CloseNotice<A: Answers> {
 #[derive(Drop)]
 pub enum NoneToClose {
     /// None was marked.
-    Unmarked(NoneMarked),
+    Unmarked(NoneMarked<ClosingSet>),
     /// The first one that was marked, at this index, has no word.
     Wordless(usize),
     /// Its word stated none.
@@ -193,8 +233,8 @@ impl<A: Answers> RouteNotices<A> {
     {
         Ok(RouteNotices {
             is_pending: AtomicIn::new(0),
-            requested: AtomicBitSet::open(alloc, routes)?,
-            closings: AtomicBitSet::open(alloc, routes)?,
+            requested: RouteSet::of(AtomicBitSet::open(alloc, routes)?),
+            closings: RouteSet::of(AtomicBitSet::open(alloc, routes)?),
             words: open_words(alloc, routes)?,
         })
     }

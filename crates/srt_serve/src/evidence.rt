@@ -7,6 +7,7 @@ ghost use Rattle.srt_mailbox.specs.Cells.{CellIdentity};
 ghost use Rattle.srt_mailbox.specs.Places.{arrived, places_of};
 ghost use Rattle.srt_mailbox.specs.Seats.{IsNewPoller};
 ghost use Rattle.srt_supervision.specs.Answers.{AllClose, Closes, RunEnds, IsOrdered};
+ghost use Rattle.srt_supervision.specs.Refusals.{with_told};
 ghost use Rattle.srt_serve.specs.inside.Orders.{order_in, IsRead};
 ghost use Rattle.srt_serve.specs.inside.Found.{WasSet, StatedNone};
 
@@ -15,7 +16,8 @@ use crate::turns::Turn;
 use srt_mailbox::{Attachment, NoneSeated, Place, PollerEnds, Seat, SeatReader};
 use srt_poller::Pumping;
 use srt_supervision::{Answers, Order, Refusal, Watch};
-use srt_wakeups::{RouteMarks, RunState, SharedMarks, SharedQueue, SharedWord};
+use srt_wakeups::{RouteMarks, RunState, SharedMarks, SharedQueue, SharedWord, Wakeups};
+use std::cell::Cell;
 use std::marker::PhantomData;
 use std::snapshot::Snapshot;
 use std::sync::Wait;
@@ -344,46 +346,56 @@ pub fn raise_flag<W: SharedWord>(flag: &W) -> FlagRaised
     FlagRaised(())
 }
 
-/// Evidence that a route was marked by this call.
+/// Evidence that a route was marked by this call, in a set of marks of this type.
 #[derive(Drop)]
-pub struct Marked {
+pub struct Marked<S> {
     /// The route.
     pub route: usize,
-    marked: (),
+    of: PhantomData<S>,
 }
 
 /// Evidence that a route had a mark, or is beyond the marks.
 #[derive(Drop)]
-pub struct MarkedBefore {
+pub struct MarkedBefore<S> {
     /// The route.
     pub route: usize,
-    found: (),
+    of: PhantomData<S>,
 }
 
 /// Marks a route. The error is evidence that it had the mark, or is beyond the marks.
-pub fn mark<S: SharedMarks>(marks: &S, route: usize) -> Result<Marked, MarkedBefore>
+pub fn mark<S: SharedMarks>(marks: &S, route: usize) -> Result<Marked<S>, MarkedBefore<S>>
     ensures marked { IfOk result (λ m. m.route ≡ route) }
     ensures before { IfErr result (λ m. m.route ≡ route) }
     ensures set { IfOk result (λ _. S.marked marks.now route) }
     ensures had { IfErr result (λ _. S.was_marked marks.now route) }
 {
     if marks.mark(route) {
-        Ok(Marked { route, marked: () })
+        Ok(Marked {
+            route,
+            of: PhantomData,
+        })
     } else {
-        Err(MarkedBefore { route, found: () })
+        Err(MarkedBefore {
+            route,
+            of: PhantomData,
+        })
     }
 }
 
 /// Evidence that no route was marked, of some first ones, at the look with this number.
 #[derive(Drop)]
-pub struct NoneMarked {
+pub struct NoneMarked<S> {
     /// The number of the look.
     pub look: u64,
-    found: (),
+    of: PhantomData<S>,
 }
 
 /// Clears the mark of the first route that has one, of this many. The error is evidence that none has at this look.
-pub fn take_mark<S: SharedMarks>(marks: &S, routes: usize, look: u64) -> Result<usize, NoneMarked>
+pub fn take_mark<S: SharedMarks>(
+    marks: &S,
+    routes: usize,
+    look: u64,
+) -> Result<usize, NoneMarked<S>>
     ensures some { IfOk result (λ route. route < routes) }
     ensures none { IfErr result (λ none. none.look ≡ look) }
     ensures cleared { IfOk result (λ route. S.cleared marks.now route) }
@@ -395,7 +407,10 @@ pub fn take_mark<S: SharedMarks>(marks: &S, routes: usize, look: u64) -> Result<
         marks.unmark(first);
         Ok(first)
     } else {
-        Err(NoneMarked { look, found: () })
+        Err(NoneMarked {
+            look,
+            of: PhantomData,
+        })
     }
 }
 
@@ -532,11 +547,11 @@ pub fn write_word<W: SharedWord>(word: &W, number: u64) -> WordWritten<W>
 
 /// A mark of a route that was set once the route's word was written.
 #[derive(Drop)]
-pub struct MarkedAfter<W> {
+pub struct MarkedAfter<W, S> {
     /// The word.
     pub word: WordWritten<W>,
     /// Evidence that the mark was set by this call, or had been.
-    pub marked: Result<Marked, MarkedBefore>,
+    pub marked: Result<Marked<S>, MarkedBefore<S>>,
     after: (),
 }
 
@@ -545,7 +560,7 @@ pub fn mark_after<W, S: SharedMarks>(
     marks: &S,
     route: usize,
     word: WordWritten<W>,
-) -> MarkedAfter<W>
+) -> MarkedAfter<W, S>
     ensures word { result.word ≡ word }
     ensures marked { IfOk result.marked (λ m. m.route ≡ route) }
     ensures before { IfErr result.marked (λ m. m.route ≡ route) }
@@ -636,9 +651,10 @@ pub struct TakenRefusal {
 }
 
 impl TakenRefusal {
-    /// Reports it to the watcher.
+    /// Reports it to the watcher, once.
     pub fn report<T: Watch>(self, watch: &mut T)
-        ensures { T.told self.refusal }
+        ensures told { T.told self.refusal }
+        ensures recorded { T.refusals watch.new ≡ with_told (T.refusals watch.old) self.refusal }
     {
         let TakenRefusal { refusal } = self;
         watch.refused(&refusal);
@@ -653,8 +669,25 @@ pub struct OutboxesRest(());
 #[derive(Drop)]
 pub struct OutboxHasHint(());
 
-/// As `Wakeups::any_outbox_ready`: the error is evidence that it returned true.
-pub fn look_at_outboxes<M: RunState>(wakeups: &M) -> Result<OutboxesRest, OutboxHasHint>
+/// What a look at the routes found.
+#[derive(Drop)]
+pub struct RoutesSeen {
+    /// All were quiet. False if none was looked at.
+    pub all_quiet: bool,
+}
+
+/// What a look at the routes found, and one at the outboxes after it.
+#[derive(Drop)]
+pub struct OutboxesSeen {
+    /// The routes.
+    pub routes: RoutesSeen,
+    /// Whether no outbox had the hint of a reply.
+    pub outboxes: Result<OutboxesRest, OutboxHasHint>,
+    after: (),
+}
+
+// As `Wakeups::any_outbox_ready`: the error is evidence that it returned true.
+fn check_outboxes<M: RunState>(wakeups: &M) -> Result<OutboxesRest, OutboxHasHint>
     ensures rest { IfOk result (λ _. M.outboxes_rest wakeups.now) }
     ensures hint { IfErr result (λ _. M.has_ready_outbox wakeups.now) }
 {
@@ -662,6 +695,19 @@ pub fn look_at_outboxes<M: RunState>(wakeups: &M) -> Result<OutboxesRest, Outbox
         Err(OutboxHasHint(()))
     } else {
         Ok(OutboxesRest(()))
+    }
+}
+
+/// Looks at the outboxes, once the routes were looked at: a reply that one of them has moved since is in an outbox then.
+pub fn look_at_outboxes<M: RunState>(wakeups: &M, routes: RoutesSeen) -> OutboxesSeen
+    ensures routes { result.routes ≡ routes }
+    ensures rest { IfOk result.outboxes (λ _. M.outboxes_rest wakeups.now) }
+    ensures hint { IfErr result.outboxes (λ _. M.has_ready_outbox wakeups.now) }
+{
+    OutboxesSeen {
+        routes,
+        outboxes: check_outboxes(wakeups),
+        after: (),
     }
 }
 
@@ -754,6 +800,97 @@ pub fn add_one<W: SharedWord>(word: &W) -> OneAdded<W>
 {
     word.add_one();
     OneAdded { of: PhantomData }
+}
+
+/// The place of the polling thread's gate. Code that takes it out is generic over this trait: what is known once it was put
+/// back it can show only by the call.
+pub trait GatePlace {
+    ghost use Rattle.std.specs.Prelude.{Option};
+
+    /// The gate.
+    type Gate: Drop;
+
+    /// What is known once this gate was put here.
+    ghost was_put: { Self → Self.Gate → Type 0 };
+
+    /// Takes the gate out. `None` if there is none.
+    fn take_out(&self) -> Option<Self::Gate>;
+
+    /// Puts a gate here.
+    fn put_in(&self, gate: Self::Gate)
+        ensures { was_put self.now gate };
+}
+
+impl<G: Drop> GatePlace for Cell<Option<G>> {
+    type Gate = G;
+
+    ghost was_put = { λ _ _. Unit {0} };
+
+    fn take_out(&self) -> Option<G> {
+        self.replace(None)
+    }
+
+    fn put_in(&self, gate: G) {
+        self.set(Some(gate));
+    }
+}
+
+/// A gate that was taken out of its place. It has no `Drop`: whoever took it out has to put it back.
+pub struct TakenGate<G> {
+    /// The gate.
+    pub gate: G,
+}
+
+/// Evidence that a gate was put back into its place.
+#[derive(Drop)]
+pub struct GateReturned(());
+
+/// Takes a gate out of its place. `None` if there is none.
+pub fn take_gate<P: GatePlace>(place: &P) -> Option<TakenGate<P::Gate>> {
+    match place.take_out() {
+        Some(gate) => Some(TakenGate { gate }),
+        None => None,
+    }
+}
+
+/// Puts a gate back into its place.
+pub fn return_gate<P: GatePlace>(place: &P, taken: TakenGate<P::Gate>) -> GateReturned
+    ensures { P.was_put place.now taken.gate }
+{
+    let TakenGate { gate } = taken;
+    place.put_in(gate);
+    GateReturned(())
+}
+
+/// The count of the threads that a run awaits. Code that opens it is generic over this trait: what is known once a call has
+/// returned it can show only by the call.
+pub trait AwaitsThreads {
+    /// What is known once the watching thread is awaited too.
+    ghost awaits_watcher: { Self → Type 0 };
+
+    /// As `Wakeups::await_watcher`.
+    fn await_one_more(&self)
+        ensures { awaits_watcher self.now };
+}
+
+impl AwaitsThreads for Wakeups {
+    ghost awaits_watcher = { λ _. Unit {0} };
+
+    fn await_one_more(&self) {
+        self.await_watcher();
+    }
+}
+
+/// Evidence that the watching thread is awaited too.
+#[derive(Drop)]
+pub struct WatcherAwaited(());
+
+/// As `Wakeups::await_watcher`.
+pub fn await_watcher<M: AwaitsThreads>(wakeups: &M) -> WatcherAwaited
+    ensures { M.awaits_watcher wakeups.now }
+{
+    wakeups.await_one_more();
+    WatcherAwaited(())
 }
 
 /// Evidence that a route was put into a place.

@@ -11,7 +11,8 @@ ghost use Rattle.srt_serve.specs.inside.Inline.{serves_itself, AreServed, IsServ
 ghost use Rattle.srt_serve.specs.inside.Outcomes.{IsInlineOutcome};
 
 use crate::evidence::{
-    HandedOver, NonePolled, PolledRoute, ReadTold, hand_over, take_polled, tell_read,
+    HandedOver, NonePolled, PolledRoute, ReadTold, hand_over, return_gate, take_gate, take_polled,
+    tell_read,
 };
 use crate::refusal_reports::{lobby_refusal, refusal_in, route_refusal};
 use crate::watcher_channel::PollerChannel;
@@ -197,23 +198,42 @@ impl<'a, R: Wait, C: Serve, G: Gate + Drop, H: PollerChannel> InlineServer<'a, R
         }
     }
 
-    // Serves the routes of this many datagrams, or leaves them to the workers.
+    // Leaves the routes of this many datagrams to the workers.
+    fn leave_to_workers(&self, datagrams: u32) -> InlineOutcome
+        ensures outcome { IsInlineOutcome datagrams result }
+        ensures left { H.Marks.handed self.now.marks.now × H.Marks.notified self.now.marks.now datagrams }
+    {
+        let handed = hand_over(self.marks);
+        InlineOutcome::Left(tell_read(self.marks, datagrams, handed))
+    }
+
+    // Serves the routes of this many datagrams through this gate if they are few, or leaves them to the workers.
+    fn serve_few(&self, gate: &mut G, datagrams: u32) -> InlineOutcome
+        ensures outcome { IsInlineOutcome datagrams result }
+        ensures served { IsServedInline (H.Marks.attended self.now.marks.now) (H.Marks.counted self.now.marks.now)
+            (H.Marks.handed self.now.marks.now) (H.Marks.notified self.now.marks.now) (length self.now.cells.now) datagrams }
+    {
+        if serves_itself(datagrams, self.marks.count_offered()) {
+            InlineOutcome::Served(self.serve(gate))
+        } else {
+            self.leave_to_workers(datagrams)
+        }
+    }
+
+    // Serves the routes of this many datagrams through the gate, if there is one and they are few, or leaves them to the workers.
     fn serve_or_leave(&self, datagrams: u32) -> InlineOutcome
         ensures outcome { IsInlineOutcome datagrams result }
         ensures served { IsServedInline (H.Marks.attended self.now.marks.now) (H.Marks.counted self.now.marks.now)
             (H.Marks.handed self.now.marks.now) (H.Marks.notified self.now.marks.now) (length self.now.cells.now) datagrams }
     {
-        match self.gate.replace(None) {
-            Some(mut gate) if serves_itself(datagrams, self.marks.count_offered()) => {
-                let end = self.serve(&mut gate);
-                self.gate.set(Some(gate));
-                InlineOutcome::Served(end)
+        match take_gate(&self.gate) {
+            Some(taken) => {
+                let mut taken = taken;
+                let outcome = self.serve_few(&mut taken.gate, datagrams);
+                let _ = return_gate(&self.gate, taken);
+                outcome
             }
-            gate => {
-                self.gate.set(gate);
-                let handed = hand_over(self.marks);
-                InlineOutcome::Left(tell_read(self.marks, datagrams, handed))
-            }
+            None => self.leave_to_workers(datagrams),
         }
     }
 }

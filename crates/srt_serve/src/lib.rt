@@ -16,7 +16,7 @@
 //! all routes, in places which their owners read by `arrivals.rt`; `serving.rt` starts and joins the threads, which are
 //! `ticking.rt`, `working.rt`, `watching.rt` and the poller (`srt_poller::pump_under`, or `pump_changing` in a run that is
 //! watched), with the routes that the polling thread serves itself in `inline_serving.rt`; `settling.rt` settles the
-//! routes. The polling thread and the watching one share `watcher_channel.rt`, with `refusal_reports.rt`. What a thread finds in
+//! routes. `turns.rt` has the turn that a thread makes again and again until the run is over. The polling thread and the watching one share `watcher_channel.rt`, with `refusal_queue.rt` and `refusal_reports.rt`. What a thread finds in
 //! a value that others change, and what it does to it, is in `evidence.rt`. How threads wake each
 //! other, how long they sleep and their names are in `srt_wakeups`; what a watcher gets and returns, in `srt_supervision`.
 //! `specs/Ran.antt` defines what a run did, and `laws.rt` what follows of two runs: no opening or closing of one route
@@ -34,6 +34,7 @@ pub mod laws;
 mod opening;
 mod refusal_queue;
 mod refusal_reports;
+mod route_sets;
 mod running;
 mod serving;
 mod settling;

@@ -112,7 +112,9 @@ pub fn open_routes<'a, A: Answers + Beginning>(
     let mut put = Vec::with_capacity(alloc, places.len())?;
     let mut index = 0;
     for entry in entries {
-        let seat = seat_route(alloc, entry, index)?;
+        let Ok(seat) = seat_route(alloc, entry, index) else {
+            return Err(AllocError);
+        };
         let token = take_first(&mut routes, &mut ends, places, seat)?;
         put.push(token)?;
         take_first_clock(&mut arrivals, &mut clocks)?;

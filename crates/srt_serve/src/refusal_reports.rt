@@ -15,10 +15,8 @@ use srt_lobby::{Names, refusal_cause};
 use srt_packet::{Kind, PacketRef, decode};
 use srt_supervision::Refusal;
 use srt_types::product_limits::MAX_NAME;
+use srt_types::protocol_limits::MAX_STREAM_ID;
 use srt_types::{Peer, read_word};
-
-// The most bytes of a Stream ID (draft, section 3.2.1.3).
-const MAX_STREAM_ID: usize = 512;
 
 /// The code of a refusal, from a handshake type: one from 1000 on. The draft's other types are 0, 1 and such as are
 /// negative, read as numbers with a sign (section 3.2.1).

@@ -20,6 +20,8 @@ ghost use Rattle.srt_wakeups.specs.Marks.{IsFor};
 ghost use Rattle.srt_serve.specs.inside.Did.{Did};
 ghost use Rattle.srt_serve.specs.inside.Looking.{AreReported};
 ghost use Rattle.srt_serve.specs.inside.Notices.{AreFor};
+ghost use Rattle.srt_serve.specs.inside.Reaching.{HasNotReached};
+ghost use Rattle.srt_serve.specs.inside.Reporting.{WereRecorded};
 ghost use Rattle.srt_serve.specs.inside.Polled.{AreReady};
 ghost use Rattle.srt_serve.specs.Opened.{AreOpened, terms_in, new_clocks};
 ghost use Rattle.srt_serve.specs.Settled.{AreLastShown};
@@ -28,7 +30,7 @@ ghost use Rattle.srt_serve.specs.Ran.{recorded_by, RanChanging, Ran as TheRan};
 
 use crate::answers::{AnswersOf, Beginning};
 use crate::arrivals::{ClockArrivals, NameAttachment, PollerArrivals, RouteNotices, open_places};
-use crate::evidence::NothingWaits;
+use crate::evidence::{NothingWaits, WatcherAwaited, await_watcher};
 use crate::opening::{Opened, open_routes};
 use crate::serving::{OtherThreads, PollerState, RunContext, ThreadsEnded, serve_routes};
 use crate::settling::{Busy, began_with, reached_all, settle_routes};
@@ -37,7 +39,7 @@ use crate::watcher_channel::WatcherChannel;
 use crate::watching::{Viewer, report_refusals};
 use srt_cookie::Secret;
 use srt_lobby::Names;
-use srt_mailbox::{Account, Attachment, ClockEnd, Gate, Place, Seat, SeatReader};
+use srt_mailbox::{Account, Attachment, ClockEnd, Gate, NoneSeated, Place, Seat, SeatReader};
 use srt_poller::{Ends, Openings, Source, Wire};
 use srt_supervision::{Answers, NoWatcher, Report, Watch};
 use srt_types::product_limits::MAX_ROUTES;
@@ -127,6 +129,14 @@ pub struct Crew<K: Drop, G: Drop, T: Drop> {
     pub watch: T,
 }
 
+// What wakes the threads of a run.
+#[derive(Drop)]
+struct OpenedWakeups {
+    wakeups: Wakeups,
+    // evidence that the watching thread is awaited; none if the run isn't watched
+    awaited: Option<WatcherAwaited>,
+}
+
 // What the threads of a run share. It is opened before any of them is started.
 #[derive(Drop)]
 struct Shared<A: Answers + Beginning>
@@ -135,7 +145,7 @@ where
 {
     places: Vec<Place<NameAttachment<A>>>,
     notices: RouteNotices<A>,
-    wakeups: Wakeups,
+    wakeups: OpenedWakeups,
     // none if the run isn't watched
     channel: Option<WatcherChannel<A>>,
 }
@@ -184,19 +194,29 @@ fn hide_later(names: &mut Names, schedules: &[Schedule])
     }
 }
 
+// Evidence that the watching thread is awaited, if the run is watched.
+fn await_watching(wakeups: &Wakeups, is_watched: bool) -> Option<WatcherAwaited>
+    ensures { IsSome result ↔ (is_watched ≡ true) }
+{
+    if is_watched {
+        Some(await_watcher(wakeups))
+    } else {
+        None
+    }
+}
+
 fn open_wakeups(
     alloc: Global,
     routes: usize,
     workers: usize,
     is_watched: bool,
-) -> Result<Wakeups, AllocError>
-    ensures { IfOk result (λ wakeups. IsFor routes workers wakeups) }
+) -> Result<OpenedWakeups, AllocError>
+    ensures wakeups { IfOk result (λ opened. IsFor routes workers opened.wakeups) }
+    ensures awaited { IfOk result (λ opened. IsSome opened.awaited ↔ (is_watched ≡ true)) }
 {
     let wakeups = Wakeups::open(alloc, routes, workers)?;
-    if is_watched {
-        wakeups.await_watcher();
-    }
-    Ok(wakeups)
+    let awaited = await_watching(&wakeups, is_watched);
+    Ok(OpenedWakeups { wakeups, awaited })
 }
 
 fn open_channel<A: Answers>(
@@ -224,7 +244,8 @@ fn open_shared<A: Answers + Beginning>(
     ensures places { IfOk result (λ s. is_watched ≡ true → length s.places.items ≡ 511) }
     ensures first { IfOk result (λ s. is_watched ≡ false → length s.places.items ≡ first) }
     ensures notices { IfOk result (λ s. AreFor (length s.places.items) s.notices) }
-    ensures wakeups { IfOk result (λ s. IsFor (length s.places.items) workers s.wakeups) }
+    ensures wakeups { IfOk result (λ s. IsFor (length s.places.items) workers s.wakeups.wakeups) }
+    ensures awaited { IfOk result (λ s. IsSome s.wakeups.awaited ↔ (is_watched ≡ true)) }
 {
     let routes = if is_watched { MAX_ROUTES } else { first };
     Ok(Shared {
@@ -277,6 +298,15 @@ fn take_late<A: Answers, O: Openings>(
     }
 }
 
+// Why the routes of a run can't be settled.
+#[derive(Drop)]
+enum NotReached {
+    // the polling thread's reader hasn't reached all with which the run began, or it has reached too many
+    Began(Busy),
+    // the ticking thread's hasn't reached all of these, with evidence that it found no further one; none if there was no room
+    Behind(Option<NoneSeated>),
+}
+
 // After all threads have ended: takes the clock's ends of the routes that were added since its last tick. Fails if the
 // polling thread's reader hasn't reached all routes with which the run began, or the ticking thread's all that the polling
 // thread's has, or if these are more than 511.
@@ -284,7 +314,7 @@ fn come_to_all<'a, K: Drop, A: Answers + Beginning>(
     put: &Vec<OnceToken<'a, Seat<NameAttachment<A>>>>,
     routes: &SeatReader<'a, NameAttachment<A>>,
     clocks: &mut Clocks<K, ClockEnd, ClockArrivals<'a, A>>,
-) -> Result<(), Busy>
+) -> Result<(), NotReached>
     requires put { map (λ t. t.of) put.now.items ≡ take (length put.now.items) (locks_of routes.now) }
     requires places { locks_of clocks.old.arrivals.reader ≡ locks_of routes.now }
     ensures began { OnOk result ((more : List CellIdentity) × (arrived routes.now ≡ map (λ t. identity_in t.value.cell) put.now.items ++ more)) }
@@ -295,22 +325,30 @@ fn come_to_all<'a, K: Drop, A: Answers + Beginning>(
     ensures all { OnOk result ((more : List CellIdentity) × (arrived clocks.new.arrivals.reader ≡ arrived routes.now ++ more)) }
     ensures busy { IfErr result (λ _. (length (arrived routes.now) < length put.now.items) ⊎ (511 < length (arrived routes.now))
         ⊎ (length (arrived clocks.new.arrivals.reader) < length (arrived routes.now))) }
+    ensures cause { IfErr result (HasNotReached (length put.now.items) (length (arrived routes.now))
+        (vec_capacity clocks.old.ends) (length clocks.new.ends.items)) }
     ensures ticker { clocks.new.ticker ≡ clocks.old.ticker }
 {
-    let Ok(()) = began_with(routes, put) else {
-        return Err(Busy);
-    };
-    let _ = take_new(&mut clocks.ends, &mut clocks.arrivals);
-    reached_all(routes, &clocks.arrivals.reader)
+    match began_with(routes, put) {
+        Ok(()) => {}
+        Err(busy) => return Err(NotReached::Began(busy)),
+    }
+    let none = take_new(&mut clocks.ends, &mut clocks.arrivals);
+    match reached_all(routes, &clocks.arrivals.reader) {
+        Ok(()) => Ok(()),
+        Err(_) => Err(NotReached::Behind(none)),
+    }
 }
 
-// Reports the refusals that still wait, if the run is watched. `None` if many did.
+// Reports the refusals that still wait, each once, if the run is watched. `None` if many did.
 fn report_last<R: Wait, A: Answers, T: Watch>(
     rt: &R,
     channel: Option<&WatcherChannel<A>>,
     watch: &mut T,
 ) -> Option<NothingWaits>
-    ensures { IsSome channel.entry → IfNone result (AreReported T.told 1024) }
+    ensures reported { IsSome channel.entry → IfNone result (AreReported T.told 1024) }
+    ensures recorded { IsSome channel.entry → WereRecorded (T.refusals watch.old) (T.refusals watch.new) result }
+    ensures kept { channel.entry ≡ None → watch.new ≡ watch.old }
 {
     match channel {
         Some(channel) => report_refusals(rt, channel, watch),
@@ -320,7 +358,9 @@ fn report_last<R: Wait, A: Answers, T: Watch>(
 
 // Why a run whose threads weren't all running has ended: what hindered its workers, or else another thread.
 fn start_fault(ended: &Option<ThreadsEnded>) -> RunFault
-    ensures { IfSome ended.now (λ e. IfErr e.crew.workers (λ unstarted. result ≡ unstarted.fault)) }
+    ensures workers { IfSome ended.now (λ e. IfErr e.crew.workers (λ unstarted. result ≡ unstarted.fault)) }
+    ensures others { IfSome ended.now (λ e. IfOk e.crew.workers (λ _. result ≡ RunFault.Thread)) }
+    ensures none { IfNone ended.now (result ≡ RunFault.Thread) }
 {
     let Some(threads) = ended else {
         return RunFault::Thread;
@@ -539,6 +579,7 @@ where
         wakeups,
         channel,
     } = shared;
+    let OpenedWakeups { wakeups, .. } = wakeups;
     let watcher = channel.as_ref();
     let context = RunContext {
         rt,

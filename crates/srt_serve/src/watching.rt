@@ -5,8 +5,9 @@ ghost use Rattle.std.specs.Prelude.{◌≡◌, ◌≢◌, ◌⊎◌, ◌≤◌, 
 ghost use Rattle.srt_types.specs.Terms.{terms_of};
 ghost use Rattle.srt_serve.specs.Opened.{terms_in};
 ghost use Rattle.srt_mailbox.specs.Identities.{identity_in};
-ghost use Rattle.srt_serve.specs.inside.Changing.{IsChangeFault, IsClosedAt, HasIndexAt, IsOpenedAt};
+ghost use Rattle.srt_serve.specs.inside.Changing.{IsChangeFault, IsClosedAt, HasIndexAt, IsOpenedAt, IsNotOpened};
 ghost use Rattle.srt_serve.specs.inside.Looking.{IsShown, IsShownAt, IsQuiet, IsQuietAt, IsBusy, IsOneBusy, IsCheckOf, AreReported};
+ghost use Rattle.srt_serve.specs.inside.Reporting.{WereRecorded};
 ghost use Rattle.srt_serve.specs.inside.Orders.{IsSet};
 ghost use Rattle.srt_serve.specs.inside.Quiet.{HasNoSession, HasSession, is_check_quiet};
 ghost use Rattle.srt_serve.specs.inside.UpTo.{UpTo};
@@ -17,11 +18,13 @@ ghost use Rattle.srt_supervision.specs.Answers.{Answer, AreClosings, AreOpenings
 ghost use Rattle.srt_supervision.specs.declared.order.Order.TheVariants.{GoOn};
 
 use crate::answers::Beginning;
-use crate::arrivals::{ChangeNotices, NameAttachment, RouteNotices, seat_route};
+use crate::arrivals::{
+    ChangeNotices, NameAttachment, NotSeated, RouteNotices, keep_seat, seat_route,
+};
 use crate::counters::{Count, MissedRefusals, SocketFaults};
 use crate::evidence::{
-    FlagSet, NothingWaits, OutboxHasHint, OutboxesRest, RouteHost, RunOver, come, look_at_outboxes,
-    run_over,
+    FlagSet, NothingWaits, OutboxHasHint, OutboxesRest, OutboxesSeen, RouteHost, RoutesSeen,
+    RunOver, come, look_at_outboxes, run_over,
 };
 use crate::hosting::SeatsHosted;
 use crate::known::Known;
@@ -59,30 +62,55 @@ pub struct Changer<'a, C, N, A> {
     pub of: PhantomData<A>,
 }
 
+// Why the routes of a change weren't opened.
+#[derive(Drop)]
+enum NotOpened {
+    // out of memory for the entry at this index, or it is out of its limits
+    OutOfMemory(usize, NotSeated),
+    // there are more entries than indexes left: this many are
+    NoIndexLeft(usize),
+}
+
+impl NotOpened {
+    ghost use Rattle.srt_serve.specs.inside.Changing.{fault_of};
+
+    // As the watcher gets it.
+    fn fault(&self) -> ChangeFault
+        ensures { result ≡ fault_of self.now }
+    {
+        match self {
+            NotOpened::OutOfMemory(at, _) => ChangeFault::OutOfMemory(*at),
+            NotOpened::NoIndexLeft(left) => ChangeFault::NoIndexLeft(*left),
+        }
+    }
+}
+
 impl<A: Answers + Beginning, C: RouteHost<Seat = Seat<NameAttachment<A>>>, N> Changer<'_, C, N, A> {
     // Opens all routes of a change, without a place.
-    fn open_all(&self, entries: &[Entry]) -> Result<Vec<Seat<NameAttachment<A>>>, ChangeFault>
+    fn open_all(&self, entries: &[Entry]) -> Result<Vec<Seat<NameAttachment<A>>>, NotOpened>
         requires { AreOpenings A.answered (map terms_of entries.now) }
         ensures terms { IfOk result (λ seats. terms_in (map (λ s. identity_in s.cell) seats.items) ≡ map terms_of entries.now) }
         ensures many { IfOk result (λ seats. length seats.items ≡ length entries.now) }
         ensures room { IfOk result (λ seats. length seats.items ≤ length self.now.places.now - self.now.routes) }
         ensures indexes { IfOk result (λ seats. UpTo (HasIndexAt (λ s. (identity_in s.cell).index) self.now.routes seats.items) (length seats.items)) }
-        ensures fault { IfErr result (λ fault. IsChangeFault (length self.now.places.now - self.now.routes) (length entries.now) fault) }
+        ensures fault { IfErr result (IsNotOpened self.now.routes (length self.now.places.now - self.now.routes) (length entries.now)) }
     {
         let left = self.places.len().saturating_sub(self.routes);
         if entries.len() > left {
-            return Err(ChangeFault::NoIndexLeft(left));
+            return Err(NotOpened::NoIndexLeft(left));
         }
         let mut seats = Vec::new(self.alloc);
         for entry in entries {
             let at = seats.len();
             let index = self.routes + at;
-            let Ok(seat) = seat_route(self.alloc, entry, index) else {
-                return Err(ChangeFault::OutOfMemory(at));
+            let seat = match seat_route(self.alloc, entry, index) {
+                Ok(seat) => seat,
+                Err(none) => return Err(NotOpened::OutOfMemory(at, none)),
             };
-            let Ok(()) = seats.push(seat) else {
-                return Err(ChangeFault::OutOfMemory(at));
-            };
+            match keep_seat(&mut seats, seat, index) {
+                Ok(()) => {}
+                Err(none) => return Err(NotOpened::OutOfMemory(at, none)),
+            }
         }
         Ok(seats)
     }
@@ -131,7 +159,10 @@ impl<
         ensures fault { IfErr result (λ fault. IsChangeFault (length self.old.places.now - self.old.routes) (length changes.opens.items) fault) }
         ensures same { IfErr result (λ _. self.new ≡ self.old) }
     {
-        let seats = self.open_all(&changes.opens)?;
+        let seats = match self.open_all(&changes.opens) {
+            Ok(seats) => seats,
+            Err(none) => return Err(none.fault()),
+        };
         let first = self.routes;
         let hosted = self.host_all(seats);
         leave_notices(self.notices, &changes.closes, &hosted);
@@ -259,8 +290,8 @@ fn has_hint(outboxes: &Result<OutboxesRest, OutboxHasHint>) -> bool
 pub struct Check {
     /// It counts as one that found all quiet.
     pub is_quiet: bool,
-    // what was found of the outboxes after the look at the routes
-    outboxes: Result<OutboxesRest, OutboxHasHint>,
+    // what was found of the routes, and of the outboxes after that
+    seen: OutboxesSeen,
 }
 
 /// Shows the routes to the watcher, if it wants them, and checks whether all are quiet, if the order is to close all or to end.
@@ -276,26 +307,28 @@ pub fn check_routes<R: Wait, C: Serve, T: Watch>(
     ensures check { IsCheckOf C.holds C.shows_none order cells.now result }
 {
     if !looks && matches!(order, Order::GoOn) {
+        let unseen = look_at_outboxes(wakeups, RoutesSeen { all_quiet: false });
         return Check {
             is_quiet: false,
-            outboxes: look_at_outboxes(wakeups),
+            seen: unseen,
         };
     }
     let all_quiet = show_all(rt, cells, &mut Viewer::new(watch, looks));
-    let outboxes = look_at_outboxes(wakeups);
+    let seen = look_at_outboxes(wakeups, RoutesSeen { all_quiet });
     Check {
-        is_quiet: is_check_quiet(order, all_quiet, has_hint(&outboxes)),
-        outboxes,
+        is_quiet: is_check_quiet(order, seen.routes.all_quiet, has_hint(&seen.outboxes)),
+        seen,
     }
 }
 
-/// Reports the refusals that wait to the watcher: until there is evidence that none waits, or 1024.
+/// Reports the refusals that wait to the watcher, each once: until there is evidence that none waits, or 1024.
 pub fn report_refusals<R: Wait, A: Answers, T: Watch>(
     rt: &R,
     channel: &WatcherChannel<A>,
     watch: &mut T,
 ) -> Option<NothingWaits>
-    ensures { IfNone result (AreReported T.told 1024) }
+    ensures reported { IfNone result (AreReported T.told 1024) }
+    ensures recorded { WereRecorded (T.refusals watch.old) (T.refusals watch.new) result }
 {
     for _ in 0..REFUSALS_PER_REST {
         match channel.refusals.take(rt) {

@@ -3,11 +3,23 @@ use Rattle.std.specs.Prelude.{◌≡◌, ◌⊎◌, ℕ, ◌+◌, ◌<◌, ◌�
 use Rattle.srt_types.specs.Terms.{Terms}
 use Rattle.srt_supervision.specs.declared.changes.ChangeFault.{ChangeFault}
 use Rattle.srt_supervision.specs.declared.changes.ChangeFault.TheVariants.{OutOfMemory, NoIndexLeft}
+use Rattle.srt_serve.specs.declared.watching.NotOpened.{NotOpened}
+use Rattle.srt_serve.specs.declared.watching.NotOpened.TheVariants as unopened
 
 -- why a change that opens this many routes was rejected while this many indexes were left
 abbrev pub IsChangeFault : (left opens : ℕ) → ChangeFault → Type 0
 IsChangeFault left opens (OutOfMemory at) = (opens ≤ left) × (at < opens)
 IsChangeFault left opens (NoIndexLeft n) = (left < opens) × (n ≡ left)
+
+-- as the watcher gets it
+abbrev pub fault_of : NotOpened → ChangeFault
+fault_of (unopened.OutOfMemory at none) = OutOfMemory at
+fault_of (unopened.NoIndexLeft left) = NoIndexLeft left
+
+-- why routes weren't opened, in the same case: it was the route whose index is the first one and as many more as its entry's
+abbrev pub IsNotOpened : (first left opens : ℕ) → NotOpened → Type 0
+IsNotOpened first left opens (unopened.OutOfMemory at none) = (opens ≤ left) × (at < opens) × (none.index ≡ first + at)
+IsNotOpened first left opens (unopened.NoIndexLeft n) = (left < opens) × (n ≡ left)
 
 -- the route at `i` of these was requested to close, or there was no such route before the change
 abbrev pub IsClosedAt : (requested : ℕ → Type 0) → (first : ℕ) → (closes : List ℕ) → (i : ℕ) → Type 0

@@ -38,10 +38,13 @@ module _ {Cell : Type 0} (holds : Cell → Route → (waiting : ℕ) → Type 0)
   IsOneBusy cells = (index : ℕ) × (cell : Cell) × (slice_get cells index ≡ Some cell) × IsBusy cell
 
   -- a check counts as quiet only while the order is to close all or to end, if all routes are quiet, with evidence that no outbox has the hint of a
-  -- reply; and otherwise it doesn't, if a route is busy, or with evidence that an outbox has one
+  -- reply; and otherwise it doesn't, if a route is busy, or with evidence that an outbox has one. What was found of the routes was known before the look
+  -- at the outboxes
   pub record IsCheckOf (order : Order) (cells : List Cell) (check : Check) : Type 0 where
-    pub quiet : check.is_quiet ≡ true → (order ≢ GoOn) × UpTo (IsQuietAt holds cells) (length cells) × IsOk check.outboxes
-    pub busy : check.is_quiet ≡ false → (order ≡ GoOn) ⊎ (IsOneBusy cells ⊎ IsErr check.outboxes)
+    pub quiet : check.is_quiet ≡ true → (order ≢ GoOn) × UpTo (IsQuietAt holds cells) (length cells) × IsOk check.seen.outboxes
+    pub busy : check.is_quiet ≡ false → (order ≡ GoOn) ⊎ (IsOneBusy cells ⊎ IsErr check.seen.outboxes)
+    pub seen_quiet : check.seen.routes.all_quiet ≡ true → UpTo (IsQuietAt holds cells) (length cells)
+    pub seen_busy : check.seen.routes.all_quiet ≡ false → (order ≡ GoOn) ⊎ IsOneBusy cells
 
 -- this many refusals were reported to the watcher: `told` is what is known of one then
 abbrev pub AreReported : (told : Refusal → Type 0) → (number : ℕ) → Type 0

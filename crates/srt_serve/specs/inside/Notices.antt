@@ -10,14 +10,14 @@ use Rattle.srt_serve.specs.declared.arrivals.NoneToClose.{NoneToClose}
 use Rattle.srt_serve.specs.declared.arrivals.NoneToClose.TheVariants.{Unmarked, Wordless, Unstated}
 
 -- the mark of this route was set, or had been
-abbrev pub IsMarked : (route : ℕ) → Result Marked MarkedBefore → Type 0
+abbrev pub IsMarked : {S : Type 0} → (route : ℕ) → Result (Marked S) (MarkedBefore S) → Type 0
 IsMarked route found = IfOk found (λ m. m.route ≡ route) × IfErr found (λ m. m.route ≡ route)
 
 module _ {A : Type 0} where
   -- they have two marks and a word for each of this many routes
   pub record AreFor (routes : ℕ) (notices : RouteNotices A) : Type 0 where
-    pub requested : routes_of notices.requested ≡ routes
-    pub closings : routes_of notices.closings ≡ routes
+    pub requested : routes_of notices.requested.marks ≡ routes
+    pub closings : routes_of notices.closings.marks ≡ routes
     pub words : length notices.words.items ≡ routes
 
   -- at this look none was to close among this many routes; one that has no word is beyond those that have one

@@ -7,7 +7,7 @@ ghost use Rattle.srt_lobby.specs.Opening.{fault_of};
 use crate::answers::{AnswersOf, Beginning};
 use crate::arrivals::PollerArrivals;
 use crate::opening::{Opened, open_routes};
-use crate::running::{Prepared, Shared, open_shared, prepare};
+use crate::running::{OpenedWakeups, Prepared, Shared, open_shared, prepare};
 use crate::serving::{OtherThreads, PollerState, RunContext, serve_routes};
 use crate::ticking::{Clocks, Ticker};
 use srt_cookie::Secret;
@@ -117,6 +117,7 @@ where
         wakeups,
         channel,
     } = shared;
+    let OpenedWakeups { wakeups, .. } = wakeups;
     let Ok(opened) = open_routes(alloc, entries, places.as_slice()) else {
         return Err(Fail::from("memory"));
     };

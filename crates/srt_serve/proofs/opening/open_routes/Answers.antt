@@ -14,7 +14,7 @@ loop-entry-preserved g c =
     record {
       terms =
           terms_grow c.args.entries.now c.loop-entry.entry-index c.entry-item.result _ _ _ c.loop-entry-test.true c.entry-item.is
-          c.in_ok-seat.ensures.0 taken.1 c.loop-entry.invariant.terms;
+          c.in-Ok.ensures.seated.0 taken.1 c.loop-entry.invariant.terms;
       opened =
           rw (taken.1, taken.2) (one_more (arrived c.loop-entry.routes) c.loop-entry.ends.items _ taken.0 taken.3 c.loop-entry.invariant.opened);
       clocks = clocks_grow _ _ _ _ clocked.0 clocked.1 clocked.2 c.loop-entry.invariant.clocks;

@@ -1,7 +1,8 @@
-use Rattle.std.proofs.Common.{◌∙◌, Bool, length, subst}
+use Rattle.std.proofs.Common.{◌∙◌, Bool, length, subst, ap}
 use Rattle.srt_serve.specs.inside.Looking.{IsShownAt}
+use Rattle.srt_serve.specs.inside.Quiet.{is_check_quiet}
 use Rattle.srt_serve.specs.inside.UpTo.{UpTo}
-use Rattle.srt_serve.proofs.Looks.{checked}
+use Rattle.srt_serve.proofs.Looks.{checked, unchecked}
 use Rattle.srt_serve.proofs.watching.check_routes.Goals as goal
 
 pub returns-clause-shown : goal.returns-clause-shown
@@ -11,5 +12,7 @@ returns-clause-shown g c looks =
 
 pub returns-clause-check : goal.returns-clause-check
 returns-clause-check g c =
-    checked g.C.Serve.holds g.C.Serve.shows_none c.args.order c.args.cells.now _ c.show_all-all_quiet.result c.has_hint.result c.is_check_quiet.ensures
+    let seen = ap (λ r. r.all_quiet) c.look_at_outboxes-seen.ensures.routes in
+    checked g.C.Serve.holds g.C.Serve.shows_none c.args.order c.args.cells.now _ c.show_all-all_quiet.result c.has_hint.result seen
+    (c.is_check_quiet.ensures ∙ ap (λ b. is_check_quiet c.args.order b c.has_hint.result) seen)
     c.show_all-all_quiet.ensures.quiet c.show_all-all_quiet.ensures.busy c.has_hint.ensures.none c.has_hint.ensures.some

@@ -18,5 +18,5 @@ leave_notices-requires g c =
 
 pub returns-clause-opened : goal.returns-clause-opened
 returns-clause-opened g c =
-    opened_all g.C.RouteHost.hosts g.C.RouteHost.has_route (λ s. identity_in s.cell) _ _ c.in_ok-seats.seats.items terms_of _ _ c.deref.ensures.value
-    c.in_ok-seats.ensures.terms c.in_ok-seats.ensures.many c.in_ok-seats.ensures.indexes c.host_all-hosted.ensures.hosted
+    opened_all g.C.RouteHost.hosts g.C.RouteHost.has_route (λ s. identity_in s.cell) _ _ c.in-Ok.seats.items terms_of _ _ c.deref.ensures.value
+    c.in-Ok.ensures.terms c.in-Ok.ensures.many c.in-Ok.ensures.indexes c.host_all-hosted.ensures.hosted
