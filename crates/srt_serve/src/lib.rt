@@ -16,9 +16,10 @@
 //! all routes, in places which their owners read by `arrivals.rt`; `serving.rt` starts and joins the threads, which are
 //! `ticking.rt`, `working.rt`, `watching.rt` and the poller (`srt_poller::pump_under`, or `pump_changing` in a run that is
 //! watched), with the routes that the polling thread serves itself in `inline_serving.rt`; `settling.rt` settles the
-//! routes. `turns.rt` has the turn that a thread makes again and again until the run is over. The polling thread and the watching one share `watcher_channel.rt`, with `refusal_queue.rt` and `refusal_reports.rt`. What a thread finds in
-//! a value that others change, and what it does to it, is in `evidence.rt`. How threads wake each
-//! other, how long they sleep and their names are in `srt_wakeups`; what a watcher gets and returns, in `srt_supervision`.
+//! routes. `turns.rt` has the turn that a thread makes again and again until the run is over. The polling thread and the
+//! watching one share `watcher_channel.rt`, with `refusal_queue.rt` and `refusal_reports.rt`. What a thread finds in a value
+//! that others change, and what it does to it, is in `evidence.rt`. How threads wake each other, how long they sleep and
+//! their names are in `srt_wakeups`; what a watcher gets and returns, in `srt_supervision`.
 //! `specs/Ran.antt` defines what a run did, and `laws.rt` what follows of two runs: no opening or closing of one route
 //! changes what is sorted to another one, or sent for it.
 #![tactic(auto)]
