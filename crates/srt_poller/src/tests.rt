@@ -19,7 +19,7 @@ mod telling;
 mod waits;
 
 use crate::tests::datagrams::{
-    CALLER, STUDIO, conclusion_of, induction_answer, induction_of, publisher_answer, refusal_of,
+    CALLER, STUDIO, conclusion_of, induction_answer, induction_of, publisher_answer, refusal,
     standby_answer, stray_shutdown,
 };
 use crate::{
@@ -148,27 +148,6 @@ fn open_routes(alloc: Global) -> Result<Routes, Fail> {
     scheduled(alloc, [ALWAYS; 2])
 }
 
-/// What is counted of this many datagrams: all are read, of which the lobby answers some and routes accept some; and this many
-/// are sent.
-fn counted(read: u64, answered: u64, accepted: u64, sent: u64) -> Report {
-    Report {
-        read,
-        answered,
-        accepted,
-        sent,
-        ..Report::NOTHING
-    }
-}
-
-/// What is counted of 18 conclusions, if 16 of them fill an inbox and another one comes before its route closes.
-const CLOSED_AFTER_17: Report = Report {
-    read: 18,
-    answered: 1,
-    accepted: 17,
-    sent: 19,
-    ..Report::NOTHING
-};
-
 /// The report of this many rounds over these devices.
 fn pumped<S: Source, W: Wire>(
     rt: &(impl AllocGlobal + Wait),
@@ -256,7 +235,7 @@ fn reply_to<'a>(caller: u32) -> Sample<'a> {
     match caller {
         1 => publisher_answer(1),
         2 => standby_answer(2),
-        _ => refusal_of(caller, 1002),
+        _ => refusal(caller, 1002),
     }
 }
 

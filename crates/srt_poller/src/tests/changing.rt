@@ -8,10 +8,7 @@ use super::datagrams::{
     CAMERA, STUDIO, conclusion_of, early_shutdown_of, hidden_refusal, publisher_answer,
     third_answer,
 };
-use super::{
-    ALWAYS, CLOSED_AFTER_17, ROUTES, Routes, SECRET, Serving, assert_handed, comes, counted, entry,
-    named, open_routes, opened,
-};
+use super::{ALWAYS, ROUTES, SECRET, Serving, assert_handed, comes, entry, named, opened};
 use crate::rounds::PollerRounds;
 use crate::tables::ChangingRoutes;
 use crate::{
@@ -20,7 +17,7 @@ use crate::{
 use srt_cookie::Secret;
 use srt_lobby::NewName;
 use srt_mailbox::{RouteCell, open_route};
-use srt_samples::{Block, Sample};
+use srt_samples::Block;
 use srt_types::Mode;
 use std::alloc::Global;
 use std::cell::Cell;
@@ -233,20 +230,6 @@ fn assert_changed(
     Ok(wire)
 }
 
-/// The same, and asserts what was sent.
-fn assert_changed_and_sent(
-    rt: &(impl AllocGlobal + Wait + Abort),
-    play: Play<'_>,
-    wanted: Report,
-    applied: u32,
-    sent: &[Sample<'_>],
-) -> Result<(), Fail>
-    requires { play.first + 6 < 2 ^ 64 }
-{
-    let wire = assert_changed(rt, play, wanted, applied)?;
-    assert_handed(rt, &wire, sent)
-}
-
 /// A conclusion for the route `camera` comes in each of the rounds 0 to 3; the route comes before round 2.
 const CAMERA_COMES: Play<'static> = Play {
     first: 0,
@@ -261,10 +244,24 @@ const CAMERA_COMES: Play<'static> = Play {
 
 #[test]
 fn a_route_that_comes_gets_its_datagrams_from_its_round_on(rt: HostRuntime) -> Result<(), Fail> {
-    let wanted = counted(4, 2, 2, 4);
-    let (hidden, third) = (hidden_refusal(1), third_answer(1));
-    let sent = [hidden, hidden, third, third];
-    assert_changed_and_sent(&rt, CAMERA_COMES, wanted, 2, &sent)
+    let wanted = Report {
+        read: 4,
+        answered: 2,
+        accepted: 2,
+        sent: 4,
+        ..Report::NOTHING
+    };
+    let wire = assert_changed(&rt, CAMERA_COMES, wanted, 2)?;
+    assert_handed(
+        &rt,
+        &wire,
+        &[
+            hidden_refusal(1),
+            hidden_refusal(1),
+            third_answer(1),
+            third_answer(1),
+        ],
+    )
 }
 
 /// Its Close is offered in round 4, counted from the first one, and applied at the wait of that round. The third round has the
@@ -277,10 +274,27 @@ fn a_route_comes_and_goes_in_late_rounds(rt: HostRuntime) -> Result<(), Fail> {
         conclusions: &[1; 6],
         ..CAMERA_COMES
     };
-    let wanted = counted(6, 4, 2, 7);
-    let (hidden, third, end) = (hidden_refusal(1), third_answer(1), early_shutdown_of(1));
-    let sent = [hidden, hidden, third, hidden, third, end, hidden];
-    assert_changed_and_sent(&rt, play, wanted, 3, &sent)
+    let wanted = Report {
+        read: 6,
+        answered: 4,
+        accepted: 2,
+        sent: 7,
+        ..Report::NOTHING
+    };
+    let wire = assert_changed(&rt, play, wanted, 3)?;
+    assert_handed(
+        &rt,
+        &wire,
+        &[
+            hidden_refusal(1),
+            hidden_refusal(1),
+            third_answer(1),
+            hidden_refusal(1),
+            third_answer(1),
+            early_shutdown_of(1),
+            hidden_refusal(1),
+        ],
+    )
 }
 
 /// The first route is asked to close before round 1, but 16 conclusions fill its inbox, which is first served at the wait
@@ -293,7 +307,14 @@ fn a_route_that_is_asked_to_close_is_offered_it_again(rt: HostRuntime) -> Result
         blocks: &STUDIO,
         ..CAMERA_COMES
     };
-    let _ = assert_changed(&rt, play, CLOSED_AFTER_17, 18)?;
+    let wanted = Report {
+        read: 18,
+        answered: 1,
+        accepted: 17,
+        sent: 19,
+        ..Report::NOTHING
+    };
+    let _ = assert_changed(&rt, play, wanted, 18)?;
     Ok(())
 }
 
@@ -312,15 +333,26 @@ const USED_AGAIN: Play<'static> = Play {
 
 #[test]
 fn a_name_is_used_again_once_its_route_has_closed(rt: HostRuntime) -> Result<(), Fail> {
-    let wanted = counted(6, 1, 5, 6);
-    let (hidden, third, first, end) = (
-        hidden_refusal(1),
-        third_answer(1),
-        publisher_answer(1),
-        early_shutdown_of(1),
-    );
-    let sent = [first, hidden, first, end, third, third];
-    assert_changed_and_sent(&rt, USED_AGAIN, wanted, 5, &sent)
+    let wanted = Report {
+        read: 6,
+        answered: 1,
+        accepted: 5,
+        sent: 6,
+        ..Report::NOTHING
+    };
+    let wire = assert_changed(&rt, USED_AGAIN, wanted, 5)?;
+    assert_handed(
+        &rt,
+        &wire,
+        &[
+            publisher_answer(1),
+            hidden_refusal(1),
+            publisher_answer(1),
+            early_shutdown_of(1),
+            third_answer(1),
+            third_answer(1),
+        ],
+    )
 }
 
 /// A fourth route of the same name comes before round 3, in which the third one opens. That one is asked to close before round 4,
@@ -332,15 +364,27 @@ fn a_name_is_used_again_twice(rt: HostRuntime) -> Result<(), Fail> {
         closings: &[(2, 0), (4, 2)],
         ..USED_AGAIN
     };
-    let wanted = counted(6, 2, 4, 7);
-    let (hidden, third, first, end) = (
-        hidden_refusal(1),
-        third_answer(1),
-        publisher_answer(1),
-        early_shutdown_of(1),
-    );
-    let sent = [first, hidden, first, end, hidden, third, end];
-    assert_changed_and_sent(&rt, play, wanted, 5, &sent)
+    let wanted = Report {
+        read: 6,
+        answered: 2,
+        accepted: 4,
+        sent: 7,
+        ..Report::NOTHING
+    };
+    let wire = assert_changed(&rt, play, wanted, 5)?;
+    assert_handed(
+        &rt,
+        &wire,
+        &[
+            publisher_answer(1),
+            hidden_refusal(1),
+            publisher_answer(1),
+            early_shutdown_of(1),
+            hidden_refusal(1),
+            third_answer(1),
+            early_shutdown_of(1),
+        ],
+    )
 }
 
 /// The third route is asked to close in the round in which the first one closes, before it has opened: it never does.
@@ -350,10 +394,27 @@ fn a_route_that_is_asked_to_close_before_it_opens_never_does(rt: HostRuntime) ->
         closings: &[(2, 2), (2, 0)],
         ..USED_AGAIN
     };
-    let wanted = counted(6, 4, 2, 7);
-    let (hidden, first, end) = (hidden_refusal(1), publisher_answer(1), early_shutdown_of(1));
-    let sent = [first, hidden, first, end, hidden, hidden, hidden];
-    assert_changed_and_sent(&rt, play, wanted, 3, &sent)
+    let wanted = Report {
+        read: 6,
+        answered: 4,
+        accepted: 2,
+        sent: 7,
+        ..Report::NOTHING
+    };
+    let wire = assert_changed(&rt, play, wanted, 3)?;
+    assert_handed(
+        &rt,
+        &wire,
+        &[
+            publisher_answer(1),
+            hidden_refusal(1),
+            publisher_answer(1),
+            early_shutdown_of(1),
+            hidden_refusal(1),
+            hidden_refusal(1),
+            hidden_refusal(1),
+        ],
+    )
 }
 
 /// All are closed in the rounds 1 and 2. The route that comes before round 1 opens in round 3. Both others are closed.
@@ -365,10 +426,25 @@ fn a_round_that_closes_all_opens_no_route_that_comes(rt: HostRuntime) -> Result<
         requested: &[ON, CLOSE, CLOSE],
         ..CAMERA_COMES
     };
-    let wanted = counted(6, 3, 3, 5);
-    let (hidden, third) = (hidden_refusal(1), third_answer(1));
-    let sent = [hidden, hidden, hidden, third, third];
-    assert_changed_and_sent(&rt, play, wanted, 4, &sent)
+    let wanted = Report {
+        read: 6,
+        answered: 3,
+        accepted: 3,
+        sent: 5,
+        ..Report::NOTHING
+    };
+    let wire = assert_changed(&rt, play, wanted, 4)?;
+    assert_handed(
+        &rt,
+        &wire,
+        &[
+            hidden_refusal(1),
+            hidden_refusal(1),
+            hidden_refusal(1),
+            third_answer(1),
+            third_answer(1),
+        ],
+    )
 }
 
 /// Nothing comes, and a conclusion for the first route in each of three rounds is answered as in a run without changes.
@@ -377,9 +453,10 @@ fn a_run_without_changes_is_as_before(rt: HostRuntime) -> Result<(), Fail> {
     let alloc = rt.alloc();
     let entries = [entry(alloc, &ROUTES[0])?, entry(alloc, &ROUTES[1])?];
     let mut names = named(alloc, &entries, ALWAYS)?;
-    let Routes { ends, cells, .. } = open_routes(alloc)?;
-    let [studio, files] = ends;
+    let (studio, studio_cell) = opened(alloc, 0, 16)?;
+    let (files, files_cell) = opened(alloc, 1, 16)?;
     let mut ends = with_room(alloc, studio, files)?;
+    let cells = [studio_cell, files_cell];
     let play = Play {
         conclusions: &[1, 1, 1],
         blocks: &STUDIO,
@@ -406,6 +483,14 @@ fn a_run_without_changes_is_as_before(rt: HostRuntime) -> Result<(), Fail> {
         &mut Unchanged,
     );
     assert_eq!(&rt; pumping.rounds, 6);
-    assert_eq!(&rt; pumping.report, counted(3, 0, 3, 3));
+    assert_eq!(&rt;
+        pumping.report,
+        Report {
+            read: 3,
+            accepted: 3,
+            sent: 3,
+            ..Report::NOTHING
+        }
+    );
     assert_handed(&rt, &wire, &[publisher_answer(1); 3])
 }

@@ -2,8 +2,7 @@
 //! words were worked out from the draft by hand.
 
 use srt_samples::{
-    Block, Caller, HSREQ, HSREQ_WITH_STREAM, HSRSP, Handshake, Offer, Phase, Sample, conclusion,
-    conclusion_answer, data_packet, handshake_packet, induction, refusal, shutdown,
+    Block, Handshake, Offer, Phase, Sample, data_packet, handshake_packet, shutdown,
 };
 
 /// The socket ID in an INDUCTION.
@@ -23,6 +22,21 @@ const THIRD_SESSION: u32 = 0x30_0000;
 /// The cookie of port 5000 in the first minute.
 const COOKIE: u32 = 0xecc9_58a6;
 
+const HSREQ: Block<'static> = Block::Request(Offer {
+    version: 0x1_0500,
+    flags: 0xbf,
+    receiver_ms: 120,
+    sender_ms: 120,
+});
+
+/// With the flag STREAM.
+const HSREQ_WITH_STREAM: Block<'static> = Block::Request(Offer {
+    version: 0x1_0500,
+    flags: 0xff,
+    receiver_ms: 120,
+    sender_ms: 120,
+});
+
 /// The blocks of a publisher on the first route, on the second, and on the second with the flag STREAM.
 pub const STUDIO: [Block<'static>; 2] = [HSREQ, Block::StreamId("#!::r=studio,m=publish")];
 
@@ -37,7 +51,12 @@ const FILES_WITH_STREAM: [Block<'static>; 2] = [
 ];
 
 /// The block of an answer in live mode, and in buffer mode.
-const LIVE_RESPONSE: [Block<'static>; 1] = [HSRSP];
+const LIVE_RESPONSE: [Block<'static>; 1] = [Block::Response(Offer {
+    version: 0x1_0500,
+    flags: 0x3f,
+    receiver_ms: 120,
+    sender_ms: 120,
+})];
 
 const BUFFER_RESPONSE: [Block<'static>; 1] = [Block::Response(Offer {
     version: 0x1_0500,
@@ -46,20 +65,22 @@ const BUFFER_RESPONSE: [Block<'static>; 1] = [Block::Response(Offer {
     sender_ms: 0,
 })];
 
-/// The caller with this ID, at port 5000.
-fn caller_of(id: u32) -> Caller {
-    Caller {
-        id,
-        initial: 5,
-        mtu: 1500,
-        window: 8192,
-        cookie: COOKIE,
-    }
-}
-
 /// The INDUCTION of the caller with this ID.
 pub fn induction_of<'a>(caller: u32) -> Sample<'a> {
-    induction(caller_of(caller))
+    handshake_packet(
+        Handshake {
+            version: 4,
+            fields: 2,
+            initial: 5,
+            mtu: 1500,
+            window: 8192,
+            phase: Phase::Induction,
+            id: caller,
+            cookie: 0,
+            address: 0,
+        },
+        &[],
+    )
 }
 
 /// The answer to it in the first minute.
@@ -83,42 +104,88 @@ pub fn induction_answer<'a>(caller: u32) -> Sample<'a> {
 
 /// The CONCLUSION of the caller with this ID, with these blocks.
 pub fn conclusion_of<'a>(caller: u32, blocks: &'a [Block<'a>]) -> Sample<'a> {
-    conclusion(caller_of(caller), blocks)
+    handshake_packet(
+        Handshake {
+            version: 5,
+            fields: 5,
+            initial: 5,
+            mtu: 1500,
+            window: 8192,
+            phase: Phase::Conclusion,
+            id: caller,
+            cookie: COOKIE,
+            address: 0,
+        },
+        blocks,
+    )
 }
 
 /// An answer to a CONCLUSION of the caller with this ID: the window in packets, the session's ID, and the blocks.
-fn answer_to<'a>(caller: u32, window: u32, session: u32, blocks: &'a [Block<'a>]) -> Sample<'a> {
-    conclusion_answer(5, window, session, blocks).to(caller)
+fn conclusion_answer<'a>(
+    caller: u32,
+    window: u32,
+    session: u32,
+    blocks: &'a [Block<'a>],
+) -> Sample<'a> {
+    handshake_packet(
+        Handshake {
+            version: 5,
+            fields: 1,
+            initial: 5,
+            mtu: 1500,
+            window,
+            phase: Phase::Conclusion,
+            id: session,
+            cookie: 0,
+            address: 0,
+        },
+        blocks,
+    )
+    .to(caller)
 }
 
 /// The answer to the first publisher of the first route, also to the same CONCLUSION again.
 pub fn publisher_answer<'a>(caller: u32) -> Sample<'a> {
-    answer_to(caller, 1024, SESSION, &LIVE_RESPONSE)
+    conclusion_answer(caller, 1024, SESSION, &LIVE_RESPONSE)
 }
 
 /// The answer to the second publisher, which stands by in the second slot.
 pub fn standby_answer<'a>(caller: u32) -> Sample<'a> {
-    answer_to(caller, 1024, STANDBY, &LIVE_RESPONSE)
+    conclusion_answer(caller, 1024, STANDBY, &LIVE_RESPONSE)
 }
 
 /// The answer to the first publisher of the second route.
 pub fn files_answer<'a>(caller: u32) -> Sample<'a> {
-    answer_to(caller, 32, FILES_SESSION, &BUFFER_RESPONSE)
+    conclusion_answer(caller, 32, FILES_SESSION, &BUFFER_RESPONSE)
 }
 
 /// The answer to the first publisher of the third route, which is live, also to the same CONCLUSION again.
 pub fn third_answer<'a>(caller: u32) -> Sample<'a> {
-    answer_to(caller, 1024, THIRD_SESSION, &LIVE_RESPONSE)
+    conclusion_answer(caller, 1024, THIRD_SESSION, &LIVE_RESPONSE)
 }
 
 /// The refusal of a CONCLUSION of the caller with this ID, with this code.
-pub fn refusal_of<'a>(caller: u32, code: u32) -> Sample<'a> {
-    refusal(5, code).to(caller)
+pub fn refusal<'a>(caller: u32, code: u32) -> Sample<'a> {
+    handshake_packet(
+        Handshake {
+            version: 5,
+            fields: 0,
+            initial: 5,
+            mtu: 1500,
+            window: 8192,
+            phase: Phase::Refused(code),
+            id: 1,
+            cookie: 0,
+            address: 0,
+        },
+        &[],
+    )
+    .to(caller)
 }
 
 /// The refusal of a CONCLUSION while its route is hidden.
 pub fn hidden_refusal<'a>(caller: u32) -> Sample<'a> {
-    refusal_of(caller, 1002)
+    refusal(caller, 1002)
 }
 
 /// A SHUTDOWN to a socket ID that is no route's.

@@ -1,7 +1,7 @@
 //! The limits of a round, and datagrams of each length and of several peers. The expected outcomes were worked out from
 //! the rules by hand.
 
-use super::datagrams::{FILES, SESSION, STUDIO, refusal_of, stray_shutdown};
+use super::datagrams::{FILES, SESSION, STUDIO, refusal, stray_shutdown};
 use super::{
     ALWAYS, Routes, assert_bytes, comes, conclude, open_routes, peer, pumped, reply_to, reported,
     with_places,
@@ -55,7 +55,7 @@ fn assert_refused(
     from: usize,
 ) -> Result<(), Fail> {
     for (sent, caller) in wire.handed().iter().skip(from).zip([1u32, 2, 3]) {
-        assert_bytes(rt, &sent.bytes, refusal_of(caller, 1012))?;
+        assert_bytes(rt, &sent.bytes, refusal(caller, 1012))?;
     }
     Ok(())
 }

@@ -4,7 +4,7 @@ use super::datagrams::{
     STUDIO, conclusion_of, files_answer, files_conclusion, hidden_refusal, publisher_answer,
     publisher_data, shutdown_of, stray_shutdown,
 };
-use super::{ALWAYS, CLOSED_AFTER_17, Serving, assert_handed, peer, pumped, scheduled};
+use super::{ALWAYS, Serving, assert_handed, peer, pumped, scheduled};
 use crate::{Report, ScriptDatagram, SourceStep, WireScript};
 use srt_samples::Sample;
 use srt_types::Schedule;
@@ -88,16 +88,7 @@ pub const BOTH_CONCLUSIONS: [Coming; 7] = [
     Some((Datagram::FilesConclusion, 1_500_000)),
 ];
 
-/// What is counted if both routes close in round 2 and these come, and what is sent then.
-pub const BOTH_COUNTED: Report = Report {
-    read: 5,
-    answered: 2,
-    accepted: 2,
-    dropped: 1,
-    sent: 6,
-    ..Report::NOTHING
-};
-
+/// What is sent if both routes close in round 2 and these come.
 pub fn both_ended<'a>() -> [Sample<'a>; 6] {
     [
         publisher_answer(1),
@@ -209,8 +200,14 @@ fn a_route_whose_inbox_is_full_closes_a_round_later_and_once(rt: HostRuntime) ->
         open_round: 0,
         close_round: Some(1),
     };
-    let play = with_first(schedule, &MANY_CONCLUSIONS);
-    let _ = assert_played(&rt, play, CLOSED_AFTER_17, 18)?;
+    let wanted = Report {
+        read: 18,
+        answered: 1,
+        accepted: 17,
+        sent: 19,
+        ..Report::NOTHING
+    };
+    let _ = assert_played(&rt, with_first(schedule, &MANY_CONCLUSIONS), wanted, 18)?;
     Ok(())
 }
 
@@ -244,7 +241,15 @@ fn two_routes_close_in_one_round(rt: HostRuntime) -> Result<(), Fail> {
         comings: &BOTH_CONCLUSIONS,
         idle: 0,
     };
-    let wire = assert_played(&rt, play, BOTH_COUNTED, 4)?;
+    let wanted = Report {
+        read: 5,
+        answered: 2,
+        accepted: 2,
+        dropped: 1,
+        sent: 6,
+        ..Report::NOTHING
+    };
+    let wire = assert_played(&rt, play, wanted, 4)?;
     assert_handed(&rt, &wire, &both_ended())
 }
 

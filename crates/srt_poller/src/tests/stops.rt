@@ -5,11 +5,9 @@ ghost use Rattle.std.specs.Prelude.{◌≤◌, ◌^◌};
 use super::asking::Asking;
 use super::datagrams::{STUDIO, conclusion_of, hidden_refusal};
 use super::rounds::{
-    BOTH_CONCLUSIONS, BOTH_COUNTED, Coming, FOUR_CONCLUSIONS, MANY_CONCLUSIONS, both_ended, script,
+    BOTH_CONCLUSIONS, Coming, FOUR_CONCLUSIONS, MANY_CONCLUSIONS, both_ended, script,
 };
-use super::{
-    ALWAYS, CLOSED_AFTER_17, Serving, assert_handed, comes, open_routes, pumped_under, scheduled,
-};
+use super::{ALWAYS, Serving, assert_handed, comes, open_routes, pumped_under, scheduled};
 use crate::{Order, Pumping, Report, SourceScript, SourceStep, WireScript};
 use srt_types::Schedule;
 use std::alloc::Global;
@@ -164,8 +162,16 @@ fn assert_requested(
 /// round, as if each had closed in it by its schedule. In the rounds 3 to 5 no route is shown, and none is offered Close.
 #[test]
 fn a_round_that_closes_all_closes_each_shown_route(rt: HostRuntime) -> Result<(), Fail> {
+    let wanted = Report {
+        read: 5,
+        answered: 2,
+        accepted: 2,
+        dropped: 1,
+        sent: 6,
+        ..Report::NOTHING
+    };
     let requested = [ON, ON, CLOSE, CLOSE, CLOSE, CLOSE];
-    let wire = assert_requested(&rt, ALWAYS, &BOTH_CONCLUSIONS, &requested, BOTH_COUNTED, 4)?;
+    let wire = assert_requested(&rt, ALWAYS, &BOTH_CONCLUSIONS, &requested, wanted, 4)?;
     assert_handed(&rt, &wire, &both_ended())
 }
 
@@ -174,9 +180,15 @@ fn a_round_that_closes_all_closes_each_shown_route(rt: HostRuntime) -> Result<()
 /// it. The second route is offered it once.
 #[test]
 fn a_route_whose_inbox_is_full_is_closed_in_the_next_round(rt: HostRuntime) -> Result<(), Fail> {
+    let wanted = Report {
+        read: 18,
+        answered: 1,
+        accepted: 17,
+        sent: 19,
+        ..Report::NOTHING
+    };
     let requested = [ON, CLOSE, CLOSE, CLOSE];
-    let coming = &MANY_CONCLUSIONS;
-    let _ = assert_requested(&rt, ALWAYS, coming, &requested, CLOSED_AFTER_17, 19)?;
+    let _ = assert_requested(&rt, ALWAYS, &MANY_CONCLUSIONS, &requested, wanted, 19)?;
     Ok(())
 }
 
