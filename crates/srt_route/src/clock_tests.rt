@@ -1,8 +1,8 @@
 //! A publisher's clock that is off, over a whole route: which ACKACKs move the correction, and when a payload is due
-//! after that. A data packet that arrives more than 10 ms after the last Full ACK has the next one sent at once.
+//! after that.
 
 use crate::ledger_tests::{SLOT_0, give, open, tell};
-use crate::rules_tests::{OF_LIBSRT, feed, ruled};
+use crate::rules_tests::{OF_LIBSRT, media, ruled};
 use crate::tests::{FIRST, PUBLISHES, PUBLISHES_FILES, REQUESTS, peer};
 use crate::{Route, Traffic};
 use srt_samples::{Block, ack_ack, conclusion};
@@ -17,6 +17,17 @@ fn correction(route: &Route) -> Result<Option<i64>, Fail> {
         Traffic::Received(x) => Ok(x.correction),
         Traffic::Sent(_) => Err(Fail::from("a publisher")),
     }
+}
+
+/// A data packet of the publisher in slot 0; more than 10 ms after the last Full ACK, the next one is sent at once.
+fn hear(
+    rt: &(impl AllocGlobal + Abort),
+    route: &mut Route,
+    moment: u64,
+    number: u32,
+    stamp: u32,
+) -> Result<(), Fail> {
+    tell(rt, route, moment, peer(5000), media(SLOT_0, number, stamp))
 }
 
 /// The ACKACK of a Full ACK with this timestamp, and the correction after it.
@@ -57,24 +68,24 @@ fn assert_queued(
 fn a_slow_clock_is_followed(rt: HostRuntime) -> Result<(), Fail> {
     let mut route = ruled(rt.alloc(), Mode::Live, 5, OF_LIBSRT)?;
     open(&rt, &mut route, 5000, &PUBLISHES)?;
-    feed(&rt, &mut route, 2_000_000, 5, 1_000_000)?;
+    hear(&rt, &mut route, 2_000_000, 5, 1_000_000)?;
     confirm(&rt, &mut route, 2_010_000, (1, 0xf_53d4), 0)?;
-    feed(&rt, &mut route, 2_500_000, 6, 1_500_000)?;
+    hear(&rt, &mut route, 2_500_000, 6, 1_500_000)?;
     confirm(&rt, &mut route, 2_508_000, (2, 0x16_f012), 0)?;
-    feed(&rt, &mut route, 2_980_000, 7, 1_980_000)?;
-    feed(&rt, &mut route, 3_000_999, 8, 2_000_999)?;
+    hear(&rt, &mut route, 2_980_000, 7, 1_980_000)?;
+    hear(&rt, &mut route, 3_000_999, 8, 2_000_999)?;
     confirm(&rt, &mut route, 3_009_999, (4, 2_004_599), 0)?;
     confirm(&rt, &mut route, 3_010_000, (3, 5), 0)?;
-    feed(&rt, &mut route, 3_100_000, 9, 2_100_000)?;
+    hear(&rt, &mut route, 3_100_000, 9, 2_100_000)?;
     confirm(&rt, &mut route, 3_110_000, (5, 2_103_750), 0)?;
-    feed(&rt, &mut route, 4_100_000, 10, 3_100_000)?;
+    hear(&rt, &mut route, 4_100_000, 10, 3_100_000)?;
     confirm(&rt, &mut route, 4_110_000, (6, 0x2f_5a44), 950)?;
     let wants = conclusion(FIRST, &REQUESTS);
     tell(&rt, &mut route, 4_150_000, peer(5001), wants)?;
-    feed(&rt, &mut route, 4_200_000, 11, 3_200_000)?;
+    hear(&rt, &mut route, 4_200_000, 11, 3_200_000)?;
     confirm(&rt, &mut route, 4_210_000, (7, 3_202_350), 950)?;
-    feed(&rt, &mut route, 4_300_000, 12, 5_000_000)?;
-    feed(&rt, &mut route, 5_200_999, 13, 4_200_999)?;
+    hear(&rt, &mut route, 4_300_000, 12, 5_000_000)?;
+    hear(&rt, &mut route, 5_200_999, 13, 4_200_999)?;
     confirm(&rt, &mut route, 5_210_999, (9, 4_185_049), 2_050)?;
     // Numbers 10 and 11 were queued; 12 is due now, and 13 waited for it.
     assert_queued(&rt, &mut route, 6_120_949, 2)?;
@@ -90,7 +101,7 @@ fn assert_unfollowed(
 ) -> Result<(), Fail> {
     let mut route = ruled(rt.alloc(), mode, 5, rules)?;
     open(rt, &mut route, 5000, publishes)?;
-    feed(rt, &mut route, 2_000_000, 5, 1_000_000)?;
+    hear(rt, &mut route, 2_000_000, 5, 1_000_000)?;
     let sample = ack_ack(1).stamp(0xf_53d4).to(SLOT_0);
     tell(rt, &mut route, 2_010_000, peer(5000), sample)?;
     assert_eq!(rt; correction(&route)?, None);

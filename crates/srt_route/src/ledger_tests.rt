@@ -1,8 +1,6 @@
 //! What a route reports of ended sessions: each cause, in slots that are used again and with a standby; and its counts.
 
-use crate::tests::{
-    FIRST, PUBLISHES, PUBLISHES_A_STREAM, REQUESTS, SECOND, datagram, peer, step, studio,
-};
+use crate::tests::{FIRST, PUBLISHES, PUBLISHES_A_STREAM, REQUESTS, SECOND, peer, studio};
 use crate::{EndCause, EndedSession, Reply, Route, SessionView, Traffic};
 use srt_hs::RefusalCode;
 use srt_samples::{Block, Caller, Sample, conclusion, data_packet, shutdown};
@@ -39,11 +37,24 @@ pub(crate) fn give(
     route: &mut Route,
     item: &Item,
 ) -> Result<(), Fail> {
-    let _ = step(route, item)?;
+    let moment = match item {
+        Item::Tick { moment } => *moment,
+        Item::Close { moment } => *moment,
+        Item::Datagram {
+            peer: _,
+            moment,
+            head: _,
+            body: _,
+        } => *moment,
+    };
+    if route.waits() || moment > 1_000_000_000 {
+        return Err(Fail::from("an early moment, and no reply that waits"));
+    }
+    let _ = route.step(item);
     drain(rt, route)
 }
 
-/// Offers a route this sample from a peer at this time, and drops its replies.
+/// Offers a route these bytes from a peer at this time.
 pub(crate) fn tell(
     rt: &(impl AllocGlobal + Abort),
     route: &mut Route,
@@ -52,18 +63,18 @@ pub(crate) fn tell(
     sample: Sample<'_>,
 ) -> Result<(), Fail> {
     let bytes = sample.bytes(rt.alloc())?;
-    give(rt, route, &datagram(rt.alloc(), from, moment, &bytes)?)
-}
-
-/// A SHUTDOWN arrives from this port, for the session with this socket ID.
-pub(crate) fn leave(
-    rt: &(impl AllocGlobal + Abort),
-    route: &mut Route,
-    moment: u64,
-    port: u16,
-    id: u32,
-) -> Result<(), Fail> {
-    tell(rt, route, moment, peer(port), shutdown().to(id))
+    if bytes.len() < 16 {
+        return Err(Fail::from("a header"));
+    }
+    let mut head = [0u8; 16];
+    head.copy_from_slice(&bytes[..16]);
+    let item = Item::Datagram {
+        peer: from,
+        moment,
+        head,
+        body: Vec::from_slice(rt.alloc(), &bytes[16..])?,
+    };
+    give(rt, route, &item)
 }
 
 /// Opens a session of caller 1 at this port, one second after the route's opening.
@@ -102,7 +113,13 @@ fn a_shutdown_of_a_publisher_is_reported(rt: HostRuntime) -> Result<(), Fail> {
     open(&rt, &mut route, 5000, &PUBLISHES)?;
     assert!(rt; route.ended(0).is_none());
     tell(&rt, &mut route, 1_100_000, peer(5000), media(5))?;
-    leave(&rt, &mut route, 1_200_000, 5000, SLOT_0)?;
+    tell(
+        &rt,
+        &mut route,
+        1_200_000,
+        peer(5000),
+        shutdown().to(SLOT_0),
+    )?;
     let end = route.ended(0);
     let view = assert_ended(&rt, end, 5000, 0x10_0000, EndCause::Shutdown, 1_200_000)?;
     assert!(rt; view.role == Role::Publish && view.is_active);
@@ -120,7 +137,13 @@ fn a_shutdown_of_a_subscriber_is_reported(rt: HostRuntime) -> Result<(), Fail> {
     let mut route = studio(rt.alloc())?;
     open(&rt, &mut route, 5000, &PUBLISHES)?;
     open(&rt, &mut route, 5001, &REQUESTS)?;
-    leave(&rt, &mut route, 1_300_000, 5001, SLOT_1)?;
+    tell(
+        &rt,
+        &mut route,
+        1_300_000,
+        peer(5001),
+        shutdown().to(SLOT_1),
+    )?;
     let end = route.ended(1);
     let view = assert_ended(&rt, end, 5001, 0x10_0001, EndCause::Shutdown, 1_300_000)?;
     assert!(rt; view.role == Role::Request && !view.is_active);
@@ -171,7 +194,13 @@ fn data_packets_that_come_to_a_subscriber_are_counted(rt: HostRuntime) -> Result
     open(&rt, &mut route, 5000, &REQUESTS)?;
     tell(&rt, &mut route, 1_100_000, peer(5000), media(5))?;
     tell(&rt, &mut route, 1_200_000, peer(5000), media(5))?;
-    leave(&rt, &mut route, 1_300_000, 5000, SLOT_0)?;
+    tell(
+        &rt,
+        &mut route,
+        1_300_000,
+        peer(5000),
+        shutdown().to(SLOT_0),
+    )?;
     let end = route.ended(0);
     let view = assert_ended(&rt, end, 5000, 0x10_0000, EndCause::Shutdown, 1_300_000)?;
     match view.traffic {
@@ -192,7 +221,13 @@ fn a_close_is_reported_of_each_session(rt: HostRuntime) -> Result<(), Fail> {
     open(&rt, &mut route, 5000, &PUBLISHES)?;
     open(&rt, &mut route, 5001, &PUBLISHES)?;
     open(&rt, &mut route, 5002, &REQUESTS)?;
-    leave(&rt, &mut route, 1_100_000, 5002, SLOT_2)?;
+    tell(
+        &rt,
+        &mut route,
+        1_100_000,
+        peer(5002),
+        shutdown().to(SLOT_2),
+    )?;
     give(&rt, &mut route, &Item::Close { moment: 2_000_000 })?;
     let end = route.ended(0);
     let active = assert_ended(&rt, end, 5000, 0x10_0000, EndCause::Closed, 2_000_000)?;
@@ -213,13 +248,25 @@ fn a_close_is_reported_of_each_session(rt: HostRuntime) -> Result<(), Fail> {
 fn a_slot_tells_the_last_session_that_ended_in_it(rt: HostRuntime) -> Result<(), Fail> {
     let mut route = studio(rt.alloc())?;
     open(&rt, &mut route, 5000, &REQUESTS)?;
-    leave(&rt, &mut route, 1_000_000, 5000, SLOT_0)?;
+    tell(
+        &rt,
+        &mut route,
+        1_000_000,
+        peer(5000),
+        shutdown().to(SLOT_0),
+    )?;
     open(&rt, &mut route, 5003, &PUBLISHES)?;
     assert_eq!(rt; route.opened(), 2);
     let end = route.ended(0);
     let first = assert_ended(&rt, end, 5000, 0x10_0000, EndCause::Shutdown, 1_000_000)?;
     assert!(rt; first.role == Role::Request);
-    leave(&rt, &mut route, 1_500_000, 5003, SLOT_0_AGAIN)?;
+    tell(
+        &rt,
+        &mut route,
+        1_500_000,
+        peer(5003),
+        shutdown().to(SLOT_0_AGAIN),
+    )?;
     let end = route.ended(0);
     let second = assert_ended(&rt, end, 5003, 0x10_0100, EndCause::Shutdown, 1_500_000)?;
     assert!(rt; second.role == Role::Publish);
@@ -231,11 +278,23 @@ fn the_end_of_a_publisher_that_a_standby_follows_is_reported(rt: HostRuntime) ->
     let mut route = studio(rt.alloc())?;
     open(&rt, &mut route, 5000, &PUBLISHES)?;
     open(&rt, &mut route, 5001, &PUBLISHES)?;
-    leave(&rt, &mut route, 1_200_000, 5000, SLOT_0)?;
+    tell(
+        &rt,
+        &mut route,
+        1_200_000,
+        peer(5000),
+        shutdown().to(SLOT_0),
+    )?;
     let end = route.ended(0);
     let first = assert_ended(&rt, end, 5000, 0x10_0000, EndCause::Shutdown, 1_200_000)?;
     assert!(rt; first.is_active);
-    leave(&rt, &mut route, 1_200_000, 5001, SLOT_1)?;
+    tell(
+        &rt,
+        &mut route,
+        1_200_000,
+        peer(5001),
+        shutdown().to(SLOT_1),
+    )?;
     let end = route.ended(1);
     let second = assert_ended(&rt, end, 5001, 0x10_0001, EndCause::Shutdown, 1_200_000)?;
     assert!(rt; second.is_active);
@@ -336,9 +395,21 @@ fn totals_stay_when_sessions_end(rt: HostRuntime) -> Result<(), Fail> {
     assert_totals(&rt, &route, [1, 0, 0, 0]);
     give(&rt, &mut route, &Item::Tick { moment: 1_200_000 })?;
     assert_totals(&rt, &route, [1, 1, 2, 2]);
-    leave(&rt, &mut route, 1_300_000, 5001, SLOT_1)?;
+    tell(
+        &rt,
+        &mut route,
+        1_300_000,
+        peer(5001),
+        shutdown().to(SLOT_1),
+    )?;
     assert_totals(&rt, &route, [1, 1, 2, 2]);
-    leave(&rt, &mut route, 1_300_000, 5000, SLOT_0)?;
+    tell(
+        &rt,
+        &mut route,
+        1_300_000,
+        peer(5000),
+        shutdown().to(SLOT_0),
+    )?;
     assert_totals(&rt, &route, [1, 1, 2, 2]);
     // Another publisher in the same slot and buffers.
     let conclusion = conclusion(FIRST, &PUBLISHES);

@@ -2,7 +2,7 @@
 //! and on a route whose callers follow the draft.
 
 use crate::ledger_tests::{SLOT_0, SLOT_1, drain, give, tell};
-use crate::rules_tests::{OF_LIBSRT, feed, ruled};
+use crate::rules_tests::{OF_LIBSRT, media, ruled};
 use crate::tests::{FIRST, PUBLISHES, PUBLISHES_FILES, REQUESTS, REQUESTS_FILES, peer};
 use crate::{Reply, Route, Traffic};
 use srt_samples::{
@@ -45,6 +45,17 @@ fn hear(
     tell(rt, route, moment, peer(5001), sample.to(SLOT_1))
 }
 
+/// A payload of the publisher in slot 0, which opened at 0.8 s: it is due 0.92 s after its timestamp.
+fn feed(
+    rt: &(impl AllocGlobal + Abort),
+    route: &mut Route,
+    moment: u64,
+    number: u32,
+    stamp: u32,
+) -> Result<(), Fail> {
+    tell(rt, route, moment, peer(5000), media(SLOT_0, number, stamp))
+}
+
 /// An ACK of everything before this number, with a round-trip time and its variance in microseconds.
 fn acknowledges<'a>(point: u32, rtt: u32, variance: u32) -> Sample<'a> {
     full_ack(
@@ -83,8 +94,7 @@ fn assert_tick(
     assert_sent(rt, route, sent)
 }
 
-/// A publisher in slot 0, opened at 0.8 s, whose payloads are due 0.92 s after their timestamps, and a subscriber with these
-/// blocks in slot 1, which acknowledged the number 100 with a
+/// A publisher in slot 0 and a subscriber with these blocks in slot 1, which acknowledged the number 100 with a
 /// round-trip time of 1 ms and a variance of 0.5 ms. So the timeout is 23 ms.
 fn subscribed(
     rt: &(impl AllocGlobal + Abort),

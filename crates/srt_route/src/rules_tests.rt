@@ -1,10 +1,8 @@
 //! What a route does beyond the draft if its entry states so: limits of the sessions of an address and of the slots for
 //! subscribers, a take-over by the standby, a limit on retransmissions, and packets to libsrt callers only.
 
-use crate::ledger_tests::{SLOT_0, SLOT_1, SLOT_2, give, leave, open, tell};
-use crate::tests::{
-    FIRST, PUBLISHES, PUBLISHES_FILES, REQUESTS, REQUESTS_FILES, datagram, entry, peer, step,
-};
+use crate::ledger_tests::{SLOT_0, SLOT_1, SLOT_2, give, open, tell};
+use crate::tests::{FIRST, PUBLISHES, PUBLISHES_FILES, REQUESTS, REQUESTS_FILES, entry, peer};
 use crate::{EndCause, RefusalCause, Reply, Route, Traffic};
 use srt_hs::RefusalCode;
 use srt_samples::{
@@ -72,7 +70,8 @@ fn an_address_has_no_more_sessions_than_it_may(rt: HostRuntime) -> Result<(), Fa
     tell(&rt, &mut route, 1_000_000, neighbour(5002), wants)?;
     assert_admitted(&rt, &route, 3, [0, 1, 0, 0]);
     // An ended session isn't counted.
-    leave(&rt, &mut route, 1_000_000, 5001, SLOT_1)?;
+    let end = shutdown().to(SLOT_1);
+    tell(&rt, &mut route, 1_000_000, peer(5001), end)?;
     open(&rt, &mut route, 5002, &PUBLISHES)?;
     assert_admitted(&rt, &route, 4, [0, 1, 0, 0]);
     // A third publisher is refused as one, though its address has all its sessions.
@@ -111,28 +110,6 @@ pub(crate) fn media<'a>(id: u32, number: u32, stamp: u32) -> Sample<'a> {
     data_packet(number).stamp(stamp).to(id).payload(b"hi")
 }
 
-/// A data packet arrives of the publisher in slot 0, at port 5000.
-pub(crate) fn feed(
-    rt: &(impl AllocGlobal + Abort),
-    route: &mut Route,
-    moment: u64,
-    number: u32,
-    stamp: u32,
-) -> Result<(), Fail> {
-    tell(rt, route, moment, peer(5000), media(SLOT_0, number, stamp))
-}
-
-/// A data packet with this number and this timestamp arrives of the publisher in slot 1, at port 5001.
-fn feed_standby(
-    rt: &(impl AllocGlobal + Abort),
-    route: &mut Route,
-    moment: u64,
-    sent: (u32, u32),
-) -> Result<(), Fail> {
-    let (number, stamp) = sent;
-    tell(rt, route, moment, peer(5001), media(SLOT_1, number, stamp))
-}
-
 /// Asserts which of the publishers in slots 0 and 1 are active after a tick at this time.
 fn assert_active(
     rt: &(impl AllocGlobal + Abort),
@@ -157,49 +134,79 @@ fn the_standby_takes_over_and_back(rt: HostRuntime) -> Result<(), Fail> {
     let mut route = ruled(rt.alloc(), Mode::Live, 5, TAKES_OVER)?;
     open(&rt, &mut route, 5000, &PUBLISHES)?;
     open(&rt, &mut route, 5001, &PUBLISHES)?;
-    feed_standby(&rt, &mut route, 1_050_000, (5, 50_000))?;
+    tell(
+        &rt,
+        &mut route,
+        1_050_000,
+        peer(5001),
+        media(SLOT_1, 5, 50_000),
+    )?;
     assert_active(&rt, &mut route, 1_099_999, (true, false))?;
     // Data of the active one arrives too late after exactly a tenth of a second.
-    feed(&rt, &mut route, 1_100_000, 5, 99_000)?;
+    tell(
+        &rt,
+        &mut route,
+        1_100_000,
+        peer(5000),
+        media(SLOT_0, 5, 99_000),
+    )?;
     assert_active(&rt, &mut route, 1_100_000, (false, true))?;
     assert_active(&rt, &mut route, 1_149_999, (false, true))?;
     assert_active(&rt, &mut route, 1_150_000, (true, false))?;
     // Both are silent: the active one stays active.
     assert_active(&rt, &mut route, 1_300_000, (true, false))?;
     // Data of the standby counts from the next event on.
-    feed_standby(&rt, &mut route, 1_310_000, (6, 310_000))?;
+    tell(
+        &rt,
+        &mut route,
+        1_310_000,
+        peer(5001),
+        media(SLOT_1, 6, 310_000),
+    )?;
     let second = route.session(1).ok_or("a session in slot 1")?;
     assert!(rt; !second.is_active);
     assert_active(&rt, &mut route, 1_310_000, (false, true))?;
     // The publisher that was opened first is alone, and then a new one is the standby.
-    leave(&rt, &mut route, 1_320_000, 5001, SLOT_1)?;
+    tell(
+        &rt,
+        &mut route,
+        1_320_000,
+        peer(5001),
+        shutdown().to(SLOT_1),
+    )?;
     let wants = conclusion(FIRST, &PUBLISHES);
     tell(&rt, &mut route, 1_320_000, peer(5002), wants)?;
     assert_active(&rt, &mut route, 1_320_000, (false, true))
 }
 
-/// Of two publishers of a new route, the second one alone sends data: the first one stays active.
-fn assert_nobody_takes_over(
-    rt: &(impl AllocGlobal + Abort),
-    route: &mut Route,
-    publishes: &[Block<'_>],
-) -> Result<(), Fail> {
-    open(rt, route, 5000, publishes)?;
-    open(rt, route, 5001, publishes)?;
-    feed_standby(rt, route, 4_000_000, (5, 50_000))?;
-    assert_active(rt, route, 4_000_000, (true, false))
-}
-
 #[test]
 fn without_a_time_nobody_takes_over(rt: HostRuntime) -> Result<(), Fail> {
     let mut route = ruled(rt.alloc(), Mode::Live, 5, Rules::DRAFT)?;
-    assert_nobody_takes_over(&rt, &mut route, &PUBLISHES)
+    open(&rt, &mut route, 5000, &PUBLISHES)?;
+    open(&rt, &mut route, 5001, &PUBLISHES)?;
+    tell(
+        &rt,
+        &mut route,
+        4_000_000,
+        peer(5001),
+        media(SLOT_1, 5, 50_000),
+    )?;
+    assert_active(&rt, &mut route, 4_000_000, (true, false))
 }
 
 #[test]
 fn in_buffer_mode_nobody_takes_over(rt: HostRuntime) -> Result<(), Fail> {
     let mut route = ruled(rt.alloc(), Mode::Buffer, 5, TAKES_OVER)?;
-    assert_nobody_takes_over(&rt, &mut route, &PUBLISHES_FILES)
+    open(&rt, &mut route, 5000, &PUBLISHES_FILES)?;
+    open(&rt, &mut route, 5001, &PUBLISHES_FILES)?;
+    tell(
+        &rt,
+        &mut route,
+        4_000_000,
+        peer(5001),
+        media(SLOT_1, 5, 50_000),
+    )?;
+    assert_active(&rt, &mut route, 4_000_000, (true, false))
 }
 
 /// Returns the number of payloads queued for the subscriber in slot 2, and of the data packets sent to it for the first
@@ -219,13 +226,31 @@ fn what_falls_due_at_a_standby_goes_to_nobody(rt: HostRuntime) -> Result<(), Fai
     open(&rt, &mut route, 5001, &PUBLISHES)?;
     open(&rt, &mut route, 5002, &REQUESTS)?;
     // Due at 1.121 s at the first publisher, and at 1.170 s at the second.
-    feed(&rt, &mut route, 1_001_000, 5, 1_000)?;
-    feed_standby(&rt, &mut route, 1_050_000, (5, 50_000))?;
+    tell(
+        &rt,
+        &mut route,
+        1_001_000,
+        peer(5000),
+        media(SLOT_0, 5, 1_000),
+    )?;
+    tell(
+        &rt,
+        &mut route,
+        1_050_000,
+        peer(5001),
+        media(SLOT_1, 5, 50_000),
+    )?;
     assert_active(&rt, &mut route, 1_101_000, (false, true))?;
     give(&rt, &mut route, &Item::Tick { moment: 1_145_000 })?;
     assert_eq!(rt; sendings(&route)?, (0, 0, 0));
     // The first one has been silent for longer, so nothing changes before the payload of the second.
-    feed_standby(&rt, &mut route, 1_146_000, (6, 146_000))?;
+    tell(
+        &rt,
+        &mut route,
+        1_146_000,
+        peer(5001),
+        media(SLOT_1, 6, 146_000),
+    )?;
     give(&rt, &mut route, &Item::Tick { moment: 1_170_000 })?;
     assert_eq!(rt; sendings(&route)?, (1, 1, 0));
     Ok(())
@@ -246,15 +271,32 @@ fn a_subscriber_is_sent_few_packets_again(rt: HostRuntime) -> Result<(), Fail> {
     open(&rt, &mut route, 5001, &PUBLISHES)?;
     open(&rt, &mut route, 5002, &REQUESTS)?;
     for number in 5..70 {
-        feed(&rt, &mut route, 1_001_000, number, 1_000)?;
+        tell(
+            &rt,
+            &mut route,
+            1_001_000,
+            peer(5000),
+            media(SLOT_0, number, 1_000),
+        )?;
     }
     give(&rt, &mut route, &Item::Tick { moment: 1_121_000 })?;
     give(&rt, &mut route, &Item::Tick { moment: 1_121_000 })?;
     assert_eq!(rt; sendings(&route)?, (65, 65, 0));
-    let lost = nak(&ALL_65).to(SLOT_2);
-    tell(&rt, &mut route, 1_122_000, peer(5002), lost)?;
+    tell(
+        &rt,
+        &mut route,
+        1_122_000,
+        peer(5002),
+        nak(&ALL_65).to(SLOT_2),
+    )?;
     assert_eq!(rt; sendings(&route)?, (65, 65, 64));
-    tell(&rt, &mut route, 1_123_000, peer(5002), lost)?;
+    tell(
+        &rt,
+        &mut route,
+        1_123_000,
+        peer(5002),
+        nak(&ALL_65).to(SLOT_2),
+    )?;
     assert_eq!(rt; sendings(&route)?, (65, 65, 67));
     give(&rt, &mut route, &Item::Tick { moment: 1_142_999 })?;
     assert_eq!(rt; sendings(&route)?, (65, 65, 67));
@@ -268,24 +310,28 @@ pub(crate) const OF_LIBSRT: Rules = Rules {
     ..Rules::DRAFT
 };
 
-/// Offers a route this sample from this port at this time, and leaves its replies.
+/// Offers a route these bytes from a peer at this time, and leaves its replies.
 fn send(
     rt: &(impl AllocGlobal + Abort),
     route: &mut Route,
     moment: u64,
-    port: u16,
+    from: Peer,
     sample: Sample<'_>,
 ) -> Result<(), Fail> {
     let bytes = sample.bytes(rt.alloc())?;
-    let _ = step(route, &datagram(rt.alloc(), peer(port), moment, &bytes)?)?;
+    if bytes.len() < 16 || route.waits() || moment > 1_000_000_000 {
+        return Err(Fail::from("a header, and no reply that waits"));
+    }
+    let mut head = [0u8; 16];
+    head.copy_from_slice(&bytes[..16]);
+    let item = Item::Datagram {
+        peer: from,
+        moment,
+        head,
+        body: Vec::from_slice(rt.alloc(), &bytes[16..])?,
+    };
+    let _ = route.step(&item);
     Ok(())
-}
-
-/// A live route with these rules and a publisher in slot 0, at port 5000.
-fn published(rt: &(impl AllocGlobal + Abort), rules: Rules) -> Result<Route, Fail> {
-    let mut route = ruled(rt.alloc(), Mode::Live, 5, rules)?;
-    open(rt, &mut route, 5000, &PUBLISHES)?;
-    Ok(route)
 }
 
 /// Asserts the waiting replies: a SHUTDOWN with this timestamp to caller 1 at each of these ports, and nothing else.
@@ -314,10 +360,14 @@ fn assert_silence_notified(
     rules: Rules,
     ports: &[u16],
 ) -> Result<(), Fail> {
-    let mut route = published(rt, rules)?;
+    let mut route = ruled(rt.alloc(), Mode::Live, 5, rules)?;
+    open(rt, &mut route, 5000, &PUBLISHES)?;
     open(rt, &mut route, 5001, &REQUESTS)?;
     give(rt, &mut route, &Item::Tick { moment: 5_999_999 })?;
-    let _ = step(&mut route, &Item::Tick { moment: 6_000_000 })?;
+    if route.waits() {
+        return Err(Fail::from("no reply that waits"));
+    }
+    let _ = route.step(&Item::Tick { moment: 6_000_000 });
     assert_reported(rt, &mut route, 5_000_000, ports)
 }
 
@@ -333,9 +383,10 @@ fn assert_lost_window_notified(
     rules: Rules,
     ports: &[u16],
 ) -> Result<(), Fail> {
-    let mut route = published(rt, rules)?;
+    let mut route = ruled(rt.alloc(), Mode::Live, 5, rules)?;
+    open(rt, &mut route, 5000, &PUBLISHES)?;
     let beyond = media(SLOT_0, 1029, 1_000);
-    send(rt, &mut route, 1_400_000, 5000, beyond)?;
+    send(rt, &mut route, 1_400_000, peer(5000), beyond)?;
     assert_reported(rt, &mut route, 400_000, ports)
 }
 
@@ -347,9 +398,10 @@ fn a_lost_window_is_answered_to_libsrt_alone(rt: HostRuntime) -> Result<(), Fail
 
 #[test]
 fn an_own_shutdown_is_not_answered(rt: HostRuntime) -> Result<(), Fail> {
-    let mut route = published(&rt, OF_LIBSRT)?;
+    let mut route = ruled(rt.alloc(), Mode::Live, 5, OF_LIBSRT)?;
+    open(&rt, &mut route, 5000, &PUBLISHES)?;
     let end = shutdown().to(SLOT_0);
-    send(&rt, &mut route, 1_400_000, 5000, end)?;
+    send(&rt, &mut route, 1_400_000, peer(5000), end)?;
     assert_reported(&rt, &mut route, 400_000, &[])
 }
 
@@ -358,7 +410,13 @@ fn fed_file(rt: &(impl AllocGlobal + Abort), rules: Rules) -> Result<Route, Fail
     let mut route = ruled(rt.alloc(), Mode::Buffer, 5, rules)?;
     open(rt, &mut route, 5000, &PUBLISHES_FILES)?;
     open(rt, &mut route, 5001, &REQUESTS_FILES)?;
-    feed(rt, &mut route, 1_001_000, 5, 1_000)?;
+    tell(
+        rt,
+        &mut route,
+        1_001_000,
+        peer(5000),
+        media(SLOT_0, 5, 1_000),
+    )?;
     Ok(route)
 }
 
@@ -370,11 +428,23 @@ fn acknowledged<'a>() -> Sample<'a> {
 #[test]
 fn the_end_of_a_file_is_reported(rt: HostRuntime) -> Result<(), Fail> {
     let mut route = fed_file(&rt, OF_LIBSRT)?;
-    leave(&rt, &mut route, 1_100_000, 5000, SLOT_0)?;
+    tell(
+        &rt,
+        &mut route,
+        1_100_000,
+        peer(5000),
+        shutdown().to(SLOT_0),
+    )?;
     // The packet is not acknowledged yet.
-    send(&rt, &mut route, 1_110_000, 5001, keep_alive().to(SLOT_1))?;
+    send(
+        &rt,
+        &mut route,
+        1_110_000,
+        peer(5001),
+        keep_alive().to(SLOT_1),
+    )?;
     assert_reported(&rt, &mut route, 0, &[])?;
-    send(&rt, &mut route, 1_120_000, 5001, acknowledged())?;
+    send(&rt, &mut route, 1_120_000, peer(5001), acknowledged())?;
     assert_reported(&rt, &mut route, 120_000, &[5001])?;
     assert!(rt; route.session(1).is_none());
     let end = route.ended(1).ok_or("an end in slot 1")?;
@@ -395,8 +465,14 @@ fn a_silent_publisher_ends_no_file(rt: HostRuntime) -> Result<(), Fail> {
 #[test]
 fn by_the_draft_no_end_of_a_file_is_reported(rt: HostRuntime) -> Result<(), Fail> {
     let mut route = fed_file(&rt, Rules::DRAFT)?;
-    leave(&rt, &mut route, 1_100_000, 5000, SLOT_0)?;
-    send(&rt, &mut route, 1_120_000, 5001, acknowledged())?;
+    tell(
+        &rt,
+        &mut route,
+        1_100_000,
+        peer(5000),
+        shutdown().to(SLOT_0),
+    )?;
+    send(&rt, &mut route, 1_120_000, peer(5001), acknowledged())?;
     assert_reported(&rt, &mut route, 0, &[])?;
     assert!(rt; route.session(1).is_some());
     Ok(())
@@ -411,8 +487,14 @@ fn left(
 ) -> Result<Route, Fail> {
     let mut route = ruled(rt.alloc(), mode, 5, rules)?;
     open(rt, &mut route, 5000, publishes)?;
-    feed(rt, &mut route, 1_001_000, 5, 1_000)?;
-    leave(rt, &mut route, 1_002_000, 5000, SLOT_0)?;
+    tell(
+        rt,
+        &mut route,
+        1_001_000,
+        peer(5000),
+        media(SLOT_0, 5, 1_000),
+    )?;
+    tell(rt, &mut route, 1_002_000, peer(5000), shutdown().to(SLOT_0))?;
     Ok(route)
 }
 
@@ -436,7 +518,10 @@ fn a_publisher_drains_for_five_seconds_at_most(rt: HostRuntime) -> Result<(), Fa
     let mut route = left(&rt, Mode::Buffer, OF_LIBSRT, &PUBLISHES_FILES)?;
     give(&rt, &mut route, &Item::Tick { moment: 6_001_999 })?;
     assert!(rt; route.session(0).is_some());
-    let _ = step(&mut route, &Item::Tick { moment: 6_002_000 })?;
+    if route.waits() {
+        return Err(Fail::from("no reply that waits"));
+    }
+    let _ = route.step(&Item::Tick { moment: 6_002_000 });
     assert_reported(&rt, &mut route, 0, &[])?;
     let end = route.ended(0).ok_or("an end in slot 0")?;
     assert_eq!(rt;
@@ -459,8 +544,17 @@ fn by_the_draft_a_publisher_leaves_at_once(rt: HostRuntime) -> Result<(), Fail> 
 fn callers_of_libsrt_are_sent_rates(rt: HostRuntime) -> Result<(), Fail> {
     let mut route = ruled(rt.alloc(), Mode::Buffer, 5, OF_LIBSRT)?;
     open(&rt, &mut route, 5000, &PUBLISHES_FILES)?;
-    feed(&rt, &mut route, 1_001_000, 5, 1_000)?;
-    let waiting = step(&mut route, &Item::Tick { moment: 1_010_000 })?;
+    tell(
+        &rt,
+        &mut route,
+        1_001_000,
+        peer(5000),
+        media(SLOT_0, 5, 1_000),
+    )?;
+    if route.waits() {
+        return Err(Fail::from("no reply that waits"));
+    }
+    let waiting = route.step(&Item::Tick { moment: 1_010_000 });
     assert_eq!(rt; waiting, 1);
     let mut place = Box::new(rt.alloc(), Reply::blank())?;
     assert!(rt; route.next_reply(&mut place));

@@ -3,14 +3,28 @@
 
 use crate::{Reply, Route, SessionView, Traffic};
 use srt_samples::{
-    Block, Caller, HSREQ, HSREQ_WITH_STREAM, HSRSP, Handshake, Offer, Phase, Sample, conclusion,
-    conclusion_answer, data_packet, first_difference, handshake_packet, keep_alive, refusal,
-    shutdown,
+    Block, Caller, Handshake, Offer, Phase, Sample, conclusion, data_packet, first_difference,
+    handshake_packet, keep_alive, shutdown,
 };
 use srt_types::{Access, Entry, Item, Mode, OpenFault, Peer, Role, Rules};
 use std::alloc::Global;
 use std::process::Abort;
 use std::test::Fail;
+
+const HSREQ: Block<'static> = Block::Request(Offer {
+    version: 0x1_0500,
+    flags: 0xbf,
+    receiver_ms: 120,
+    sender_ms: 120,
+});
+
+/// With the flag for messages in a stream, which is refused.
+const STREAM: Block<'static> = Block::Request(Offer {
+    version: 0x1_0500,
+    flags: 0xff,
+    receiver_ms: 120,
+    sender_ms: 120,
+});
 
 const PUBLISH: Block<'static> = Block::StreamId("#!::r=studio,m=publish");
 
@@ -19,7 +33,7 @@ const REQUEST: Block<'static> = Block::StreamId("studio");
 /// The blocks of a publisher, of one whose flags are refused, and of a subscriber.
 pub(crate) const PUBLISHES: [Block<'static>; 2] = [HSREQ, PUBLISH];
 
-pub(crate) const PUBLISHES_A_STREAM: [Block<'static>; 2] = [HSREQ_WITH_STREAM, PUBLISH];
+pub(crate) const PUBLISHES_A_STREAM: [Block<'static>; 2] = [STREAM, PUBLISH];
 
 pub(crate) const REQUESTS: [Block<'static>; 2] = [HSREQ, REQUEST];
 
@@ -76,34 +90,6 @@ pub(crate) fn studio(alloc: Global) -> Result<Route, Fail> {
     }
 }
 
-/// A datagram with these bytes from a peer at this time.
-pub(crate) fn datagram(alloc: Global, from: Peer, moment: u64, bytes: &[u8]) -> Result<Item, Fail> {
-    if bytes.len() < 16 {
-        return Err(Fail::from("a header"));
-    }
-    let mut head = [0u8; 16];
-    head.copy_from_slice(&bytes[..16]);
-    Ok(Item::Datagram {
-        peer: from,
-        moment,
-        head,
-        body: Vec::from_slice(alloc, &bytes[16..])?,
-    })
-}
-
-/// Offers a route this item, whose time is early. Returns the number of replies that wait after it.
-pub(crate) fn step(route: &mut Route, item: &Item) -> Result<usize, Fail> {
-    let moment = match item {
-        Item::Tick { moment } => *moment,
-        Item::Close { moment } => *moment,
-        Item::Datagram { moment, .. } => *moment,
-    };
-    if route.waits() || moment > 1_000_000_000 {
-        return Err(Fail::from("an early moment, and no reply that waits"));
-    }
-    Ok(route.step(item))
-}
-
 /// Asserts that this is the route's reply to a datagram.
 fn assert_answered(
     rt: &(impl AllocGlobal + Abort),
@@ -135,7 +121,18 @@ fn assert_replied(
     wanted: &[u8],
 ) -> Result<(), Fail> {
     let bytes = sample.bytes(rt.alloc())?;
-    let waiting = step(route, &datagram(rt.alloc(), from, 1_000_000, &bytes)?)?;
+    if bytes.len() < 16 || route.waits() {
+        return Err(Fail::from("a header, and no reply that waits"));
+    }
+    let mut head = [0u8; 16];
+    head.copy_from_slice(&bytes[..16]);
+    let item = Item::Datagram {
+        peer: from,
+        moment: 1_000_000,
+        head,
+        body: Vec::from_slice(rt.alloc(), &bytes[16..])?,
+    };
+    let waiting = route.step(&item);
     let mut out = [0u8; 1472];
     let mut len = 0;
     let mut place = Box::new(rt.alloc(), Reply::blank())?;
@@ -159,7 +156,10 @@ fn assert_closed(
     moment: u64,
     shutdowns: &[(u16, u32)],
 ) -> Result<(), Fail> {
-    let waiting = step(route, &Item::Close { moment })?;
+    if route.waits() || moment > 10_000_000 {
+        return Err(Fail::from("an early moment, and no reply that waits"));
+    }
+    let waiting = route.step(&Item::Close { moment });
     assert_eq!(rt; waiting, shutdowns.len());
     let mut out = [0u8; 1472];
     let mut place = Box::new(rt.alloc(), Reply::blank())?;
@@ -175,12 +175,31 @@ fn assert_closed(
 }
 
 /// A refusal of this caller.
-fn refused<'a>(caller: Caller, code: u32) -> Sample<'a> {
-    refusal(caller.initial, code).to(caller.id)
+fn refusal<'a>(caller: Caller, code: u32) -> Sample<'a> {
+    handshake_packet(
+        Handshake {
+            version: 5,
+            fields: 0,
+            initial: caller.initial,
+            mtu: 1500,
+            window: 8192,
+            phase: Phase::Refused(code),
+            id: 1,
+            cookie: 0,
+            address: 0,
+        },
+        &[],
+    )
+    .to(caller.id)
 }
 
 /// HSRSP with delays of 120 ms, and with one of 200 ms.
-const RESPONSE: [Block<'static>; 1] = [HSRSP];
+const RESPONSE: [Block<'static>; 1] = [Block::Response(Offer {
+    version: 0x1_0500,
+    flags: 0x3f,
+    receiver_ms: 120,
+    sender_ms: 120,
+})];
 
 const RESPONSE_200: [Block<'static>; 1] = [Block::Response(Offer {
     version: 0x1_0500,
@@ -191,7 +210,21 @@ const RESPONSE_200: [Block<'static>; 1] = [Block::Response(Offer {
 
 /// An answer of the live route to this caller, with this socket ID and these blocks.
 fn agreed<'a>(caller: Caller, id: u32, blocks: &'a [Block<'a>]) -> Sample<'a> {
-    conclusion_answer(caller.initial, 1024, id, blocks).to(caller.id)
+    handshake_packet(
+        Handshake {
+            version: 5,
+            fields: 1,
+            initial: caller.initial,
+            mtu: 1500,
+            window: 1024,
+            phase: Phase::Conclusion,
+            id,
+            cookie: 0,
+            address: 0,
+        },
+        blocks,
+    )
+    .to(caller.id)
 }
 
 /// A data packet of the first session in slot 0, with its first number, one millisecond after its conclusion.
@@ -199,40 +232,23 @@ fn media<'a>() -> Sample<'a> {
     data_packet(5).stamp(1_000).to(SLOT_0).payload(b"hi")
 }
 
-/// The conclusion of a publisher, and its answer, with which its session opens in slot 0.
-fn first_exchange<'a>() -> (Sample<'a>, Sample<'a>) {
-    (
-        conclusion(FIRST, &PUBLISHES),
-        agreed(FIRST, SLOT_0, &RESPONSE),
-    )
-}
-
-/// A route with the publisher of [`first_exchange`], at port 5000.
-fn published(rt: &(impl AllocGlobal + Abort)) -> Result<Route, Fail> {
-    let mut route = studio(rt.alloc())?;
-    let (first, answer) = first_exchange();
-    assert_answered(rt, &mut route, peer(5000), first, answer)?;
-    Ok(route)
-}
-
-/// Asserts the answer to the second caller, at port 5001, which wants this and whose session opens in slot 1.
-fn assert_second(
-    rt: &(impl AllocGlobal + Abort),
-    route: &mut Route,
-    wants: &[Block<'_>],
-) -> Result<(), Fail> {
-    let second = conclusion(SECOND, wants);
-    let answer = agreed(SECOND, 0x10_0001, &RESPONSE);
-    assert_answered(rt, route, peer(5001), second, answer)
-}
-
 #[test]
 fn a_publisher_is_answered_again_and_ends(rt: HostRuntime) -> Result<(), Fail> {
-    let mut route = published(&rt)?;
-    let (first, answer) = first_exchange();
+    let alloc = rt.alloc();
+    let mut route = studio(alloc)?;
+    let first = conclusion(FIRST, &PUBLISHES);
+    let answer = agreed(FIRST, SLOT_0, &RESPONSE);
+    assert_answered(&rt, &mut route, peer(5000), first, answer)?;
     assert_answered(&rt, &mut route, peer(5000), first, answer)?;
     // Another publisher, which is the standby, and a shutdown from another peer.
-    assert_second(&rt, &mut route, &PUBLISHES)?;
+    let second = conclusion(SECOND, &PUBLISHES);
+    assert_answered(
+        &rt,
+        &mut route,
+        peer(5001),
+        second,
+        agreed(SECOND, 0x10_0001, &RESPONSE),
+    )?;
     let end = shutdown().to(SLOT_0);
     assert_unanswered(&rt, &mut route, peer(5001), end)?;
     assert_answered(&rt, &mut route, peer(5000), first, answer)?;
@@ -296,7 +312,7 @@ fn refusals_come_in_their_order(rt: HostRuntime) -> Result<(), Fail> {
             ..FIRST
         };
         let sample = conclusion(caller, blocks);
-        assert_answered(&rt, &mut route, peer(5000), sample, refused(FIRST, code))?;
+        assert_answered(&rt, &mut route, peer(5000), sample, refusal(FIRST, code))?;
     }
     let first = conclusion(FIRST, &PUBLISHES);
     let ids = [SLOT_0, 0x10_0001, 0x10_0002, 0x10_0003, 0x10_0004];
@@ -309,10 +325,10 @@ fn refusals_come_in_their_order(rt: HostRuntime) -> Result<(), Fail> {
         let answer = agreed(FIRST, ids[k], &RESPONSE);
         assert_answered(&rt, &mut route, peer(5000 + k as u16), sample, answer)?;
     }
-    let third = refused(FIRST, 1002);
-    assert_answered(&rt, &mut route, peer(5005), first, third)?;
-    let sixth = refused(FIRST, 1003);
-    assert_answered(&rt, &mut route, peer(5005), request, sixth)
+    let refused = refusal(FIRST, 1002);
+    assert_answered(&rt, &mut route, peer(5005), first, refused)?;
+    let refused = refusal(FIRST, 1003);
+    assert_answered(&rt, &mut route, peer(5005), request, refused)
 }
 
 /// The content of HSREQ and HSRSP in buffer mode.
@@ -367,9 +383,14 @@ fn buffer_mode_agrees_on_no_delays(rt: HostRuntime) -> Result<(), Fail> {
         mtu: 1499,
         ..SECOND
     };
-    let request = conclusion(second, &REQUESTS_FILES);
-    let answer = refused(second, 1004);
-    assert_answered(&rt, &mut route, peer(5001), request, answer)
+    let refused = refusal(second, 1004);
+    assert_answered(
+        &rt,
+        &mut route,
+        peer(5001),
+        conclusion(second, &REQUESTS_FILES),
+        refused,
+    )
 }
 
 #[test]
@@ -393,7 +414,10 @@ fn what_opens_nothing_is_not_answered(rt: HostRuntime) -> Result<(), Fail> {
     ] {
         assert_unanswered(&rt, &mut route, peer(5000), sample)?;
     }
-    assert_eq!(rt; step(&mut route, &Item::Tick { moment: 5 })?, 0);
+    if route.waits() {
+        return Err(Fail::from("no reply waits"));
+    }
+    assert_eq!(rt; route.step(&Item::Tick { moment: 5 }), 0);
     Ok(())
 }
 
@@ -417,8 +441,11 @@ fn a_wrong_entry_is_refused(rt: HostRuntime) -> Result<(), Fail> {
 
 #[test]
 fn a_closed_route_sends_shutdowns_and_nothing_more(rt: HostRuntime) -> Result<(), Fail> {
-    let mut route = published(&rt)?;
-    let (first, _) = first_exchange();
+    let alloc = rt.alloc();
+    let mut route = studio(alloc)?;
+    let first = conclusion(FIRST, &PUBLISHES);
+    let answer = agreed(FIRST, SLOT_0, &RESPONSE);
+    assert_answered(&rt, &mut route, peer(5000), first, answer)?;
     assert_closed(&rt, &mut route, 1_500_000, &[(5000, FIRST.id)])?;
     assert_closed(&rt, &mut route, 1_600_000, &[])?;
     // Its repeated conclusion, that of another caller, and a data packet.
@@ -426,15 +453,28 @@ fn a_closed_route_sends_shutdowns_and_nothing_more(rt: HostRuntime) -> Result<()
     assert_unanswered(&rt, &mut route, peer(5000), first)?;
     assert_unanswered(&rt, &mut route, peer(5001), request)?;
     assert_unanswered(&rt, &mut route, peer(5000), media())?;
-    assert_eq!(rt; step(&mut route, &Item::Tick { moment: 2_000_000 })?, 0);
+    if route.waits() {
+        return Err(Fail::from("no reply waits"));
+    }
+    assert_eq!(rt; route.step(&Item::Tick { moment: 2_000_000 }), 0);
     Ok(())
 }
 
 #[test]
 fn shutdowns_come_slots_upwards(rt: HostRuntime) -> Result<(), Fail> {
-    let mut route = published(&rt)?;
-    let (first, _) = first_exchange();
-    assert_second(&rt, &mut route, &REQUESTS)?;
+    let alloc = rt.alloc();
+    let mut route = studio(alloc)?;
+    let first = conclusion(FIRST, &PUBLISHES);
+    let answer = agreed(FIRST, SLOT_0, &RESPONSE);
+    assert_answered(&rt, &mut route, peer(5000), first, answer)?;
+    let second = conclusion(SECOND, &REQUESTS);
+    assert_answered(
+        &rt,
+        &mut route,
+        peer(5001),
+        second,
+        agreed(SECOND, 0x10_0001, &RESPONSE),
+    )?;
     // The first caller leaves and reconnects: it opens last, in slot 0.
     let end = shutdown().to(SLOT_0);
     assert_unanswered(&rt, &mut route, peer(5000), end)?;
@@ -446,7 +486,11 @@ fn shutdowns_come_slots_upwards(rt: HostRuntime) -> Result<(), Fail> {
 
 #[test]
 fn an_idle_session_gets_no_shutdown(rt: HostRuntime) -> Result<(), Fail> {
-    let mut route = published(&rt)?;
+    let alloc = rt.alloc();
+    let mut route = studio(alloc)?;
+    let first = conclusion(FIRST, &PUBLISHES);
+    let answer = agreed(FIRST, SLOT_0, &RESPONSE);
+    assert_answered(&rt, &mut route, peer(5000), first, answer)?;
     assert_closed(&rt, &mut route, 6_000_000, &[])
 }
 
@@ -475,9 +519,17 @@ fn a_look_shows_the_open_sessions(rt: HostRuntime) -> Result<(), Fail> {
     let alloc = rt.alloc();
     let mut route = studio(alloc)?;
     assert!(rt; route.session(0).is_none());
-    let (first, answer) = first_exchange();
+    let first = conclusion(FIRST, &PUBLISHES);
+    let answer = agreed(FIRST, SLOT_0, &RESPONSE);
     assert_answered(&rt, &mut route, peer(5000), first, answer)?;
-    assert_second(&rt, &mut route, &PUBLISHES)?;
+    let second = conclusion(SECOND, &PUBLISHES);
+    assert_answered(
+        &rt,
+        &mut route,
+        peer(5001),
+        second,
+        agreed(SECOND, 0x10_0001, &RESPONSE),
+    )?;
     let request = conclusion(FIRST, &REQUESTS);
     let answer = agreed(FIRST, 0x10_0002, &RESPONSE);
     assert_answered(&rt, &mut route, peer(5002), request, answer)?;
