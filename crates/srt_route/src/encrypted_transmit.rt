@@ -20,7 +20,7 @@ use srt_types::Peer;
 /// One more than the most packets that a subscriber is sent at the end of an event, its KMREQ aside.
 const MAX_CALLS: u32 = 66;
 
-/// The number of payloads from which on a session sends nothing. None queues so many.
+/// The number of payloads from which on a session sends nothing. No session queues that many.
 const MAX_QUEUED: u64 = 1 << 61;
 
 /// The number of payloads of one key.

@@ -7,7 +7,7 @@ use Rattle.srt_supervision.specs.declared.refusal.Refusal.{Refusal}
 abbrev pub with_refusals : Option (List Refusal) → (more : List Refusal) → Option (List Refusal)
 with_refusals recorded more = option_map (λ rs. rs ++ more) recorded
 
--- so many were reported to it, each once
+-- that many were reported to it, each once
 abbrev pub WereReported : (recorded recorded' : Option (List Refusal)) → (number : ℕ) → Type 0
 WereReported recorded recorded' number = (more : List Refusal) × (recorded' ≡ with_refusals recorded more) × (length more ≡ number)
 
