@@ -41,7 +41,7 @@ reason_of stops causes.Closed = if stops then reasons.GatewayStops else reasons.
 abbrev pub counts_of : Traffic → SessionCounts
 counts_of (Received x) =
     record { packets = x.counts.received; bytes = x.counts.bytes; lost = x.counts.given_up; resent = x.counts.arrived - x.counts.received }
-counts_of (Sent x) = record { packets = x.sendings.fresh; bytes = x.counts.bytes; lost = x.counts.given_up; resent = x.sendings.again }
+counts_of (Sent x) = record { packets = x.sendings.fresh; bytes = x.counts.bytes; lost = x.counts.given_up; resent = x.sendings.resent }
 
 -- a correction in parts per million of the time since the opening, in microseconds, rounded toward 0; 0 at the opening
 abbrev pub ppm_of : (correction : ℤ) → (elapsed : ℕ) → ℤ
@@ -58,10 +58,10 @@ clock_of (Received x) elapsed = clock_after x.correction elapsed
 clock_of (Sent x) elapsed = None
 
 -- how often something was wrong with a session's stream; of a publisher's, at most as many packets arrived too late as were given up
-abbrev pub received_trouble : Trouble → (full_windows late given_up : ℕ) → ℕ
-received_trouble Misdirected full_windows late given_up = 0
-received_trouble FullWindow full_windows late given_up = full_windows
-received_trouble LatePackets full_windows late given_up = min late given_up
+abbrev pub received_trouble : Trouble → (full_window_acks late given_up : ℕ) → ℕ
+received_trouble Misdirected full_window_acks late given_up = 0
+received_trouble FullWindow full_window_acks late given_up = full_window_acks
+received_trouble LatePackets full_window_acks late given_up = min late given_up
 
 abbrev pub sent_trouble : Trouble → (misdirected : ℕ) → ℕ
 sent_trouble Misdirected misdirected = misdirected
@@ -69,7 +69,7 @@ sent_trouble FullWindow misdirected = 0
 sent_trouble LatePackets misdirected = 0
 
 abbrev pub count_of : Trouble → Traffic → ℕ
-count_of trouble (Received x) = received_trouble trouble x.counts.full_windows x.counts.late x.counts.given_up
+count_of trouble (Received x) = received_trouble trouble x.counts.full_window_acks x.counts.late x.counts.given_up
 count_of trouble (Sent x) = sent_trouble trouble x.counts.misdirected
 
 -- a latency, of which a session in buffer mode has none

@@ -161,11 +161,11 @@ fn took_over_at(slot: usize, old: &Option<SlotSession>, new: &Option<SlotSession
 // Returns how often this was wrong with a publisher's stream. Packets that arrived after their place was passed are too late
 // if as many numbers were given up. Otherwise they were sent again though they had arrived.
 fn received_trouble(trouble: Trouble, counts: &srt_pub::Counts) -> u64
-    ensures { result ≡ received_trouble trouble counts.now.full_windows counts.now.late counts.now.given_up }
+    ensures { result ≡ received_trouble trouble counts.now.full_window_acks counts.now.late counts.now.given_up }
 {
     match trouble {
         Trouble::Misdirected => 0,
-        Trouble::FullWindow => counts.full_windows,
+        Trouble::FullWindow => counts.full_window_acks,
         Trouble::LatePackets => counts.late.min(counts.given_up),
     }
 }

@@ -51,7 +51,7 @@ fn counts_of(traffic: &Traffic) -> SessionCounts
             packets: statistics.sendings.fresh,
             bytes: statistics.counts.bytes,
             lost: statistics.counts.given_up,
-            resent: statistics.sendings.again,
+            resent: statistics.sendings.resent,
         },
     }
 }

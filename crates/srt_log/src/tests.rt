@@ -585,7 +585,7 @@ fn forty_lines_of_a_second_about_sessions(rt: HostRuntime) {
 }
 
 /// What a publisher's session counts whose window was full this often, and of whose packets as many were late as given up.
-fn received(full_windows: u64, late: u64) -> Traffic {
+fn received(full_window_acks: u64, late: u64) -> Traffic {
     Traffic::Received(srt_pub::Statistics {
         counts: srt_pub::Counts {
             arrived: 0,
@@ -597,7 +597,7 @@ fn received(full_windows: u64, late: u64) -> Traffic {
             given_up: late,
             naks: 0,
             reported_lost: 0,
-            full_windows,
+            full_window_acks,
         },
         in_use: 0,
         available: 32,
@@ -617,7 +617,10 @@ fn sent(misdirected: u64) -> Traffic {
             given_up: 0,
             misdirected,
         },
-        sendings: srt_sub::Sendings { fresh: 0, again: 0 },
+        sendings: srt_sub::Sendings {
+            fresh: 0,
+            resent: 0,
+        },
         room: 32,
         in_flight: 0,
         flow_window: 32,
@@ -708,9 +711,9 @@ fn openings_ends_and_a_take_over(rt: HostRuntime) {
 
 /// A route with an active publisher whose window was full this often and of whose packets this many were late, and a
 /// subscriber that sent this many data packets.
-fn troubled(full_windows: u64, late: u64, misdirected: u64) -> RouteSnapshot {
+fn troubled(full_window_acks: u64, late: u64, misdirected: u64) -> RouteSnapshot {
     let publisher = SessionView {
-        traffic: received(full_windows, late),
+        traffic: received(full_window_acks, late),
         ..view(1, true)
     };
     let subscriber = SessionView {

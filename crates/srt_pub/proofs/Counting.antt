@@ -12,7 +12,7 @@ use Rattle.srt_recvbuf.proofs.OneByOne.{found, found_number, number_or}
 use Rattle.srt_pub.specs.Publishing.{Terms, Note, Arrived, Sent, FullAck, LightAck, KeepAlive, Full, ack_of, acks_at, is_full_due, is_light_due}
 use Rattle.srt_pub.specs.Publishing.{full_ack, noted, nak_report, confirmed_notes}
 use Rattle.srt_pub.specs.Counting.{one_if, capped, bytes_in, received_below, arrived_in, late_in, ahead_in, naks_in, numbers_in}
-use Rattle.srt_pub.specs.Counting.{reported_lost_in, full_windows_in, counts_of, Counted, Passes, with_one, with_put, with_steps, with_nak}
+use Rattle.srt_pub.specs.Counting.{reported_lost_in, full_window_acks_in, counts_of, Counted, Passes, with_one, with_put, with_steps, with_nak}
 use Rattle.srt_pub.specs.Counting.{with_full_window}
 use Rattle.srt_pub.specs.declared.counts.Counts.{Counts}
 use Rattle.srt_pub.specs.declared.region.Region.{Region}
@@ -201,7 +201,7 @@ counts_steps steps b c xs delivered front notes le far h =
 acks_count : (full light : Bool) (index point rtt variance room : ℕ) (rates : Rates) (a time : ℕ) (xs : List Arrival) (delivered front : ℕ)
     (notes : List Note)
     → record (counts_of xs delivered front notes) {
-      full_windows = capped (full_windows_in (noted time (ack_of full light (FullAck index point rtt variance room rates) (LightAck a)) notes));
+      full_window_acks = capped (full_window_acks_in (noted time (ack_of full light (FullAck index point rtt variance room rates) (LightAck a)) notes));
     }
     ≡ counts_of xs delivered front (noted time (ack_of full light (FullAck index point rtt variance room rates) (LightAck a)) notes)
 acks_count true light index point rtt variance room rates a time xs delivered front notes =
@@ -215,27 +215,27 @@ acks_count false false index point rtt variance room rates a time xs delivered f
 -- that number increases if a Full ACK is due that reports no available place
 pub full_window : (terms : Terms) (point room time : ℕ) (notes : List Note) (answer : Bool)
     → answer ≡ (is_full_due terms.width point room time notes && (room == 0))
-    → full_windows_in (noted time (acks_at terms point room time notes) notes) ≡ full_windows_in notes + one_if answer
+    → full_window_acks_in (noted time (acks_at terms point room time notes) notes) ≡ full_window_acks_in notes + one_if answer
 unfolding acks_at
 full_window terms point room time notes answer e =
-    by (is_full_due terms.width point room time notes) (is_light_due notes) ∙ ap (λ (b : Bool). full_windows_in notes + one_if b) (sym e)
+    by (is_full_due terms.width point room time notes) (is_light_due notes) ∙ ap (λ (b : Bool). full_window_acks_in notes + one_if b) (sym e)
   where
     by : (full light : Bool)
-        → full_windows_in (noted time (ack_of full light (full_ack terms point room notes) (LightAck point)) notes)
-        ≡ full_windows_in notes + one_if (full && (room == 0))
+        → full_window_acks_in (noted time (ack_of full light (full_ack terms point room notes) (LightAck point)) notes)
+        ≡ full_window_acks_in notes + one_if (full && (room == 0))
     by true light = refl
     by false true = refl
     by false false = omega arith
 
 pub counts_acks : (terms : Terms) (point room time : ℕ) (c : Counts) (xs : List Arrival) (delivered front : ℕ) (notes : List Note) (is_full : Bool)
-    → full_windows_in (noted time (acks_at terms point room time notes) notes) ≡ full_windows_in notes + one_if is_full
+    → full_window_acks_in (noted time (acks_at terms point room time notes) notes) ≡ full_window_acks_in notes + one_if is_full
     → Counted c xs delivered front notes
     → Counted (with_full_window is_full c) xs delivered front (noted time (acks_at terms point room time notes) notes)
 unfolding acks_at
 counts_acks terms point room time c xs delivered front notes is_full full h =
     ap (with_full_window is_full) h
     ∙ (λ i. record (counts_of xs delivered front notes) {
-      full_windows = (some_more (full_windows_in notes) (one_if is_full) ∙ ap capped (sym full)) i;
+      full_window_acks = (some_more (full_window_acks_in notes) (one_if is_full) ∙ ap capped (sym full)) i;
     })
     ∙ acks_count (is_full_due terms.width point room time notes) (is_light_due notes) _ _ _ _ _ _ _ time xs delivered front notes
 
@@ -261,14 +261,14 @@ counts_nak time all rs lost c xs delivered front notes e h = by all
     one : with_nak lost c ≡ record (counts_of xs delivered front notes) {
       naks = capped (naks_in notes + 1);
       reported_lost = capped (earlier + numbers_in rs);
-      full_windows = capped (full_windows_in notes + 0);
+      full_window_acks = capped (full_window_acks_in notes + 0);
     }
     one =
         ap (with_nak lost) h
         ∙ (λ i. record (counts_of xs delivered front notes) {
           naks = some_more (naks_in notes) 1 i;
           reported_lost = reported i;
-          full_windows = none_more (full_windows_in notes) i;
+          full_window_acks = none_more (full_window_acks_in notes) i;
         })
 
     by : (all : Bool) → Counted (with_nak lost c) xs delivered front (Sent time (nak_report all rs) ∷ notes)
@@ -281,7 +281,7 @@ pub counts_alive : (c : Counts) (xs : List Arrival) (delivered front time : ℕ)
 counts_alive c xs delivered front time notes h =
     h ∙ (λ i. record (counts_of xs delivered front notes) {
       reported_lost = none_more (reported_lost_in notes) i;
-      full_windows = none_more (full_windows_in notes) i;
+      full_window_acks = none_more (full_window_acks_in notes) i;
     })
 
 -- a data packet is counted, also if it isn't stored

@@ -99,11 +99,11 @@ is_of_full_window (FullAck index point round_trip variance available rates) = av
 is_of_full_window _ = false
 
 -- the number of such Full ACKs that were sent
-abbrev pub full_windows_in : List Note → ℕ
-full_windows_in [] = 0
-full_windows_in (Arrived time region put ∷ notes) = full_windows_in notes
-full_windows_in (Sent time report ∷ notes) = full_windows_in notes + one_if (is_of_full_window report)
-full_windows_in (Confirmed time stamp full sample ∷ notes) = full_windows_in notes
+abbrev pub full_window_acks_in : List Note → ℕ
+full_window_acks_in [] = 0
+full_window_acks_in (Arrived time region put ∷ notes) = full_window_acks_in notes
+full_window_acks_in (Sent time report ∷ notes) = full_window_acks_in notes + one_if (is_of_full_window report)
+full_window_acks_in (Confirmed time stamp full sample ∷ notes) = full_window_acks_in notes
 
 -- the counters of a session with these arrivals, `delivered` packets delivered, this front, and these notes. The
 -- numbers below the front that weren't delivered were given up
@@ -119,7 +119,7 @@ counts_of arrivals delivered front notes =
       given_up = capped (front - delivered);
       naks = capped (naks_in notes);
       reported_lost = capped (reported_lost_in notes);
-      full_windows = capped (full_windows_in notes);
+      full_window_acks = capped (full_window_acks_in notes);
     }
 
 abbrev pub Counted : Counts → List Arrival → (delivered front : ℕ) → List Note → Type 0
@@ -152,4 +152,4 @@ with_nak lost c = record c { naks = capped (c.naks + 1); reported_lost = capped 
 
 -- the counters after a Full ACK, of a full window if `is_full`; unchanged otherwise
 abbrev pub with_full_window : (is_full : Bool) → Counts → Counts
-with_full_window is_full c = record c { full_windows = capped (c.full_windows + one_if is_full) }
+with_full_window is_full c = record c { full_window_acks = capped (c.full_window_acks + one_if is_full) }

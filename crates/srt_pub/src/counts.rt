@@ -36,7 +36,7 @@ pub struct Counts {
     pub reported_lost: u64,
     /// Full ACKs that were sent while the available buffer size was 0: all places of the window were occupied by
     /// received packets that wait for delivery (section 3.2.4).
-    pub full_windows: u64,
+    pub full_window_acks: u64,
 }
 
 impl Counts {
@@ -56,7 +56,7 @@ impl Counts {
             given_up: 0,
             naks: 0,
             reported_lost: 0,
-            full_windows: 0,
+            full_window_acks: 0,
         }
     }
 
@@ -109,7 +109,7 @@ impl Counts {
     pub(crate) fn fill(&mut self, is_full: bool)
         ensures { self.new ≡ with_full_window is_full self.old }
     {
-        self.full_windows = self.full_windows.saturating_add(one_if(is_full));
+        self.full_window_acks = self.full_window_acks.saturating_add(one_if(is_full));
     }
 }
 

@@ -350,7 +350,7 @@ fn full_acks_of_a_full_window_are_counted(rt: HostRuntime) -> Result<(), Fail> {
         hear_number(rt.alloc(), &mut publisher, number)?;
     }
     assert_event(&rt, &mut publisher, Event::SendsAck(9_000, light_ack(132)))?;
-    assert_eq!(rt; publisher.statistics().counts.full_windows, 0);
+    assert_eq!(rt; publisher.statistics().counts.full_window_acks, 0);
     assert_events(
         &rt,
         &mut publisher,
@@ -362,7 +362,7 @@ fn full_acks_of_a_full_window_are_counted(rt: HostRuntime) -> Result<(), Fail> {
             Event::SendsAck(30_000, acknowledges(3, 132, 1)),
         ],
     )?;
-    assert_eq!(rt; publisher.statistics().counts.full_windows, 2);
+    assert_eq!(rt; publisher.statistics().counts.full_window_acks, 2);
     Ok(())
 }
 
@@ -508,7 +508,7 @@ fn what_a_session_counts(rt: HostRuntime) -> Result<(), Fail> {
                 given_up: 0,
                 naks: 1,
                 reported_lost: 1,
-                full_windows: 0,
+                full_window_acks: 0,
             },
             in_use: 3,
             available: 32,

@@ -5,7 +5,7 @@ use Rattle.srt_types.specs.declared.shared.Callers.TheVariants.{Libsrt}
 use Rattle.srt_types.specs.declared.shared.Mode.TheVariants.{Live}
 use Rattle.srt_types.specs.Terms.{Terms}
 use Rattle.srt_types.specs.Items.{Item}
-use Rattle.srt_sub.specs.Counting.{again_in, fresh_in}
+use Rattle.srt_sub.specs.Counting.{resent_in, fresh_in}
 use Rattle.srt_sub.specs.Subscribing.{Subscribing, presumed, tries}
 use Rattle.srt_route.specs.declared.route.Route.{Route as TheRoute}
 use Rattle.srt_route.specs.Past.{Subscribes}
@@ -20,7 +20,7 @@ ResendsFew r =
     (e : Terms) (index slot percent : ℕ) (items : List Item) (s : Session) (m : Subscribing)
     → stands r e index items → e.rules.resend_percent ≡ Some percent
     → find (is_open_in slot) (after e index items).sessions ≡ Some s → s.past ≡ Subscribes m
-    → 100 * again_in m.notes ≤ 6_400 + percent * fresh_in m.notes + 100 * (((after e index items).clock - s.opening) / 20_000)
+    → 100 * resent_in m.notes ≤ 6_400 + percent * fresh_in m.notes + 100 * (((after e index items).clock - s.opening) / 20_000)
 
 -- on a live route for libsrt callers, all packets in flight to a subscriber that sends periodic NAKs were sent again
 -- without a NAK at most once since the last ACK that acknowledged more, or since its opening

@@ -30,7 +30,7 @@ both_received a b =
       given_up = both a.given_up b.given_up;
       naks = both a.naks b.naks;
       reported_lost = both a.reported_lost b.reported_lost;
-      full_windows = both a.full_windows b.full_windows;
+      full_window_acks = both a.full_window_acks b.full_window_acks;
     }
 
 abbrev pub both_queued : Queued → Queued → Queued
@@ -44,7 +44,7 @@ both_queued a b =
     }
 
 abbrev pub both_sent : Sendings → Sendings → Sendings
-both_sent a b = record { fresh = both a.fresh b.fresh; again = both a.again b.again }
+both_sent a b = record { fresh = both a.fresh b.fresh; resent = both a.resent b.resent }
 
 -- totals with the counts of one more session
 abbrev pub with_traffic : Traffic → Totals → Totals
@@ -65,10 +65,10 @@ no_totals =
         given_up = 0;
         naks = 0;
         reported_lost = 0;
-        full_windows = 0;
+        full_window_acks = 0;
       };
       queued = record { queued = 0; bytes = 0; naks = 0; given_up = 0; misdirected = 0 };
-      sent = record { fresh = 0; again = 0 };
+      sent = record { fresh = 0; resent = 0 };
     }
 
 -- the sums after a session ended, if it did: its counts are added as they are recorded

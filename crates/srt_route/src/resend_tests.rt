@@ -77,7 +77,7 @@ fn assert_sent(
 ) -> Result<(), Fail> {
     let view = route.session(1).ok_or("a session in slot 1")?;
     match view.traffic {
-        Traffic::Sent(x) => assert_eq!(rt; (x.sendings.fresh, x.sendings.again), sent),
+        Traffic::Sent(x) => assert_eq!(rt; (x.sendings.fresh, x.sendings.resent), sent),
         Traffic::Received(_) => return Err(Fail::from("a subscriber")),
     }
     Ok(())

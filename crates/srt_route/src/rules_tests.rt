@@ -214,7 +214,7 @@ fn in_buffer_mode_nobody_takes_over(rt: HostRuntime) -> Result<(), Fail> {
 fn sendings(route: &Route) -> Result<(u64, u64, u64), Fail> {
     let view = route.session(2).ok_or("a session in slot 2")?;
     match view.traffic {
-        Traffic::Sent(x) => Ok((x.counts.queued, x.sendings.fresh, x.sendings.again)),
+        Traffic::Sent(x) => Ok((x.counts.queued, x.sendings.fresh, x.sendings.resent)),
         Traffic::Received(_) => Err(Fail::from("a subscriber")),
     }
 }

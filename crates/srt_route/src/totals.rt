@@ -31,7 +31,7 @@ fn both_received(a: srt_pub::Counts, b: srt_pub::Counts) -> srt_pub::Counts
         given_up: a.given_up.saturating_add(b.given_up),
         naks: a.naks.saturating_add(b.naks),
         reported_lost: a.reported_lost.saturating_add(b.reported_lost),
-        full_windows: a.full_windows.saturating_add(b.full_windows),
+        full_window_acks: a.full_window_acks.saturating_add(b.full_window_acks),
     }
 }
 
@@ -54,7 +54,7 @@ fn both_sent(a: srt_sub::Sendings, b: srt_sub::Sendings) -> srt_sub::Sendings
 {
     srt_sub::Sendings {
         fresh: a.fresh.saturating_add(b.fresh),
-        again: a.again.saturating_add(b.again),
+        resent: a.resent.saturating_add(b.resent),
     }
 }
 
@@ -74,7 +74,7 @@ impl Totals {
                 given_up: 0,
                 naks: 0,
                 reported_lost: 0,
-                full_windows: 0,
+                full_window_acks: 0,
             },
             queued: srt_sub::Counts {
                 queued: 0,
@@ -83,7 +83,10 @@ impl Totals {
                 given_up: 0,
                 misdirected: 0,
             },
-            sent: srt_sub::Sendings { fresh: 0, again: 0 },
+            sent: srt_sub::Sendings {
+                fresh: 0,
+                resent: 0,
+            },
         }
     }
 

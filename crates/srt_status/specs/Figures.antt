@@ -85,7 +85,7 @@ publisher_count counts.LatePackets counts = Some counts.late
 publisher_count counts.AheadPackets counts = Some counts.ahead
 publisher_count counts.ReportedLost counts = Some counts.reported_lost
 publisher_count counts.NaksSent counts = Some counts.naks
-publisher_count counts.FullWindowAcks counts = Some counts.full_windows
+publisher_count counts.FullWindowAcks counts = Some counts.full_window_acks
 publisher_count counts.GivenUp counts = Some counts.given_up
 publisher_count counts.QueuedPackets counts = None
 publisher_count counts.QueuedBytes counts = None
@@ -109,7 +109,7 @@ subscriber_count counts.GivenUp counts sendings = Some counts.given_up
 subscriber_count counts.QueuedPackets counts sendings = Some counts.queued
 subscriber_count counts.QueuedBytes counts sendings = Some counts.bytes
 subscriber_count counts.SentPackets counts sendings = Some sendings.fresh
-subscriber_count counts.ResentPackets counts sendings = Some sendings.again
+subscriber_count counts.ResentPackets counts sendings = Some sendings.resent
 subscriber_count counts.NaksTaken counts sendings = Some counts.naks
 subscriber_count counts.Misdirected counts sendings = Some counts.misdirected
 

@@ -237,7 +237,7 @@ pub(crate) fn publisher_count(count: Count, counts: &srt_pub::Counts) -> Option<
         Count::AheadPackets => Some(counts.ahead),
         Count::ReportedLost => Some(counts.reported_lost),
         Count::NaksSent => Some(counts.naks),
-        Count::FullWindowAcks => Some(counts.full_windows),
+        Count::FullWindowAcks => Some(counts.full_window_acks),
         Count::GivenUp => Some(counts.given_up),
         Count::QueuedPackets
         | Count::QueuedBytes
@@ -261,7 +261,7 @@ pub(crate) fn subscriber_count(
         Count::QueuedPackets => Some(counts.queued),
         Count::QueuedBytes => Some(counts.bytes),
         Count::SentPackets => Some(sendings.fresh),
-        Count::ResentPackets => Some(sendings.again),
+        Count::ResentPackets => Some(sendings.resent),
         Count::NaksTaken => Some(counts.naks),
         Count::Misdirected => Some(counts.misdirected),
         Count::ReceivedPackets

@@ -139,7 +139,7 @@ fn counted(bytes: u64, lost: u64) -> srt_pub::Counts {
         given_up: 0,
         reported_lost: lost,
         naks: 0,
-        full_windows: 0,
+        full_window_acks: 0,
     }
 }
 

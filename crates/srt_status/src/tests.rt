@@ -97,7 +97,7 @@ pub(crate) fn publisher() -> SessionView {
                 given_up: 5,
                 reported_lost: 6,
                 naks: 7,
-                full_windows: 8,
+                full_window_acks: 8,
             },
             in_use: 10,
             available: 22,
@@ -130,7 +130,7 @@ fn subscriber() -> SessionView {
             },
             sendings: Sendings {
                 fresh: 13,
-                again: 14,
+                resent: 14,
             },
             room: 18,
             in_flight: 19,
@@ -168,7 +168,7 @@ pub(crate) fn route<R: AllocGlobal>(
                 given_up: 4,
                 reported_lost: 5,
                 naks: 6,
-                full_windows: 7,
+                full_window_acks: 7,
             },
             queued: srt_sub::Counts {
                 queued: 8,
@@ -179,7 +179,7 @@ pub(crate) fn route<R: AllocGlobal>(
             },
             sent: Sendings {
                 fresh: 10,
-                again: 11,
+                resent: 11,
             },
         },
         opened: 3,

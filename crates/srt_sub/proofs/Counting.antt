@@ -6,7 +6,7 @@ use Rattle.std.proofs.lemmas.Bool.{lt-ltb}
 use Rattle.srt_sendbuf.specs.Sending.{Queued, Sending, Due, due, due_at, due_number, due_of, in_flight, lost, next, queued}
 use Rattle.srt_types.specs.Runs.{Range}
 use Rattle.srt_sendbuf.specs.Sending.{Mark, front, requested}
-use Rattle.srt_sub.specs.Counting.{AreSendings, Counted, capped, bytes_in, fresh_in, again_in, is_again, naks_in, one_if, with_payload}
+use Rattle.srt_sub.specs.Counting.{AreSendings, Counted, capped, bytes_in, fresh_in, resent_in, is_again, naks_in, one_if, with_payload}
 use Rattle.srt_sub.specs.Counting.{with_list, with_expired, with_misdirected, with_sent, misdirected_in}
 use Rattle.srt_sub.specs.Subscribing.{Renewed, renewal_due, renewed_notes}
 use Rattle.srt_sub.specs.Subscribing.{with_expired as expired_to}
@@ -95,18 +95,18 @@ counts_acked time rest n c m h =
 
 -- a data packet is sent
 sent_more : (again : Bool) (c : Sendings) (r : Report) (notes : List Note) → is_again r ≡ again
-    → AreSendings c (fresh_in notes) (again_in notes)
-    → AreSendings (with_sent again c) (fresh_in notes + one_if (not (is_again r))) (again_in notes + one_if (is_again r))
+    → AreSendings c (fresh_in notes) (resent_in notes)
+    → AreSendings (with_sent again c) (fresh_in notes + one_if (not (is_again r))) (resent_in notes + one_if (is_again r))
 sent_more again c r notes e h =
-    subst (λ (b : Bool). AreSendings (with_sent b c) (fresh_in notes + one_if (not (is_again r))) (again_in notes + one_if (is_again r))) e
+    subst (λ (b : Bool). AreSendings (with_sent b c) (fresh_in notes + one_if (not (is_again r))) (resent_in notes + one_if (is_again r))) e
     (record {
       fresh_is = more c.fresh (fresh_in notes) (one_if (not (is_again r))) h.fresh_is;
-      again_is = more c.again (again_in notes) (one_if (is_again r)) h.again_is;
+      resent_is = more c.resent (resent_in notes) (one_if (is_again r)) h.resent_is;
     })
 
 pub sends : (time : ℕ) (again : Bool) (c : Sendings) (r : Report) (notes : List Note) → is_media r ≡ true → is_again r ≡ again
-    → AreSendings c (fresh_in notes) (again_in notes)
-    → AreSendings (with_sent again c) (fresh_in (Sent time r ∷ notes)) (again_in (Sent time r ∷ notes))
+    → AreSendings c (fresh_in notes) (resent_in notes)
+    → AreSendings (with_sent again c) (fresh_in (Sent time r ∷ notes)) (resent_in (Sent time r ∷ notes))
 sends time again c r notes m e h = rw m (sent_more again c r notes e h)
 
 -- a due data packet is a resend if a packet is lost

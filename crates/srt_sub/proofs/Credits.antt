@@ -7,7 +7,7 @@ use Rattle.std.proofs.lemmas.Bool.{true≢false}
 use Rattle.std.proofs.lemmas.Bool.Decides.{nat_tests}
 use Rattle.srt_sub.specs.Subscribing.{Report, Acked, Dropped, Media, KeepAlive, Note, Sent, Renewed, Presumed, is_media, sampled, grown, credit, credit_after}
 use Rattle.srt_sub.specs.Subscribing.{last_media, may_resend, resends, renewal_due, renewed_notes}
-use Rattle.srt_sub.specs.Counting.{again_in, fresh_in, renewals_in}
+use Rattle.srt_sub.specs.Counting.{resent_in, fresh_in, renewals_in}
 use Rattle.srt_sub.specs.Stands.{AreCredited, IsCredit}
 use Rattle.srt_sub.specs.inside.Turns.{phase_now, sends_lost}
 use Rattle.srt_sub.specs.Emission.{resends_in}
@@ -58,7 +58,7 @@ credited_again percent time n origin payload notes m h =
       before = omega arith;
       rare = h.rare;
       bounded = λ p e.
-          bound_again (again_in notes) (credit p notes) (p * (fresh_in notes + 0)) (p * fresh_in notes) (renewals_in notes)
+          bound_again (resent_in notes) (credit p notes) (p * (fresh_in notes + 0)) (p * fresh_in notes) (renewals_in notes)
           (ap (λ k. p * k) (none_more (fresh_in notes))) (has_credit p percent notes e m) (h.bounded p e);
       spent = λ p e lt. h.rare;
     }
@@ -74,7 +74,7 @@ credited_new percent time n origin payload notes h =
       before = omega arith;
       rare = h.rare;
       bounded = λ p e.
-          bound_new (again_in notes) (credit p notes) p (p * (fresh_in notes + 1)) (p * fresh_in notes) (renewals_in notes)
+          bound_new (resent_in notes) (credit p notes) p (p * (fresh_in notes + 1)) (p * fresh_in notes) (renewals_in notes)
           (one_times p (fresh_in notes)) (h.bounded p e);
       spent = λ p e lt. h.rare;
     }

@@ -36,16 +36,16 @@ fresh_in (Renewed time ∷ notes) = fresh_in notes
 fresh_in (Presumed ∷ notes) = fresh_in notes
 
 -- the number of data packets that were sent again
-abbrev pub again_in : List Note → ℕ
-again_in [] = 0
-again_in (Sent time report ∷ notes) = if is_media report then again_in notes + one_if (is_again report) else again_in notes
-again_in (Grew time ∷ notes) = again_in notes
-again_in (Sampled r ∷ notes) = again_in notes
-again_in (Opened w ∷ notes) = again_in notes
-again_in (Missed run ∷ notes) = again_in notes
-again_in (Misdirected ∷ notes) = again_in notes
-again_in (Renewed time ∷ notes) = again_in notes
-again_in (Presumed ∷ notes) = again_in notes
+abbrev pub resent_in : List Note → ℕ
+resent_in [] = 0
+resent_in (Sent time report ∷ notes) = if is_media report then resent_in notes + one_if (is_again report) else resent_in notes
+resent_in (Grew time ∷ notes) = resent_in notes
+resent_in (Sampled r ∷ notes) = resent_in notes
+resent_in (Opened w ∷ notes) = resent_in notes
+resent_in (Missed run ∷ notes) = resent_in notes
+resent_in (Misdirected ∷ notes) = resent_in notes
+resent_in (Renewed time ∷ notes) = resent_in notes
+resent_in (Presumed ∷ notes) = resent_in notes
 
 -- the number of times that the credit for resends was raised to one packet
 abbrev pub renewals_in : List Note → ℕ
@@ -81,7 +81,7 @@ pub record AreCounts (c : Counts) (fed fed_bytes requested given_up misdirected 
 
 pub record AreSendings (c : Sendings) (first repeated : ℕ) : Type 0 where
   pub fresh_is : c.fresh ≡ capped first
-  pub again_is : c.again ≡ capped repeated
+  pub resent_is : c.resent ≡ capped repeated
 
 -- the counters are those of the payloads queued, of the loss lists, of the packets given up, and of the data packets
 -- received
@@ -106,4 +106,4 @@ with_expired count c = record c { given_up = capped (c.given_up + count) }
 
 -- the counters after a data packet is sent, for the first time or again
 abbrev pub with_sent : (again : Bool) → Sendings → Sendings
-with_sent again c = record { fresh = capped (c.fresh + one_if (not again)); again = capped (c.again + one_if again) }
+with_sent again c = record { fresh = capped (c.fresh + one_if (not again)); resent = capped (c.resent + one_if again) }

@@ -14,7 +14,7 @@ use Rattle.srt_sendbuf.specs.Stands as places
 use Rattle.srt_sub.specs.Subscribing.{Terms, Note, Report, Sent, Missed, Subscribing, opened, is_media, is_drop, last_sent, last_media}
 use Rattle.srt_sub.specs.Subscribing.{last_growth, round_trip, tries, flow_window, unreported, credit, renewed_notes, Presumed}
 use Rattle.srt_sub.specs.Says.{says}
-use Rattle.srt_sub.specs.Counting.{AreSendings, Counted, fresh_in, again_in, is_again, renewals_in}
+use Rattle.srt_sub.specs.Counting.{AreSendings, Counted, fresh_in, resent_in, is_again, renewals_in}
 use Rattle.srt_sub.specs.declared.resend_credit.Credit.{Credit}
 use Rattle.srt_sub.specs.declared.history.History.{History}
 use Rattle.srt_sub.specs.declared.resend_all.Resending.TheVariants.{AtEachTimeout, Once}
@@ -41,7 +41,7 @@ pub record IsHistory (initial : ℕ) (terms : Terms) (h : History) (notes : List
   pub media_is : h.media ≡ last_media notes
   pub growth_is : h.growth ≡ last_growth notes
   pub missed_is : option_map gone_by h.missed ≡ option_map (run_gone initial) (unreported notes)
-  pub sendings_are : AreSendings h.sendings (fresh_in notes) (again_in notes)
+  pub sendings_are : AreSendings h.sendings (fresh_in notes) (resent_in notes)
   pub credit_is : IsCredit terms.resend_percent h.credit notes
   pub tries_are : h.tries ≡ min (tries notes) (2 ^ 32 - 1)
   -- a session that resends all once does it at most once between two ACKs that acknowledge more
@@ -69,7 +69,7 @@ pub record IsCredited (percent : Option ℕ) (time last again fresh renewals : �
 -- the same for these notes
 abbrev pub AreCredited : (percent : Option ℕ) → (time : ℕ) → List Note → Type 0
 AreCredited percent time notes =
-    IsCredited percent time (last_media notes) (again_in notes) (fresh_in notes) (renewals_in notes) (λ p. credit p notes)
+    IsCredited percent time (last_media notes) (resent_in notes) (fresh_in notes) (renewals_in notes) (λ p. credit p notes)
 
 -- the fields represent a session of these terms, with this initial number, opened at the clock's time `opening` by a
 -- caller with this socket ID. Its last call was at this time since the opening, and `given` data packets were sent in

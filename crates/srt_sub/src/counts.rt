@@ -73,7 +73,7 @@ pub struct Sendings {
     /// Data packets sent for the first time.
     pub fresh: u64,
     /// Data packets sent again, with the flag R (section 3.1).
-    pub again: u64,
+    pub resent: u64,
 }
 
 impl Sendings {
@@ -83,7 +83,10 @@ impl Sendings {
     pub(crate) fn none() -> Sendings
         ensures { AreSendings result 0 0 }
     {
-        Sendings { fresh: 0, again: 0 }
+        Sendings {
+            fresh: 0,
+            resent: 0,
+        }
     }
 
     /// Counts a data packet that is sent.
@@ -91,7 +94,7 @@ impl Sendings {
         ensures { self.new ≡ with_sent again self.old }
     {
         self.fresh = self.fresh.saturating_add(one_if(!again));
-        self.again = self.again.saturating_add(one_if(again));
+        self.resent = self.resent.saturating_add(one_if(again));
     }
 }
 

@@ -465,7 +465,10 @@ fn what_a_session_counts(rt: HostRuntime) -> Result<(), Fail> {
                 given_up: 0,
                 misdirected: 2,
             },
-            sendings: Sendings { fresh: 2, again: 1 },
+            sendings: Sendings {
+                fresh: 2,
+                resent: 1
+            },
             room: 127,
             in_flight: 1,
             flow_window: 8192,
@@ -542,7 +545,7 @@ fn spent_credit(rt: HostRuntime) -> Result<(), Fail> {
     assert_eq!(rt; drained(&mut trial, 28_000), 1);
     assert_eq!(rt; drained(&mut trial, 28_001), 0);
     let sendings = trial.session.statistics().sendings;
-    assert_eq!(rt; (sendings.fresh, sendings.again), (72, 101));
+    assert_eq!(rt; (sendings.fresh, sendings.resent), (72, 101));
     // All numbers below 77 are acknowledged.
     assert!(rt; hears(&mut trial, light_ack(77), 29_000)?);
     assert!(rt; trial.session.is_all_acknowledged());

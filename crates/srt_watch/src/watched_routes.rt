@@ -46,7 +46,7 @@ const NO_TOTALS: Totals = Totals {
         given_up: 0,
         naks: 0,
         reported_lost: 0,
-        full_windows: 0,
+        full_window_acks: 0,
     },
     queued: srt_sub::Counts {
         queued: 0,
@@ -55,7 +55,10 @@ const NO_TOTALS: Totals = Totals {
         given_up: 0,
         misdirected: 0,
     },
-    sent: Sendings { fresh: 0, again: 0 },
+    sent: Sendings {
+        fresh: 0,
+        resent: 0,
+    },
 };
 
 // A route of the run.

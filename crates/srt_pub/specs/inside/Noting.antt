@@ -8,7 +8,7 @@ use Rattle.srt_packet.specs.declared.writing.Body.{Body}
 use Rattle.srt_pub.specs.Publishing.{Terms, Note, LightAck, acks_at, full_ack, noted, rates_of}
 use Rattle.srt_pub.specs.Says.{says, body_bytes}
 use Rattle.srt_pub.specs.Kept.{AcksStandFor, LogStandsFor, IsRoundTrip, Measures}
-use Rattle.srt_pub.specs.Counting.{full_windows_in, one_if}
+use Rattle.srt_pub.specs.Counting.{full_window_acks_in, one_if}
 use Rattle.srt_pub.specs.declared.acknowledgements.Acks.{Acks}
 use Rattle.srt_pub.specs.declared.log.Log.{Log}
 use Rattle.srt_pub.specs.declared.rates.Meter.{Meter}
@@ -52,7 +52,7 @@ LogWritesAck time point available log bodies =
 abbrev pub ReportsFullWindow : (time available : ℕ) → Log → (answer : Bool) → Type 0
 ReportsFullWindow time available log answer =
     (terms : Terms) (front a seen : ℕ) (notes : List Note) → available ≡ front + terms.width - a → LogStandsFor terms front a log notes seen
-    → full_windows_in (noted time (acks_at terms a available time notes) notes) ≡ full_windows_in notes + one_if answer
+    → full_window_acks_in (noted time (acks_at terms a available time notes) notes) ≡ full_window_acks_in notes + one_if answer
 
 -- if the old ACKs represent notes, the new ones represent the notes after the change
 abbrev pub AcksBecome : (old new : Acks) → (change : (point : ℕ) → List Note → List Note) → Type 0

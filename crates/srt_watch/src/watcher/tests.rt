@@ -686,7 +686,7 @@ fn the_page_is_shown_sessions_and_totals(rt: HostRuntime) -> Result<(), Fail> {
         given_up: 0,
         naks: 0,
         reported_lost: 0,
-        full_windows: 0,
+        full_window_acks: 0,
     };
     let Some(totals) = watcher.page.server.totals else {
         return Err(Fail::from("totals"));

@@ -1,5 +1,5 @@
 use Rattle.std.proofs.Common.{ℕ, ◌+◌, ◌-◌, ◌*◌, ◌/◌, ◌≤◌, subst, arith}
-use Rattle.srt_sub.specs.Counting.{again_in, fresh_in, renewals_in}
+use Rattle.srt_sub.specs.Counting.{resent_in, fresh_in, renewals_in}
 use Rattle.srt_sub.specs.Subscribing.{credit}
 use Rattle.srt_route.specs.Past.{Past}
 use Rattle.srt_route.specs.Buffers.{IsPast}
@@ -14,6 +14,6 @@ returns c e index slot percent items s m h limit found past =
     let route = c.args.route.now in
     let seat = seat_in e index items route h slot s found in
     let stands = subst (λ (p : Past). IsPast e route.clock seat.0 seat.1 s p) past seat.2.past_is in
-    subst (λ (n : ℕ). 100 * again_in m.notes ≤ 6_400 + percent * fresh_in m.notes + 100 * ((n - s.opening) / 20_000)) h.clock_is
-    (few (again_in m.notes) (credit percent m.notes) (percent * fresh_in m.notes) (renewals_in m.notes) (route.clock - s.opening)
+    subst (λ (n : ℕ). 100 * resent_in m.notes ≤ 6_400 + percent * fresh_in m.notes + 100 * ((n - s.opening) / 20_000)) h.clock_is
+    (few (resent_in m.notes) (credit percent m.notes) (percent * fresh_in m.notes) (renewals_in m.notes) (route.clock - s.opening)
     (stands.1.credited.bounded percent limit) stands.1.credited.rare)

@@ -1,5 +1,5 @@
 use Rattle.std.proofs.Common.{ℕ, ◌+◌, ◌-◌, ◌*◌, ◌/◌, ◌≤◌, arith}
-use Rattle.srt_sub.specs.Counting.{again_in, fresh_in, renewals_in}
+use Rattle.srt_sub.specs.Counting.{resent_in, fresh_in, renewals_in}
 use Rattle.srt_sub.specs.Subscribing.{credit}
 use Rattle.srt_sub.proofs.laws.resends.Goals as goal
 
@@ -8,5 +8,5 @@ within a c x r time sum rare = omega (arith, sum, rare)
 
 pub returns : goal.returns
 returns c terms initial opening caller last m h percent e =
-    within (again_in m.notes) (credit percent m.notes) (percent * fresh_in m.notes) (renewals_in m.notes) (last - opening)
+    within (resent_in m.notes) (credit percent m.notes) (percent * fresh_in m.notes) (renewals_in m.notes) (last - opening)
     (h.credited.bounded percent e) h.credited.rare

@@ -6,7 +6,7 @@ use Rattle.srt_pub.specs.Publishing.{Terms, Publishing, acks, acks_at, noted}
 use Rattle.srt_pub.specs.Says.{says, body_bytes}
 use Rattle.srt_pub.specs.Calls.{listed}
 use Rattle.srt_pub.specs.Kept.{LogStandsFor}
-use Rattle.srt_pub.specs.Counting.{Counted, delivered_in, full_windows_in, one_if, with_full_window}
+use Rattle.srt_pub.specs.Counting.{Counted, delivered_in, full_window_acks_in, one_if, with_full_window}
 use Rattle.srt_pub.proofs.Counting.{counts_acks}
 use Rattle.srt_pub.specs.declared.counts.Counts.{Counts}
 use Rattle.srt_pub.specs.Stands.{StandsFor}
@@ -17,8 +17,8 @@ use Rattle.srt_pub.specs.declared.session.Publisher.{Publisher}
 acked : (terms : Terms) (initial opening stamp caller time room : ℕ) (p : Publisher) (m : Publishing) (log : Log) (counts : Counts)
     (is_full : Bool)
     → StandsFor terms initial opening stamp caller p m → room ≡ available terms.width m.receiving → counts ≡ with_full_window is_full p.counts
-    → full_windows_in (noted time (acks_at terms (ack_point terms.width m.receiving) room time m.notes) m.notes)
-    ≡ full_windows_in m.notes + one_if is_full
+    → full_window_acks_in (noted time (acks_at terms (ack_point terms.width m.receiving) room time m.notes) m.notes)
+    ≡ full_window_acks_in m.notes + one_if is_full
     → LogStandsFor terms m.receiving.front (ack_point terms.width m.receiving) log
     (noted time (acks_at terms (ack_point terms.width m.receiving) room time m.notes) m.notes) m.seen
     → StandsFor terms initial opening stamp caller (record p { log = log; counts = counts })

@@ -1,5 +1,5 @@
 use Rattle.std.proofs.Common.{◌∷◌, refl, sym, subst}
-use Rattle.srt_sub.specs.Counting.{AreSendings, fresh_in, again_in}
+use Rattle.srt_sub.specs.Counting.{AreSendings, fresh_in, resent_in}
 use Rattle.srt_sub.specs.Subscribing.{Sent}
 use Rattle.srt_sub.specs.declared.counts.Sendings.{Sendings}
 use Rattle.srt_sub.proofs.Counting.{sends}
@@ -17,6 +17,6 @@ returns c initial agreed notes r media drop again h =
       tries_are = h.tries_are;
       once = h.once;
       credit_is = c.note_sent.ensures agreed.resend_percent notes c.args.time r media again h.credit_is;
-      sendings_are = subst (λ (k : Sendings). AreSendings k (fresh_in (Sent c.args.time r ∷ notes)) (again_in (Sent c.args.time r ∷ notes)))
+      sendings_are = subst (λ (k : Sendings). AreSendings k (fresh_in (Sent c.args.time r ∷ notes)) (resent_in (Sent c.args.time r ∷ notes)))
           (sym c.send.ensures) (sends c.args.time c.args.again c.args.self.now.sendings r notes media again h.sendings_are);
     }
