@@ -15,13 +15,16 @@ use Rattle.srt_config.specs.declared.config.placed.Place.{Place}
 use Rattle.srt_config.specs.declared.config.placed.Place.TheVariants as place
 use Rattle.srt_config.specs.declared.config.keys.Key.TheVariants.{Bind, Workers, Status, Defaults, Route, Name, Mode, LatencyMs, Buffer, Sessions}
 use Rattle.srt_config.specs.declared.config.keys.Key.TheVariants.{Inbox, Outbox, OpenRound, CloseRound, Callers, PublishFrom, RequestFrom, PublishKey}
-use Rattle.srt_config.specs.declared.config.keys.Key.TheVariants.{RequestKey, Reserved, SessionsPerAddress, TakeoverMs, ResendPercent, Expect}
+use Rattle.srt_config.specs.declared.config.keys.Key.TheVariants.{RequestKey, Reserved, SessionsPerAddress, TakeoverMs, ResendPercent}
+use Rattle.srt_config.specs.declared.config.keys.Key.TheVariants.{PublishPassphrase, Pbkeylen, Expect}
 use Rattle.srt_config.specs.KeyTable.{key_name}
 use Rattle.srt_config.specs.FirstFault.{Fault, UnknownKey, Missing, WrongKind, OutOfRange, BadName, RepeatedName, ◌>>=◌}
 use Rattle.srt_config.specs.Keys.{is_key, lesser, least_unknown, none_unknown, known, present, of_kind, value_at, text_at, number_at, optional}
 use Rattle.srt_config.specs.Keys.{optional_number_at, given_or_0, optional_flag_at, given_or_false}
 use Rattle.srt_config.specs.Access.{list_at, key_at, access_at}
 use Rattle.srt_config.specs.Rules.{callers_at, draft_if_none, most_reserved, rules_at}
+use Rattle.srt_config.specs.Encryption.{passphrase_at, key_length_at, has_passphrase, encryption_in, encryption_at, default_encryption_at}
+use Rattle.srt_config.specs.Encryption.{with_encryption}
 use Rattle.srt_config.specs.Routes.{name_in, name_at, mode_at, Numbers, numbers_at, schedule_of, schedule_at, route_keys, terms_with, with_access, with_rules}
 use Rattle.srt_config.specs.Routes.{Planned, planned, route_at, Routes, no_routes, with_route, are_tables, count, routes_from, routes_in, routes_at}
 use Rattle.srt_config.specs.Defaults.{default_keys, optional_mode_at, numbers_right, limits_right, defaults_right, defaults_at, right_if_given}
@@ -219,6 +222,14 @@ rules_lead at table n callers is later =
     on at (optional_number_at TakeoverMs 100 5000 table) _ _ _ _ (one at _ _) (λ takeover_ms e.
     last at (optional_number_at ResendPercent 5 1000 table) _ _ _ (one at _ _)))))
 
+encryption_leads : (at : Place) (allowed : Bool) (table : Members) (later : List Placed) →
+    LeadsTo at (encryption_in allowed table)
+    (told at (fault_if (passphrase_at PublishPassphrase table)) ++ (told at (fault_if (key_length_at allowed table)) ++ later)) later
+unfolding encryption_in
+encryption_leads at allowed table later =
+    on at (passphrase_at PublishPassphrase table) _ _ _ _ (one at _ _) (λ publish e.
+    last at (key_length_at allowed table) _ _ _ (one at _ _))
+
 -- the names of routes before
 any_name : (before : List Terms) (text : List ℕ) →
     list_any (λ (name : List ℕ). bytes_eq name text) (map (λ (t : Terms). t.name) before) ≡ is_taken text before
@@ -259,7 +270,7 @@ abbrev behind : (number : ℕ) (before : List Terms) (table : Members) → List 
 behind number before table =
     each (place.Route number) (route_fault (map (λ (t : Terms). t.name) before) table)
     (Mode ∷ LatencyMs ∷ Buffer ∷ Sessions ∷ Inbox ∷ Outbox ∷ OpenRound ∷ CloseRound ∷ Callers ∷ PublishFrom ∷ RequestFrom ∷
-    PublishKey ∷ RequestKey ∷ Reserved ∷ SessionsPerAddress ∷ TakeoverMs ∷ ResendPercent ∷ Expect ∷ [])
+    PublishKey ∷ RequestKey ∷ Reserved ∷ SessionsPerAddress ∷ TakeoverMs ∷ ResendPercent ∷ PublishPassphrase ∷ Pbkeylen ∷ Expect ∷ [])
 
 -- the faults of a route, whose names before are those of these routes
 route_leads : (number : ℕ) (before : List Terms) (table own : Members) →
@@ -283,7 +294,8 @@ route_leads number before table own =
     on at (callers_at table) _ _ _ _ (one at _ _) (λ callers e.
     on at (access_at table) _ _ _ _ (access_leads at table _) (λ access e.
     on at (rules_at numbers.sessions (draft_if_none callers) table) _ _ _ _ (rules_lead at table numbers (draft_if_none callers) is _) (λ rules e.
-    last at (optional_flag_at Expect table) _ _ _ (one at _ _)))))))))))
+    on at (encryption_at table) _ _ _ _ (encryption_leads at (has_passphrase table) table _) (λ encryption e.
+    last at (optional_flag_at Expect table) _ _ _ (one at _ _))))))))))))
 
 -- the faults of the defaults
 optional_numbers_lead : (at : Place) (table : Members) (later : List Placed) →
@@ -328,7 +340,8 @@ defaults_lead table =
     on at (callers_at table) _ _ _ _ (one at _ _) (λ callers e.
     on at (access_at table) _ _ _ _ (access_leads at table _) (λ access e.
     on at (limits_right table) _ _ _ _ (limits_lead at table _) (λ u e.
-    last at (optional_flag_at Expect table) _ _ _ (one at _ _)))))))
+    on at (default_encryption_at table) _ _ _ _ (encryption_leads at true table _) (λ encryption e.
+    last at (optional_flag_at Expect table) _ _ _ (one at _ _))))))))
 
 -- the faults of the defaults that there are, and what follows
 checked_lead : (defaults : Option Members) (later : List Placed) →
@@ -374,9 +387,11 @@ name_was before table route h =
     let callers = passed (callers_at table) _ route schedule.2 in
     let access = passed (access_at table) _ route callers.2 in
     let rules = passed (rules_at numbers.0.sessions (draft_if_none callers.0) table) _ route access.2 in
-    let expect = passed (optional_flag_at Expect table) _ route rules.2 in
+    let encryption = passed (encryption_at table) _ route rules.2 in
+    let expect = passed (optional_flag_at Expect table) _ route encryption.2 in
     let made : Planned =
-    planned (with_rules rules.0 (with_access access.0 (terms_with name.0 mode.0 numbers.0))) schedule.0 (given_or_false expect.0) in
+    planned (with_rules rules.0 (with_access (with_encryption encryption.0 access.0) (terms_with name.0 mode.0 numbers.0))) schedule.0
+    (given_or_false expect.0) in
     let same : made ≡ route = ok_is made route expect.2 in
     let text = passed (text_at Name table) _ name.0 name.1 in
     let is : text.0 ≡ name.0 = kept (is_name text.0) (is_taken text.0 before) text.0 name.0 text.2 in

@@ -1,13 +1,17 @@
 -- The fault that is returned is that of the first key that has one.
-use Rattle.std.proofs.Common.{◌&&◌, is_some, ◌≡◌, ℕ, ◌+◌, ℤ, pos, negsuc, ◌⊎◌, inl, inr, Bool, true, false, not, codes, List, [], ◌∷◌, ◌++◌}
-use Rattle.std.proofs.Common.{Option, Some, None, option_and_then, Result, Ok, Err, refl, sym, ap, subst, ◌∙◌, if◌then◌else◌}
+use Rattle.std.proofs.Common.{◌&&◌, ◌==◌, is_some, ◌≡◌, ℕ, ◌+◌, ℤ, pos, negsuc, ◌⊎◌, inl, inr, Bool, true, false, not, codes, List, [], ◌∷◌, ◌++◌, length}
+use Rattle.std.proofs.Common.{Option, Some, None, option_and_then, Result, Ok, Err, refl, sym, ap, subst, ◌∙◌, if◌then◌else◌, arith}
 use Rattle.std.specs.Str.{bytes_eq}
+use Rattle.std.proofs.lemmas.Bool.Decides.{nat_tests}
 use Rattle.toml.specs.Data.{Data, Members, Items, no_items, item, get_member, as_str, as_integer, as_bool, as_array, as_table}
 use Rattle.hex.specs.Hex.{decode_sized}
 use Rattle.hex.specs.declared.error.FromHexError.{FromHexError}
 use Rattle.srt_types.specs.Entries.{is_between, is_name}
 use Rattle.srt_types.specs.Terms.{Terms}
 use Rattle.srt_types.specs.declared.shared.Network.{Network}
+use Rattle.srt_types.specs.declared.shared.KeyLength.{KeyLength}
+use Rattle.srt_types.specs.declared.shared.KeyLength.TheVariants.{Aes128, Aes192, Aes256}
+use Rattle.srt_types.specs.Access.{bytes_in}
 use Rattle.srt_types.specs.declared.shared.Mode.{Mode as TheMode}
 use Rattle.srt_types.specs.declared.shared.Mode.TheVariants as mode
 use Rattle.srt_types.specs.declared.shared.Callers.{Callers as TheCallers}
@@ -17,10 +21,13 @@ use Rattle.srt_config.specs.declared.config.keys.Key.{Key}
 use Rattle.srt_config.specs.declared.config.keys.Key.TheVariants.{Secret, Bind, Workers, Status, Defaults, Route, Name, Mode, LatencyMs, Buffer}
 use Rattle.srt_config.specs.declared.config.keys.Key.TheVariants.{Sessions, Inbox, Outbox, OpenRound, CloseRound, Callers}
 use Rattle.srt_config.specs.declared.config.keys.Key.TheVariants.{PublishFrom, RequestFrom, PublishKey, RequestKey, Reserved}
-use Rattle.srt_config.specs.declared.config.keys.Key.TheVariants.{SessionsPerAddress, TakeoverMs, ResendPercent, Expect}
+use Rattle.srt_config.specs.declared.config.keys.Key.TheVariants.{SessionsPerAddress, TakeoverMs, ResendPercent, PublishPassphrase, Pbkeylen, Expect}
 use Rattle.srt_config.specs.Access.{network_in, are_texts, member_count, networked, networks_from, list_in, list_value, list_at}
 use Rattle.srt_config.specs.Access.{is_key_text, key_in, key_value, key_at, callers_of, access_at}
 use Rattle.srt_config.specs.Rules.{callers_in, callers_value, callers_at, draft_if_none, most_reserved, rules_with, rules_at}
+use Rattle.srt_config.specs.Encryption.{passphrase_in, passphrase_value, passphrase_at, lengthened, key_length_in, key_length_value}
+use Rattle.srt_config.specs.Encryption.{key_length_at, has_passphrase, encryption_with, encryption_in, encryption_at, default_encryption_at}
+use Rattle.srt_config.specs.Encryption.{with_encryption}
 use Rattle.srt_config.specs.KeyTable.{key_name}
 use Rattle.srt_config.specs.FirstFault.{Fault, UnknownKey, Missing, WrongKind, OutOfRange, BadName, RepeatedName, BadSecret, BadAddress, ◌>>=◌}
 use Rattle.srt_config.specs.Address.{Address, address_in}
@@ -36,7 +43,7 @@ use Rattle.srt_config.specs.Config.{settings_at}
 use Rattle.srt_config.specs.KeyFaults.{Faulty, HasNone, ◌⊳◌, Unknown, AtKey, AtOptional, NoSecret, NoAddress, Outside, NoName, NoMode}
 use Rattle.srt_config.specs.KeyFaults.{InNumbers, number_or_0, opening_in, InSchedule, is_network, are_networks, NoNetworks, NoKeyText}
 use Rattle.srt_config.specs.KeyFaults.{InAccess, NoCallers, sessions_in, InRules, InRoute, InRoutes, NoRoutes, NoRoutesOrIn, InTable}
-use Rattle.srt_config.specs.KeyFaults.{InOptionalNumbers, InLimits, InDefaults, AnyTruth}
+use Rattle.srt_config.specs.KeyFaults.{InOptionalNumbers, InLimits, InDefaults, NoPassphrase, NoKeyLength, InEncryption, AnyTruth}
 use Rattle.srt_config.specs.KeyFaults.{IsFirstFault}
 use Rattle.srt_config.proofs.Sound.{passed}
 
@@ -469,6 +476,48 @@ rules_tells sessions callers table is =
     last (optional_number_at ResendPercent 5 1000 table) (rules_with callers reserved per_address takeover_ms) _
     (optional_number_tells ResendPercent 5 1000 table))))
 
+-- the encryption
+passphrase_own : (key : Key) (text : List ℕ) (t : Bool) → is_between 10 79 (length text) ≡ t
+    → Tells (if t then Ok text else failed {A = List ℕ} (OutOfRange key)) (NoPassphrase key text)
+passphrase_own key text true is = right text (NoPassphrase key text) (λ fault k. clash (sym k.1 ∙ is))
+passphrase_own key text false is = wrong (OutOfRange key) (NoPassphrase key text) (refl, is) (λ fault k. k.0)
+
+passphrase_tells : (key : Key) (table : Members) → Tells (passphrase_at key table) (AtOptional key as_str (NoPassphrase key) table)
+unfolding passphrase_at passphrase_value passphrase_in text_value
+passphrase_tells key table =
+    at_optional key as_str (passphrase_in key) (NoPassphrase key) table (λ text. passphrase_own key text (is_between 10 79 (length text)) refl)
+
+equal : (n m : ℕ) → (n == m) ≡ true → n ≡ m
+equal n m e = grind (arith, nat_tests, e)
+
+-- a number of bytes that is none of these is that of no length
+no_length : (n : ℕ) → (n == 16) ≡ false → (n == 24) ≡ false → (n == 32) ≡ false → (size : KeyLength) → pos n ≡ pos (bytes_in size) → ⊥
+no_length n a b c Aes128 e = clash (sym a ∙ ap (λ (m : ℕ). m == 16) (own_pos n 16 e))
+no_length n a b c Aes192 e = clash (sym b ∙ ap (λ (m : ℕ). m == 24) (own_pos n 24 e))
+no_length n a b c Aes256 e = clash (sym c ∙ ap (λ (m : ℕ). m == 32) (own_pos n 32 e))
+
+length_own : (n : ℕ) (t u v : Bool) → (n == 16) ≡ t → (n == 24) ≡ u → (n == 32) ≡ v →
+    Tells (lengthened (if t then Some Aes128 else if u then Some Aes192 else if v then Some Aes256 else None)) (NoKeyLength true (pos n))
+length_own n true u v a b c = right Aes128 _ (λ fault k. k.1 Aes128 (ap (λ (m : ℕ). pos m) (equal n 16 a)) refl)
+length_own n false true v a b c = right Aes192 _ (λ fault k. k.1 Aes192 (ap (λ (m : ℕ). pos m) (equal n 24 b)) refl)
+length_own n false false true a b c = right Aes256 _ (λ fault k. k.1 Aes256 (ap (λ (m : ℕ). pos m) (equal n 32 c)) refl)
+length_own n false false false a b c = wrong (OutOfRange Pbkeylen) _ (refl, λ size e is_it. no_length n a b c size e) (λ fault k. k.0)
+
+key_length_own : (allowed : Bool) (n : ℤ) → Tells (key_length_in allowed n) (NoKeyLength allowed n)
+key_length_own true (pos n) = length_own n (n == 16) (n == 24) (n == 32) refl refl refl
+key_length_own true (negsuc n) = wrong (OutOfRange Pbkeylen) _ (refl, λ size e is_it. neg_pos n (bytes_in size) e) (λ fault k. k.0)
+key_length_own false n = wrong (OutOfRange Pbkeylen) _ (refl, λ size e is_it. clash is_it) (λ fault k. k.0)
+
+key_length_tells : (allowed : Bool) (table : Members) → Tells (key_length_at allowed table) (AtOptional Pbkeylen as_integer (NoKeyLength allowed) table)
+unfolding key_length_at key_length_value
+key_length_tells allowed table = at_optional Pbkeylen as_integer (key_length_in allowed) (NoKeyLength allowed) table (key_length_own allowed)
+
+encryption_tells : (allowed : Bool) (table : Members) → Tells (encryption_in allowed table) (InEncryption allowed table)
+unfolding encryption_in
+encryption_tells allowed table =
+    on (passphrase_at PublishPassphrase table) _ _ _ (passphrase_tells PublishPassphrase table) (λ publish e.
+    last (key_length_at allowed table) (encryption_with publish) _ (key_length_tells allowed table))
+
 -- a truth value, which has no fault of its own
 truth_is : (key : Key) (o : Option Data) → optional (λ value. of_kind key (as_bool value)) o
     ≡ optional (λ value. of_kind key (as_bool value) >>= λ given. Ok given) o
@@ -498,9 +547,10 @@ route_tells before table =
     on (access_at table) _ _ _ (access_tells table) (λ access e.
     on (rules_at numbers.sessions (draft_if_none callers) table) _ _ _
     (rules_tells numbers.sessions (draft_if_none callers) table (sessions_are table numbers is)) (λ rules e.
+    on (encryption_at table) _ _ _ (encryption_tells (has_passphrase table) table) (λ encryption e.
     last (optional_flag_at Expect table)
-    (λ expect. planned (with_rules rules (with_access access (terms_with name mode numbers))) schedule (given_or_false expect)) _
-    (flag_tells Expect table)))))))))
+    (λ expect. planned (with_rules rules (with_access (with_encryption encryption access) (terms_with name mode numbers))) schedule
+    (given_or_false expect)) _ (flag_tells Expect table))))))))))
 
 some_table : (table other : Members) → Some table ≡ Some other → table ≡ other
 some_table table other e = cc
@@ -621,7 +671,8 @@ defaults_tell table =
     on (callers_at table) _ _ _ (callers_tells table) (λ callers e.
     on (access_at table) _ _ _ (access_tells table) (λ access e.
     on (limits_right table) _ _ _ (limits_tell table) (λ u e.
-    last (optional_flag_at Expect table) (λ expect. tt) _ (flag_tells Expect table)))))))
+    on (default_encryption_at table) _ _ _ (encryption_tells true table) (λ encryption e.
+    last (optional_flag_at Expect table) (λ expect. tt) _ (flag_tells Expect table))))))))
 
 -- the table of defaults is read, and then checked
 check_is : (o : Option Data) → (optional (λ value. of_kind Defaults (as_table value)) o >>= right_if_given)

@@ -4,6 +4,8 @@ pub mod FirstByte
 pub mod TableKeys
 pub mod RouteItems
 pub mod Sound
+pub mod Secured
+pub mod Rows
 pub mod Sameness
 pub mod SameFile
 pub mod Compared

@@ -15,7 +15,7 @@ use Rattle.srt_config.specs.Config.{Settings}
 use Rattle.srt_config.specs.SameKeys.{same_length}
 use Rattle.srt_config.specs.Changes.{place_of, has_terms, has_schedule, has_keys_at, change_at, change_of}
 use Rattle.srt_config.specs.Readmission.{same_secrets, same_besides, has_terms_besides, has_keys_besides, is_readmission, readmitted}
-use Rattle.srt_config.specs.Readmission.{IsReadmission, ReadmissionsAreMeant, ReadmissionsReopen}
+use Rattle.srt_config.specs.Readmission.{IsReadmission, ReadmissionsAreMeant, ReadmissionsReopen, HaveSameSecrets, OtherSecretsReopen}
 use Rattle.srt_config.proofs.Changed.{same_route, same_rounds, both}
 use Rattle.srt_config.proofs.Sameness.{if_decides, mode_decides, length_decides, numbers_decide, rules_decide, terms_decide, schedules_decide}
 
@@ -138,3 +138,37 @@ readmissions_are_meant before place terms schedule = (means before place terms s
 
 pub readmissions_reopen : ReadmissionsReopen
 readmissions_reopen before place terms schedule at h = reopens before place terms schedule at h
+
+-- a route with other secrets is neither one that stays nor one that is readmitted
+module _ (before : Settings) (place : ℕ) (old terms : Terms) (schedule : Schedule) (there : slice_get before.routes place ≡ Some old)
+    (other : HaveSameSecrets old.access terms.access → ⊥) where
+  not_the_same : (b : Bool) → has_keys_at before place terms schedule ≡ b → cond b (Stays place) (Reopens place) ≡ Reopens place
+  not_the_same true h =
+      let parts = and_parts (has_terms terms (slice_get before.routes place)) (has_schedule schedule (slice_get before.schedules place)) h in
+      let same = some_is old terms (sym there ∙ same_route terms (slice_get before.routes place) parts.0) in
+      absurd (other (
+        ap (λ (e : Terms). e.access.publish.passphrase) same,
+        ap (λ (e : Terms). e.access.request.passphrase) same,
+        ap (λ (e : Terms). e.access.key_length) same,
+      ))
+  not_the_same false h = refl
+
+  not_readmitted : (b : Bool) → is_readmission before place terms schedule ≡ b → b ≡ false
+  not_readmitted false h = refl
+  not_readmitted true h =
+      let (found, at, besides, then, differs) = means before place terms schedule h in
+      let same : readmitted terms old ≡ terms =
+      ap (λ (e : Terms). readmitted terms e) (some_is old found (sym there ∙ at)) ∙ besides in
+      absurd (other (
+        ap (λ (e : Terms). e.access.publish.passphrase) same,
+        ap (λ (e : Terms). e.access.request.passphrase) same,
+        ap (λ (e : Terms). e.access.key_length) same,
+      ))
+
+  reopens_with_secrets : place_of terms.name before.routes ≡ Some place → change_of before terms schedule ≡ Reopens place
+  unfolding change_of
+  reopens_with_secrets at = ap (change_at before terms schedule) at ∙ not_the_same (has_keys_at before place terms schedule) refl
+
+pub other_secrets_reopen : OtherSecretsReopen
+other_secrets_reopen before place old terms schedule at there other =
+    (reopens_with_secrets before place old terms schedule there other at, not_readmitted before place old terms schedule there other _ refl)

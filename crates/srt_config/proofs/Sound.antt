@@ -23,6 +23,7 @@ use Rattle.srt_config.specs.declared.config.placed.PlacedFault.{PlacedFault}
 use Rattle.srt_config.specs.declared.config.routes.ReadRoutes.{ReadRoutes}
 use Rattle.srt_config.specs.Access.{access_at}
 use Rattle.srt_config.specs.Rules.{callers_at, draft_if_none, most_reserved, rules_with, rules_at}
+use Rattle.srt_config.specs.Encryption.{encryption_at, with_encryption}
 use Rattle.srt_config.specs.KeyTable.{key_name}
 use Rattle.srt_config.specs.FirstFault.{Fault, WrongKind, OutOfRange, BadName, RepeatedName, ◌>>=◌}
 use Rattle.srt_config.specs.FaultPlace.{GivesAt}
@@ -192,8 +193,10 @@ route_fits before table e h =
     let r = passed (rules_at s.0.sessions (draft_if_none c.0) table) _ e a.2 in
     let numbers = numbers_fit n.0 m.0 table s.0 s.1 in
     let limited = numbers.with_any r.0 (rules_fit s.0.sessions (draft_if_none c.0) table r.0 numbers.sessions r.1) in
-    let x = passed (optional_flag_at Expect table) _ e r.2 in
-    let same : planned (with_rules r.0 (with_access a.0 (terms_with n.0 m.0 s.0))) t.0 (given_or_false x.0) ≡ e = own_planned _ e x.2 in
+    let y = passed (encryption_at table) _ e r.2 in
+    let x = passed (optional_flag_at Expect table) _ e y.2 in
+    let same : planned (with_rules r.0 (with_access (with_encryption y.0 a.0) (terms_with n.0 m.0 s.0))) t.0 (given_or_false x.0) ≡ e =
+    own_planned _ e x.2 in
     subst (λ (p : Planned). Fits before p.terms × (closes_later p.schedule ≡ true)) same
     (record { named = fits.0; free = fits.1; limited = limited }, schedule_fits table t.0 t.1)
 

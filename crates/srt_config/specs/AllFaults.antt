@@ -13,7 +13,8 @@ use Rattle.srt_config.specs.declared.config.placed.PlacedFault.{PlacedFault}
 use Rattle.srt_config.specs.declared.config.keys.Key.{Key}
 use Rattle.srt_config.specs.declared.config.keys.Key.TheVariants.{Secret, Bind, Workers, Status, Defaults, Route, Name, Mode, LatencyMs, Buffer}
 use Rattle.srt_config.specs.declared.config.keys.Key.TheVariants.{Sessions, Inbox, Outbox, OpenRound, CloseRound, Callers, PublishFrom}
-use Rattle.srt_config.specs.declared.config.keys.Key.TheVariants.{RequestFrom, PublishKey, RequestKey, Reserved, Expect}
+use Rattle.srt_config.specs.declared.config.keys.Key.TheVariants.{RequestFrom, PublishKey, RequestKey, Reserved}
+use Rattle.srt_config.specs.declared.config.keys.Key.TheVariants.{PublishPassphrase, Pbkeylen, Expect}
 use Rattle.srt_config.specs.KeyTable.{key_name, limits_of}
 use Rattle.srt_config.specs.FirstFault.{Fault, Toml, UnknownKey, Missing, WrongKind, OutOfRange, BadName, RepeatedName, BadSecret, BadAddress}
 use Rattle.srt_config.specs.FirstFault.{OutOfMemory, plain_fault, ◌>>=◌}
@@ -21,6 +22,7 @@ use Rattle.srt_config.specs.Keys.{is_key, value_at, of_kind, text_at, key_number
 use Rattle.srt_config.specs.Keys.{optional_flag_at}
 use Rattle.srt_config.specs.Access.{list_at, key_at}
 use Rattle.srt_config.specs.Rules.{callers_at, most_reserved}
+use Rattle.srt_config.specs.Encryption.{passphrase_at, key_length_at, has_passphrase}
 use Rattle.srt_config.specs.Routes.{mode_at, route_keys, are_tables, count}
 use Rattle.srt_config.specs.Defaults.{default_keys, optional_mode_at, defaults_at, table_at, items_at}
 use Rattle.srt_config.specs.Config.{top_keys, secret_at, address_at, optional_address_at}
@@ -117,6 +119,8 @@ default_fault table PublishFrom = fault_if (list_at PublishFrom table)
 default_fault table RequestFrom = fault_if (list_at RequestFrom table)
 default_fault table PublishKey = fault_if (key_at PublishKey table)
 default_fault table RequestKey = fault_if (key_at RequestKey table)
+default_fault table PublishPassphrase = fault_if (passphrase_at PublishPassphrase table)
+default_fault table Pbkeylen = fault_if (key_length_at true table)
 default_fault table Expect = fault_if (optional_flag_at Expect table)
 default_fault table key = fault_if (optional_key_number_at key table)
 
@@ -155,6 +159,7 @@ route_fault names table Inbox = fault_if (key_number_at Inbox table)
 route_fault names table Outbox = fault_if (key_number_at Outbox table)
 route_fault names table CloseRound = fault_if (close_round_at table)
 route_fault names table Reserved = fault_if (reserved_at table)
+route_fault names table Pbkeylen = fault_if (key_length_at (has_passphrase table) table)
 route_fault names table key = default_fault table key
 
 -- one of these faults is about this key

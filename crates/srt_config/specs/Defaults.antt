@@ -7,12 +7,14 @@ use Rattle.srt_types.specs.declared.shared.Mode.{Mode as TheMode}
 use Rattle.srt_config.specs.declared.config.keys.Key.{Key}
 use Rattle.srt_config.specs.declared.config.keys.Key.TheVariants.{Defaults, Route, Mode, LatencyMs, Buffer, Sessions, Inbox, Outbox}
 use Rattle.srt_config.specs.declared.config.keys.Key.TheVariants.{OpenRound, CloseRound, Callers, PublishFrom, RequestFrom, PublishKey}
-use Rattle.srt_config.specs.declared.config.keys.Key.TheVariants.{RequestKey, Reserved, SessionsPerAddress, TakeoverMs, ResendPercent, Expect}
+use Rattle.srt_config.specs.declared.config.keys.Key.TheVariants.{RequestKey, Reserved, SessionsPerAddress, TakeoverMs, ResendPercent}
+use Rattle.srt_config.specs.declared.config.keys.Key.TheVariants.{PublishPassphrase, Pbkeylen, Expect}
 use Rattle.srt_config.specs.KeyTable.{key_name}
 use Rattle.srt_config.specs.FirstFault.{Fault, ◌>>=◌}
 use Rattle.srt_config.specs.Keys.{known, optional, text_value, of_kind, optional_key_number_at, optional_flag_at}
 use Rattle.srt_config.specs.Access.{access_at}
 use Rattle.srt_config.specs.Rules.{callers_at}
+use Rattle.srt_config.specs.Encryption.{default_encryption_at}
 use Rattle.srt_config.specs.Routes.{mode_in}
 
 -- the members with this value at this key, before the first greater key in the order of bytes
@@ -65,7 +67,7 @@ with_defaults members = with_routes (completed_by (table_at Defaults members) (i
 abbrev pub default_keys : List Key
 default_keys =
     Mode ∷ LatencyMs ∷ Buffer ∷ Sessions ∷ Inbox ∷ Outbox ∷ OpenRound ∷ CloseRound ∷ Callers ∷ PublishFrom ∷ RequestFrom ∷
-    PublishKey ∷ RequestKey ∷ Reserved ∷ SessionsPerAddress ∷ TakeoverMs ∷ ResendPercent ∷ Expect ∷ []
+    PublishKey ∷ RequestKey ∷ Reserved ∷ SessionsPerAddress ∷ TakeoverMs ∷ ResendPercent ∷ PublishPassphrase ∷ Pbkeylen ∷ Expect ∷ []
 
 unfoldable pub mode_value : Data → Result TheMode Fault
 mode_value value = text_value Mode value >>= λ text. mode_in text
@@ -104,6 +106,7 @@ defaults_right members =
     callers_at members >>= λ _.
     access_at members >>= λ _.
     limits_right members >>= λ _.
+    default_encryption_at members >>= λ _.
     optional_flag_at Expect members >>= λ _.
     Ok tt
 

@@ -1,9 +1,11 @@
 -- The faults of a configuration, key by key: stated without the functions that read it (our choice).
-use Rattle.std.specs.Prelude.{◌≡◌, ℕ, ◌+◌, ℤ, pos, negsuc, ◌⊎◌, ◌↔◌, Bool, true, false, ◌&&◌, is_some, codes, List, [], ◌∷◌, ◌++◌, Option}
+use Rattle.std.specs.Prelude.{◌≡◌, ℕ, ◌+◌, ℤ, pos, negsuc, ◌⊎◌, ◌↔◌, Bool, true, false, ◌&&◌, is_some, codes, List, [], ◌∷◌, ◌++◌, length, Option}
 use Rattle.std.specs.Prelude.{Some, None, option_and_then, Ok, Err}
 use Rattle.std.specs.Str.{bytes_eq}
 use Rattle.toml.specs.Data.{Data, Members, Items, no_items, item, get_member, as_str, as_integer, as_bool, as_array, as_table}
 use Rattle.hex.specs.Hex.{decode_sized}
+use Rattle.srt_types.specs.declared.shared.KeyLength.{KeyLength}
+use Rattle.srt_types.specs.Access.{bytes_in}
 use Rattle.srt_types.specs.Entries.{is_between, is_name}
 use Rattle.srt_types.specs.Terms.{Terms}
 use Rattle.srt_lobby.specs.Opening.{is_taken}
@@ -11,9 +13,10 @@ use Rattle.srt_config.specs.declared.config.keys.Key.{Key}
 use Rattle.srt_config.specs.declared.config.keys.Key.TheVariants.{Secret, Bind, Workers, Status, Defaults, Route, Name, Mode, LatencyMs, Buffer}
 use Rattle.srt_config.specs.declared.config.keys.Key.TheVariants.{Sessions, Inbox, Outbox, OpenRound, CloseRound, Callers}
 use Rattle.srt_config.specs.declared.config.keys.Key.TheVariants.{PublishFrom, RequestFrom, PublishKey, RequestKey, Reserved}
-use Rattle.srt_config.specs.declared.config.keys.Key.TheVariants.{SessionsPerAddress, TakeoverMs, ResendPercent, Expect}
+use Rattle.srt_config.specs.declared.config.keys.Key.TheVariants.{SessionsPerAddress, TakeoverMs, ResendPercent, PublishPassphrase, Pbkeylen, Expect}
 use Rattle.srt_config.specs.Access.{network_in, are_texts, member_count, is_key_text}
 use Rattle.srt_config.specs.Rules.{most_reserved}
+use Rattle.srt_config.specs.Encryption.{has_passphrase}
 use Rattle.srt_config.specs.KeyTable.{key_name}
 use Rattle.srt_config.specs.FirstFault.{Fault, UnknownKey, Missing, WrongKind, OutOfRange, BadName, RepeatedName, BadSecret, BadAddress}
 use Rattle.srt_config.specs.Address.{address_in}
@@ -159,6 +162,20 @@ InLimits table =
     AtOptional TakeoverMs as_integer (Outside TakeoverMs 100 5000) table ⊳
     AtOptional ResendPercent as_integer (Outside ResendPercent 5 1000) table
 
+-- a text that isn't a passphrase, whatever its characters are
+abbrev pub NoPassphrase : Key → List ℕ → Faulty
+NoPassphrase key text fault = (fault ≡ OutOfRange key) × (is_between 10 79 (length text) ≡ false)
+
+-- a number that isn't the length of keys of a cipher, or any number where there may be none
+abbrev pub NoKeyLength : (allowed : Bool) → ℤ → Faulty
+NoKeyLength allowed n fault = (fault ≡ OutOfRange Pbkeylen) × ((size : KeyLength) → n ≡ pos (bytes_in size) → allowed ≡ true → ⊥)
+
+-- the keys with the encryption of a route, whose length of keys is allowed or isn't
+abbrev pub InEncryption : (allowed : Bool) → Members → Faulty
+InEncryption allowed table =
+    AtOptional PublishPassphrase as_str (NoPassphrase PublishPassphrase) table ⊳
+    AtOptional Pbkeylen as_integer (NoKeyLength allowed) table
+
 -- no truth value has a fault
 abbrev pub AnyTruth : Bool → Faulty
 AnyTruth given fault = ⊥
@@ -174,6 +191,7 @@ InRoute before table =
     AtOptional Callers as_str NoCallers table ⊳
     InAccess table ⊳
     InRules table ⊳
+    InEncryption (has_passphrase table) table ⊳
     AtOptional Expect as_bool AnyTruth table
 
 -- the routes one after the other: the first table has this fault, or it is a route and the others have the fault
@@ -201,6 +219,7 @@ InDefaults table =
     AtOptional Callers as_str NoCallers table ⊳
     InAccess table ⊳
     InLimits table ⊳
+    InEncryption true table ⊳
     AtOptional Expect as_bool AnyTruth table
 
 -- the keys of the whole table, in their order

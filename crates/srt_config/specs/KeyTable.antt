@@ -4,7 +4,7 @@ use Rattle.srt_config.specs.declared.config.keys.Key.{Key}
 use Rattle.srt_config.specs.declared.config.keys.Key.TheVariants.{Secret, Bind, Workers, Status, Defaults, Route, Name, Mode, LatencyMs, Buffer}
 use Rattle.srt_config.specs.declared.config.keys.Key.TheVariants.{Sessions, Inbox, Outbox, OpenRound, CloseRound, Callers, PublishFrom, RequestFrom}
 use Rattle.srt_config.specs.declared.config.keys.Key.TheVariants.{PublishKey, RequestKey, Reserved, SessionsPerAddress, TakeoverMs}
-use Rattle.srt_config.specs.declared.config.keys.Key.TheVariants.{ResendPercent, Expect}
+use Rattle.srt_config.specs.declared.config.keys.Key.TheVariants.{ResendPercent, PublishPassphrase, Pbkeylen, Expect}
 use Rattle.srt_config.specs.declared.config.keys.ValueKind.{ValueKind}
 use Rattle.srt_config.specs.declared.config.keys.ValueKind.TheVariants.{Text, Number, Boolean, Networks, Table, Tables}
 use Rattle.srt_config.specs.declared.config.keys.Limits.{Limits}
@@ -35,6 +35,8 @@ key_name Reserved = codes "reserved"
 key_name SessionsPerAddress = codes "sessions_per_address"
 key_name TakeoverMs = codes "takeover_ms"
 key_name ResendPercent = codes "resend_percent"
+key_name PublishPassphrase = codes "publish_passphrase"
+key_name Pbkeylen = codes "pbkeylen"
 key_name Expect = codes "expect"
 
 -- the kind of a key's value
@@ -63,13 +65,15 @@ kind_of Reserved = Number
 kind_of SessionsPerAddress = Number
 kind_of TakeoverMs = Number
 kind_of ResendPercent = Number
+kind_of PublishPassphrase = Text
+kind_of Pbkeylen = Number
 kind_of Expect = Boolean
 
 abbrev pub between : (least most : ℕ) → Limits
 between least most = record { least = least; most = most }
 
 -- the limits of a key's value: of a number its value, of a text its bytes, of a list its members. An address or one of two texts
--- has no limit but its form, and the table of defaults and a truth value none
+-- has no limit but its form, and the table of defaults and a truth value none. Of the numbers within those of pbkeylen three are allowed
 abbrev pub limits_of : Key → Limits
 limits_of Secret = between 64 64
 limits_of Bind = between 0 4_294_967_295
@@ -95,6 +99,8 @@ limits_of Reserved = between 0 2
 limits_of SessionsPerAddress = between 1 17
 limits_of TakeoverMs = between 100 5000
 limits_of ResendPercent = between 5 1000
+limits_of PublishPassphrase = between 10 79
+limits_of Pbkeylen = between 16 32
 limits_of Expect = between 0 4_294_967_295
 
 abbrev pub both_texts : Choices → List ℕ × List ℕ
@@ -126,9 +132,11 @@ choices_of Reserved = None
 choices_of SessionsPerAddress = None
 choices_of TakeoverMs = None
 choices_of ResendPercent = None
+choices_of PublishPassphrase = None
+choices_of Pbkeylen = None
 choices_of Expect = None
 
--- the values of the secret, of the keys of roles and of the defaults, which may have such keys, are printed nowhere
+-- the values of the secret, of the keys and passphrases of roles and of the defaults, which may have such keys, are printed nowhere
 abbrev pub is_private : Key → Bool
 is_private Secret = true
 is_private Bind = false
@@ -154,4 +162,6 @@ is_private Reserved = false
 is_private SessionsPerAddress = false
 is_private TakeoverMs = false
 is_private ResendPercent = false
+is_private PublishPassphrase = true
+is_private Pbkeylen = false
 is_private Expect = false

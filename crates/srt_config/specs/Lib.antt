@@ -8,12 +8,14 @@ pub mod Address
 pub mod AddressParts
 pub mod Access
 pub mod Rules
+pub mod Encryption
 pub mod Routes
 pub mod Defaults
 pub mod Size
 pub mod RouteNumbers
 pub mod Config
 pub mod DefaultLaws
+pub mod EncryptionLaws
 pub mod SameKeys
 pub mod Changes
 pub mod ChangeLaws

@@ -57,3 +57,14 @@ abbrev pub ReadmissionsReopen : Type 0
 ReadmissionsReopen =
     (before : Settings) (place : ℕ) (terms : Terms) (schedule : Schedule) → place_of terms.name before.routes ≡ Some place →
     is_readmission before place terms schedule ≡ true → change_of before terms schedule ≡ Reopens place
+
+-- two routes have the same passphrases, and the same length of keys
+abbrev pub HaveSameSecrets : AccessTerms → AccessTerms → Type 0
+HaveSameSecrets a b = (a.publish.passphrase ≡ b.publish.passphrase) × (a.request.passphrase ≡ b.request.passphrase) × (a.key_length ≡ b.key_length)
+
+-- a route with another passphrase, or another length of keys, closes and opens again, and its lists and keys aren't replaced instead
+abbrev pub OtherSecretsReopen : Type 0
+OtherSecretsReopen =
+    (before : Settings) (place : ℕ) (old terms : Terms) (schedule : Schedule) → place_of terms.name before.routes ≡ Some place →
+    slice_get before.routes place ≡ Some old → (HaveSameSecrets old.access terms.access → ⊥) →
+    (change_of before terms schedule ≡ Reopens place) × (is_readmission before place terms schedule ≡ false)

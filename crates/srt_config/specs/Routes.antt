@@ -14,10 +14,12 @@ use Rattle.srt_lobby.specs.Opening.{is_taken}
 use Rattle.srt_config.specs.declared.config.keys.Key.{Key}
 use Rattle.srt_config.specs.declared.config.keys.Key.TheVariants.{Route, Name, Mode, LatencyMs, Buffer, Sessions, Inbox, Outbox}
 use Rattle.srt_config.specs.declared.config.keys.Key.TheVariants.{OpenRound, CloseRound, Callers, PublishFrom, RequestFrom, PublishKey}
-use Rattle.srt_config.specs.declared.config.keys.Key.TheVariants.{RequestKey, Reserved, SessionsPerAddress, TakeoverMs, ResendPercent, Expect}
+use Rattle.srt_config.specs.declared.config.keys.Key.TheVariants.{RequestKey, Reserved, SessionsPerAddress, TakeoverMs, ResendPercent}
+use Rattle.srt_config.specs.declared.config.keys.Key.TheVariants.{PublishPassphrase, Pbkeylen, Expect}
 use Rattle.srt_config.specs.KeyTable.{limits_of}
 use Rattle.srt_config.specs.Access.{access_at}
 use Rattle.srt_config.specs.Rules.{callers_at, draft_if_none, rules_at}
+use Rattle.srt_config.specs.Encryption.{with_encryption, encryption_at}
 use Rattle.srt_config.specs.FirstFault.{Fault, WrongKind, OutOfRange, BadName, RepeatedName, ◌>>=◌}
 use Rattle.srt_config.specs.Keys.{known, value_at, text_at, key_number_at, optional_number_at, optional_key_number_at, given_or_0, of_kind}
 use Rattle.srt_config.specs.Keys.{optional_flag_at, given_or_false}
@@ -56,7 +58,7 @@ numbers_at table =
 abbrev pub route_keys : List Key
 route_keys =
     Name ∷ Mode ∷ LatencyMs ∷ Buffer ∷ Sessions ∷ Inbox ∷ Outbox ∷ OpenRound ∷ CloseRound ∷ Callers ∷ PublishFrom ∷ RequestFrom ∷
-    PublishKey ∷ RequestKey ∷ Reserved ∷ SessionsPerAddress ∷ TakeoverMs ∷ ResendPercent ∷ Expect ∷ []
+    PublishKey ∷ RequestKey ∷ Reserved ∷ SessionsPerAddress ∷ TakeoverMs ∷ ResendPercent ∷ PublishPassphrase ∷ Pbkeylen ∷ Expect ∷ []
 
 -- a route that anyone may call, and that has the draft's rules
 abbrev pub terms_with : List ℕ → TheMode → Numbers → Terms
@@ -119,8 +121,11 @@ route_at before table =
     callers_at table >>= λ callers.
     access_at table >>= λ access.
     rules_at numbers.sessions (draft_if_none callers) table >>= λ rules.
+    encryption_at table >>= λ encryption.
     optional_flag_at Expect table >>= λ expect.
-    Ok (planned (with_rules rules (with_access access (terms_with name mode numbers))) schedule (given_or_false expect))
+    Ok
+    (planned (with_rules rules (with_access (with_encryption encryption access) (terms_with name mode numbers))) schedule
+    (given_or_false expect))
 
 -- the entries of routes, as many schedules, and whether each is expected to be on air
 pub record Routes : Type 0 where

@@ -10,6 +10,7 @@ ghost use Rattle.srt_config.specs.Routes.{closes_later};
 mod access;
 mod address;
 mod defaults;
+mod encryption;
 mod faults;
 mod keys;
 mod listing;

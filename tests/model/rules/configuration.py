@@ -86,6 +86,8 @@ class Entry:
     sessions_per_address: int | None = None
     takeover_ms: int | None = None
     resend_percent: int | None = None
+    publish_passphrase: str | None = None
+    pbkeylen: int | None = None
     expect: bool = False
 
     @property
@@ -124,8 +126,10 @@ NUMBERS = {
 TOP_KEYS = frozenset({"secret", "bind", "workers", "status", "route"})
 ADDED_KEYS = (
     "callers", "publish_from", "request_from", "publish_key", "request_key", "reserved", "sessions_per_address", "takeover_ms",
-    "resend_percent", "expect",
+    "resend_percent", "publish_passphrase", "pbkeylen", "expect",
 )
+PASSPHRASES = frozenset({"publish_passphrase"})
+KEY_LENGTHS = (16, 24, 32)
 ROUTE_KEYS = frozenset({"name", "mode", *NUMBERS, "open_round", "close_round", *ADDED_KEYS})
 
 
@@ -245,6 +249,20 @@ def access_key(key: str, value: Any) -> str:
     return value
 
 
+def passphrase(key: str, value: Any) -> str:
+    """What the keys of a role's sessions are wrapped with: 10 to 79 bytes in UTF-8."""
+    if not 10 <= len(text(key, value).encode()) <= 79:
+        raise ConfigFault(Fault.OUT_OF_RANGE, key)
+    return value
+
+
+def key_length(key: str, value: Any, has_passphrase: bool) -> int:
+    """How many bytes the keys of callers have: they have keys only if a role has a passphrase."""
+    if number(key, value, min(KEY_LENGTHS), max(KEY_LENGTHS)) not in KEY_LENGTHS or not has_passphrase:
+        raise ConfigFault(Fault.OUT_OF_RANGE, key)
+    return value
+
+
 def networks(key: str, value: Any) -> tuple[Network, ...]:
     """One to sixteen networks; that each is a text is asked before their forms."""
     if not isinstance(value, list):
@@ -297,6 +315,8 @@ def added(table: Table, sessions: int) -> Table:
         "sessions_per_address": lambda key, value: number(key, value, 1, 17),
         "takeover_ms": lambda key, value: number(key, value, 100, 5000),
         "resend_percent": lambda key, value: number(key, value, 5, 1000),
+        "publish_passphrase": passphrase,
+        "pbkeylen": lambda key, value: key_length(key, value, not PASSPHRASES.isdisjoint(table)),
         "expect": truth,
     }
     return {key: readers[key](key, table[key]) for key in ADDED_KEYS if key in table}

@@ -12,6 +12,7 @@ use Rattle.srt_config.specs.declared.config.routes.ReadRoutes.{ReadRoutes}
 use Rattle.srt_config.specs.Access.{access_at}
 use Rattle.srt_config.specs.FirstFault.{Fault, ◌>>=◌}
 use Rattle.srt_config.specs.Rules.{rules_at}
+use Rattle.srt_config.specs.Encryption.{with_encryption, encryption_at}
 use Rattle.srt_config.specs.Routes.{Numbers, terms_with, with_access, with_rules, Planned, planned, Routes}
 
 abbrev pub route_seen : ReadRoute → Planned
@@ -21,11 +22,14 @@ abbrev pub routes_seen : ReadRoutes → Routes
 routes_seen routes =
     record { terms = map terms_of routes.entries.items; schedules = routes.schedules.items; expected = routes.expected.items }
 
--- the route of this name, mode, numbers, schedule and callers: its lists and keys are read, then its rules, and whether it is expected to be
--- on air
+-- the route of this name, mode, numbers, schedule and callers: its lists and keys are read, then its rules, its encryption, and whether it is
+-- expected to be on air
 abbrev pub route_behind : (name : List ℕ) → TheMode → Numbers → Schedule → TheCallers → Members → Result Planned Fault
 route_behind name mode numbers schedule callers table =
     access_at table >>= λ access.
     rules_at numbers.sessions callers table >>= λ rules.
+    encryption_at table >>= λ encryption.
     optional_flag_at Expect table >>= λ expect.
-    Ok (planned (with_rules rules (with_access access (terms_with name mode numbers))) schedule (given_or_false expect))
+    Ok
+    (planned (with_rules rules (with_access (with_encryption encryption access) (terms_with name mode numbers))) schedule
+    (given_or_false expect))

@@ -10,6 +10,7 @@ ghost use Rattle.srt_config.specs.Defaults.{with_missing, completed, completed_i
 ghost use Rattle.srt_config.specs.Defaults.{with_defaults, mode_value, optional_mode_at, numbers_right, limits_right, defaults_right, defaults_at};
 
 use super::access::access_at;
+use super::encryption::default_encryption_at;
 use super::faults::ConfigFault;
 use super::keys::{DEFAULT_KEYS, Key};
 use super::routes::read_mode;
@@ -184,6 +185,7 @@ pub(crate) fn defaults_right(alloc: Global, defaults: &Table) -> Result<(), Conf
     callers_at(defaults)?;
     let _ = access_at(alloc, defaults)?;
     limits_right(defaults)?;
+    let _ = default_encryption_at(alloc, defaults)?;
     optional_flag_at(defaults, Key::Expect)?;
     Ok(())
 }

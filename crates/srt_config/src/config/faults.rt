@@ -20,7 +20,8 @@ pub enum ConfigFault {
     WrongKind(Key),
     /// The key's value is outside its limits; for `route` the number of routes, for `mode` and `callers` a text that is none
     /// of their two, for `close_round` also a round that isn't after `open_round`, for `reserved` also a number that isn't
-    /// below `sessions`, for a list of networks their number, for the key of a role a text of another form.
+    /// below `sessions`, for a list of networks their number, for the key of a role a text of another form, for a passphrase its
+    /// length, for `pbkeylen` also any number of a route without a passphrase.
     OutOfRange(Key),
     /// A route's name has a wrong form.
     BadName,

@@ -10,6 +10,18 @@ use srt_types::product_limits::{
 };
 use srt_types::protocol_limits::{MAX_WINDOW, MIN_WINDOW};
 
+/// The minimum length of a passphrase, in bytes.
+const MIN_PASSPHRASE: usize = 10;
+
+/// The maximum length of a passphrase, in bytes.
+const MAX_PASSPHRASE: usize = 79;
+
+/// The minimum length of keys, in bytes: of AES-128.
+const MIN_KEY_BYTES: usize = 16;
+
+/// The maximum length of keys, in bytes: of AES-256.
+const MAX_KEY_BYTES: usize = 32;
+
 /// The mode of a route for live streams.
 pub(crate) const LIVE: &str = "live";
 
@@ -33,7 +45,7 @@ pub const TOP_KEYS: [Key; 6] = [
 ];
 
 /// The keys of a route.
-pub const ROUTE_KEYS: [Key; 19] = [
+pub const ROUTE_KEYS: [Key; 21] = [
     Key::Name,
     Key::Mode,
     Key::LatencyMs,
@@ -52,11 +64,13 @@ pub const ROUTE_KEYS: [Key; 19] = [
     Key::SessionsPerAddress,
     Key::TakeoverMs,
     Key::ResendPercent,
+    Key::PublishPassphrase,
+    Key::Pbkeylen,
     Key::Expect,
 ];
 
 /// The keys of the table of defaults: those of a route but its name.
-pub const DEFAULT_KEYS: [Key; 18] = [
+pub const DEFAULT_KEYS: [Key; 20] = [
     Key::Mode,
     Key::LatencyMs,
     Key::Buffer,
@@ -74,6 +88,8 @@ pub const DEFAULT_KEYS: [Key; 18] = [
     Key::SessionsPerAddress,
     Key::TakeoverMs,
     Key::ResendPercent,
+    Key::PublishPassphrase,
+    Key::Pbkeylen,
     Key::Expect,
 ];
 
@@ -132,6 +148,12 @@ pub enum Key {
     /// `resend_percent`: the greatest share of a subscriber's new packets that is sent again, in percent, 5 to 1000; no
     /// limit if it is missing.
     ResendPercent,
+    /// `publish_passphrase`: the passphrase of publishers, whose sessions are then encrypted, 10 to 79 bytes; none if it is
+    /// missing.
+    PublishPassphrase,
+    /// `pbkeylen`: the length of the keys that callers with a passphrase have to bring, 16, 24 or 32 bytes; any of these if it is
+    /// missing. Only a route with a passphrase may have it.
+    Pbkeylen,
     /// `expect`: whether the route is expected to be on air; if it is missing, the route may be without an encoder.
     Expect,
 }
@@ -201,6 +223,8 @@ impl Key {
             Key::SessionsPerAddress => "sessions_per_address",
             Key::TakeoverMs => "takeover_ms",
             Key::ResendPercent => "resend_percent",
+            Key::PublishPassphrase => "publish_passphrase",
+            Key::Pbkeylen => "pbkeylen",
             Key::Expect => "expect",
         }
     }
@@ -217,7 +241,8 @@ impl Key {
             | Key::Mode
             | Key::Callers
             | Key::PublishKey
-            | Key::RequestKey => ValueKind::Text,
+            | Key::RequestKey
+            | Key::PublishPassphrase => ValueKind::Text,
             Key::Workers
             | Key::LatencyMs
             | Key::Buffer
@@ -229,7 +254,8 @@ impl Key {
             | Key::Reserved
             | Key::SessionsPerAddress
             | Key::TakeoverMs
-            | Key::ResendPercent => ValueKind::Number,
+            | Key::ResendPercent
+            | Key::Pbkeylen => ValueKind::Number,
             Key::Expect => ValueKind::Boolean,
             Key::PublishFrom | Key::RequestFrom => ValueKind::Networks,
             Key::Defaults => ValueKind::Table,
@@ -237,9 +263,9 @@ impl Key {
         }
     }
 
-    /// Returns the limits of its value. A route's `open_round` and `sessions` narrow those of `close_round` and `reserved`. A
-    /// text whose form decides, an address or one of two texts, has any length up to 2^32 - 1 here, the table of defaults
-    /// as many keys, and `true` or `false` any limits.
+    /// Returns the limits of its value. A route's `open_round` and `sessions` narrow those of `close_round` and `reserved`. Within
+    /// those of `pbkeylen` 16, 24 and 32 are allowed. A text whose form decides, an address or one of two texts, has any length up
+    /// to 2^32 - 1 here, the table of defaults as many keys, and `true` or `false` any limits.
     pub fn limits(self) -> Limits
         ensures value { result ≡ limits_of self }
         ensures few { result.most < 2 ^ 32 }
@@ -260,6 +286,8 @@ impl Key {
             Key::Reserved => (0, MAX_RESERVED),
             Key::TakeoverMs => (MIN_TAKEOVER_MS, MAX_TAKEOVER_MS),
             Key::ResendPercent => (MIN_RESEND_PERCENT, MAX_RESEND_PERCENT),
+            Key::PublishPassphrase => (MIN_PASSPHRASE, MAX_PASSPHRASE),
+            Key::Pbkeylen => (MIN_KEY_BYTES, MAX_KEY_BYTES),
             Key::Bind | Key::Status | Key::Defaults | Key::Mode | Key::Callers | Key::Expect => (
                 0,
                 u32::MAX as usize,
@@ -285,13 +313,14 @@ impl Key {
         }
     }
 
-    /// Whether its value is to be printed nowhere: that of the secret, those of the keys of roles, and the defaults, which may
-    /// have such keys.
+    /// Whether its value is to be printed nowhere: that of the secret, those of the keys and passphrases of roles, and the defaults,
+    /// which may have such keys.
     pub fn is_private(self) -> bool
         ensures { result ≡ is_private self }
     {
         match self {
-            Key::Secret | Key::Defaults | Key::PublishKey | Key::RequestKey => true,
+            Key::Secret | Key::Defaults => true,
+            Key::PublishKey | Key::RequestKey | Key::PublishPassphrase => true,
             _ => false,
         }
     }

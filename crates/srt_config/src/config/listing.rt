@@ -19,6 +19,7 @@ ghost use Rattle.srt_config.specs.inside.Sections.{IsFaultOf, fault_seen, member
 
 use super::access::{key_at, list_at};
 use super::defaults::{defaults_at, items_at, optional_mode_at, table_at};
+use super::encryption::{has_passphrase, key_length_at, passphrase_at};
 use super::faults::ConfigFault;
 use super::keys::{DEFAULT_KEYS, Key, Limits, ROUTE_KEYS, TOP_KEYS};
 use super::placed::{Place, PlacedFault};
@@ -129,6 +130,8 @@ fn default_fault(alloc: Global, table: &Table, key: Key) -> Result<Option<Config
         Key::RequestFrom => fault_of(list_at(alloc, table, Key::RequestFrom)),
         Key::PublishKey => fault_of(key_at(alloc, table, Key::PublishKey)),
         Key::RequestKey => fault_of(key_at(alloc, table, Key::RequestKey)),
+        Key::PublishPassphrase => fault_of(passphrase_at(alloc, table, Key::PublishPassphrase)),
+        Key::Pbkeylen => fault_of(key_length_at(true, table)),
         Key::Expect => fault_of(optional_flag_at(table, Key::Expect)),
         _ => fault_of(optional_number_at(table, key)),
     }
@@ -224,6 +227,7 @@ fn route_fault(
         }
         Key::CloseRound => fault_of(close_round_at(table)),
         Key::Reserved => fault_of(reserved_at(table)),
+        Key::Pbkeylen => fault_of(key_length_at(has_passphrase(table), table)),
         _ => default_fault(alloc, table, key),
     }
 }

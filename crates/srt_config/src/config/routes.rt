@@ -16,6 +16,7 @@ ghost use Rattle.srt_config.specs.RouteNumbers.{numbers_of};
 ghost use Rattle.srt_config.specs.inside.RouteParts.{route_seen, routes_seen, route_behind};
 
 use super::access::access_at;
+use super::encryption::{encrypted, encryption_at};
 use super::faults::ConfigFault;
 use super::keys::{BUFFER, Key, LIVE, Limits, ROUTE_KEYS};
 use super::placed::{Place, PlacedFault};
@@ -161,7 +162,7 @@ pub(crate) struct ReadRoute {
     pub(crate) expected: bool,
 }
 
-/// The part of a route's table before its lists, keys and rules.
+/// The part of a route's table before its lists, keys, rules and encryption.
 #[derive(Clone, Copy)]
 struct RouteHead<'a> {
     name: &'a str,
@@ -171,14 +172,17 @@ struct RouteHead<'a> {
     callers: Callers,
 }
 
-/// Reads the lists, keys and rules of a route's table, after the part before them, and whether it is expected to be on air.
+/// Reads the lists, keys, rules and encryption of a route's table, after the part before them, and whether it is expected to be on
+/// air.
 fn route_behind(alloc: Global, head: RouteHead<'_>, table: &Table) -> Result<ReadRoute, ConfigFault>
     ensures { Gives route_seen result
         (route_behind head.entry.name.now head.entry.mode (numbers_of head.entry.numbers) head.entry.schedule head.entry.callers (table_view table.now)) }
 {
     let access = access_at(alloc, table)?;
     let rules = rules_at(head.numbers.sessions, head.callers, table)?;
+    let encryption = encryption_at(alloc, table)?;
     let expected = optional_flag_at(table, Key::Expect)?.unwrap_or(false);
+    let access = encrypted(access, encryption);
     let entry = entry_with(alloc, head.name, head.mode, head.numbers, access, rules)?;
     Ok(ReadRoute {
         entry,

@@ -1,7 +1,8 @@
 //! What a changed configuration requests.
 
 use super::{RIGHT, changed, config_of, with_routes};
-use crate::{Changes, FixedKeys, RouteChange, changes_between};
+use crate::{Changes, FixedKeys, RouteChange, changes_between, is_readmission};
+use srt_types::Schedule;
 use std::process::Abort;
 use std::test::Fail;
 
@@ -141,10 +142,59 @@ fn lists_keys_and_rules_are_compared(rt: HostRuntime) -> Result<(), Fail> {
         "sessions_per_address = 1\n",
         "takeover_ms = 100\n",
         "resend_percent = 5\n",
+        "publish_passphrase = \"correct horse battery\"\n",
     ] {
         assert_second_reopens(&rt, line)?;
     }
     Ok(())
+}
+
+/// A second route with a passphrase, and what it may become: with other keys, another passphrase, or a length of keys.
+const PASSPHRASE: &str = "buffer = 32\npublish_passphrase = \"correct horse battery\"\n";
+
+const ANOTHER_KEY: &str =
+    "buffer = 32\npublish_passphrase = \"correct horse battery\"\npublish_key = \"k\"\n";
+
+const ANOTHER_PASSPHRASE: &str = "buffer = 32\npublish_passphrase = \"correct horse batterY\"\n";
+
+const A_LENGTH: &str =
+    "buffer = 32\npublish_passphrase = \"correct horse battery\"\npbkeylen = 24\n";
+
+/// Asserts that the second route opens again where it had a passphrase and has these lines now, and whether it differs in lists and
+/// keys alone.
+fn assert_readmission(
+    rt: &(impl AllocGlobal + Abort),
+    lines: &str,
+    is_one: bool,
+) -> Result<(), Fail> {
+    let text = changed(rt, RIGHT, "buffer = 32\n", PASSPHRASE)?;
+    let before = config_of(rt, text.as_str())?;
+    let text = changed(rt, RIGHT, "buffer = 32\n", lines)?;
+    let after = config_of(rt, text.as_str())?;
+    let found = changes_between(rt.alloc(), &before, &after)?;
+    assert_eq!(rt;
+        found.routes.as_slice(),
+        &[RouteChange::Stays(0), RouteChange::Reopens(1)][..]
+    );
+    match after.entries.as_slice().last() {
+        Some(entry) => {
+            let schedule = Schedule {
+                open_round: 0,
+                close_round: None,
+            };
+            assert_eq!(rt; is_readmission(&before, 1, entry, schedule), is_one);
+        }
+        None => assert!(rt; false, "no entry"),
+    }
+    Ok(())
+}
+
+#[test]
+fn another_passphrase_is_no_readmission(rt: HostRuntime) -> Result<(), Fail> {
+    assert_readmission(&rt, ANOTHER_KEY, true)?;
+    assert_readmission(&rt, ANOTHER_PASSPHRASE, false)?;
+    assert_readmission(&rt, A_LENGTH, false)?;
+    assert_readmission(&rt, "buffer = 32\n", false)
 }
 
 #[test]

@@ -6,7 +6,7 @@ use crate::{
     read_table, with_defaults,
 };
 use srt_cookie::{Secret, cookie};
-use srt_types::{Callers, Entry, Mode, Peer, Rules, Schedule};
+use srt_types::{Callers, Entry, KeyLength, Mode, Peer, RoleAccess, Rules, Schedule};
 use std::process::Abort;
 use std::test::Fail;
 
@@ -299,6 +299,76 @@ fn a_route_may_have_rules_beyond_the_draft(rt: HostRuntime) -> Result<(), Fail> 
     Ok(())
 }
 
+/// What may follow the first route's outbox, and the publishers' passphrase and the length of keys of the route.
+type EncryptionRow = (&'static str, Option<&'static str>, Option<KeyLength>);
+
+const ENCRYPTIONS: [EncryptionRow; 6] = [
+    ("", None, None),
+    (
+        "publish_passphrase = \"correct horse battery\"\n",
+        Some("correct horse battery"),
+        None,
+    ),
+    (
+        "publish_passphrase = \"\\u00fc\\u00fc \\u5bc6\\u7801\"\npbkeylen = 16\n",
+        Some("üü 密码"),
+        Some(KeyLength::Aes128),
+    ),
+    (
+        "pbkeylen = 24\npublish_passphrase = '0 \"~\\ \tzzz'\n",
+        Some("0 \"~\\ \tzzz"),
+        Some(KeyLength::Aes192),
+    ),
+    (
+        "pbkeylen = 0x20\npublish_passphrase = \"ppppppppppppppppppppppppppppppppppppppppppppppppppppppppppppppppppppppppppppppp\"\n",
+        Some("ppppppppppppppppppppppppppppppppppppppppppppppppppppppppppppppppppppppppppppppp"),
+        Some(KeyLength::Aes256),
+    ),
+    (
+        "publish_passphrase = \"a passphrase\"\n",
+        Some("a passphrase"),
+        None,
+    ),
+];
+
+/// Asserts the passphrase of a role.
+fn assert_passphrase(rt: &impl Abort, role: &RoleAccess, passphrase: Option<&str>) {
+    match role.passphrase.as_ref() {
+        Some(text) => assert_eq!(rt; Some(text.as_str()), passphrase),
+        None => assert!(rt; passphrase.is_none()),
+    }
+}
+
+/// Asserts the passphrases and the length of keys of an entry.
+fn assert_is_encrypted(
+    rt: &impl Abort,
+    entry: Option<&Entry>,
+    publish: Option<&str>,
+    request: Option<&str>,
+    key_length: Option<KeyLength>,
+) {
+    match entry {
+        Some(entry) => {
+            assert_passphrase(rt, &entry.access.publish, publish);
+            assert_passphrase(rt, &entry.access.request, request);
+            assert_eq!(rt; entry.access.key_length, key_length);
+        }
+        None => assert!(rt; false, "no entry"),
+    }
+}
+
+#[test]
+fn a_route_may_have_a_passphrase(rt: HostRuntime) -> Result<(), Fail> {
+    for row in &ENCRYPTIONS {
+        let config = with_first_route(&rt, row.0)?;
+        let entries = config.entries.as_slice();
+        assert_eq!(rt; entries.len(), 2);
+        assert_is_encrypted(&rt, entries.first(), row.1, None, row.2);
+        assert_is_encrypted(&rt, entries.last(), None, None, None);
+    }
+    Ok(())
+}
+
 #[test]
 fn refused_memory_is_fault_10_of_no_key(rt: HostRuntime) {
     let fault = ConfigFault::OutOfMemory;
@@ -328,18 +398,18 @@ workers = 1
 /// A list of the most networks, each of the most digits.
 const MOST_NETWORKS: &str = "\
 [
-  \"2001:db8:ffff:ffff:ffff:ffff:ffff:fff0\", \"2001:db8:ffff:ffff:ffff:ffff:ffff:fff1\",
-  \"2001:db8:ffff:ffff:ffff:ffff:ffff:fff2\", \"2001:db8:ffff:ffff:ffff:ffff:ffff:fff3\",
-  \"2001:db8:ffff:ffff:ffff:ffff:ffff:fff4\", \"2001:db8:ffff:ffff:ffff:ffff:ffff:fff5\",
-  \"2001:db8:ffff:ffff:ffff:ffff:ffff:fff6\", \"2001:db8:ffff:ffff:ffff:ffff:ffff:fff7\",
-  \"2001:db8:ffff:ffff:ffff:ffff:ffff:fff8\", \"2001:db8:ffff:ffff:ffff:ffff:ffff:fff9\",
-  \"2001:db8:ffff:ffff:ffff:ffff:ffff:fffa\", \"2001:db8:ffff:ffff:ffff:ffff:ffff:fffb\",
-  \"2001:db8:ffff:ffff:ffff:ffff:ffff:fffc\", \"2001:db8:ffff:ffff:ffff:ffff:ffff:fffd\",
-  \"2001:db8:ffff:ffff:ffff:ffff:ffff:fffe\", \"2001:db8:ffff:ffff:ffff:ffff:ffff:ffff\",
+\"2001:db8:ffff:ffff:ffff:ffff:ffff:fff0\", \"2001:db8:ffff:ffff:ffff:ffff:ffff:fff1\",
+\"2001:db8:ffff:ffff:ffff:ffff:ffff:fff2\", \"2001:db8:ffff:ffff:ffff:ffff:ffff:fff3\",
+\"2001:db8:ffff:ffff:ffff:ffff:ffff:fff4\", \"2001:db8:ffff:ffff:ffff:ffff:ffff:fff5\",
+\"2001:db8:ffff:ffff:ffff:ffff:ffff:fff6\", \"2001:db8:ffff:ffff:ffff:ffff:ffff:fff7\",
+\"2001:db8:ffff:ffff:ffff:ffff:ffff:fff8\", \"2001:db8:ffff:ffff:ffff:ffff:ffff:fff9\",
+\"2001:db8:ffff:ffff:ffff:ffff:ffff:fffa\", \"2001:db8:ffff:ffff:ffff:ffff:ffff:fffb\",
+\"2001:db8:ffff:ffff:ffff:ffff:ffff:fffc\", \"2001:db8:ffff:ffff:ffff:ffff:ffff:fffd\",
+\"2001:db8:ffff:ffff:ffff:ffff:ffff:fffe\", \"2001:db8:ffff:ffff:ffff:ffff:ffff:ffff\",
 ]
 ";
 
-/// Every key of a route but its name and its lists, with numbers of the most digits.
+/// Every key of a route but its name and its lists, with numbers of the most digits and texts of the most bytes.
 const ALL_KEYS: &str = "\
 mode = \"live\"
 latency_ms = 8000
@@ -356,6 +426,9 @@ reserved = 2
 sessions_per_address = 17
 takeover_ms = 5000
 resend_percent = 1000
+publish_passphrase = \"ppppppppppppppppppppppppppppppppppppppppppppppppppppppppppppppppppppppppppppppp\"
+pbkeylen = 32
+expect = false
 ";
 
 #[test]
@@ -427,7 +500,7 @@ const PLACES: [PlaceRow; 6] = [
 ];
 
 /// The same of the valid configuration with defaults.
-const PLACES_WITH_DEFAULTS: [PlaceRow; 8] = [
+const PLACES_WITH_DEFAULTS: [PlaceRow; 11] = [
     ("[defaults]", "defaults = 1\n[more]", "more", Place::Above),
     ("[defaults]", "[[defaults]]", "defaults", Place::Above),
     ("workers = 1", "workers = 0", "workers", Place::Above),
@@ -450,6 +523,24 @@ const PLACES_WITH_DEFAULTS: [PlaceRow; 8] = [
         "inbox = 16\nsessions_per_address = 18",
         "sessions_per_address",
         Place::Defaults,
+    ),
+    (
+        "inbox = 16",
+        "inbox = 16\npublish_passphrase = \"too short\"",
+        "publish_passphrase",
+        Place::Defaults,
+    ),
+    (
+        "inbox = 16",
+        "inbox = 16\npbkeylen = 20",
+        "pbkeylen",
+        Place::Defaults,
+    ),
+    (
+        "inbox = 16",
+        "inbox = 16\npbkeylen = 16",
+        "pbkeylen",
+        Place::Route(1),
     ),
 ];
 
