@@ -5,7 +5,9 @@ import struct
 from enum import IntEnum
 from typing import NamedTuple
 
+from . import key_material
 from .configuration import Mode
+from .key_material import Message
 from .packets import CONTROL_BIT, words
 
 LENGTH = 48
@@ -21,6 +23,7 @@ STREAM_FLAG = 0x40
 SRT_VERSION = 0x00010500
 ANSWERED_FLAGS = {Mode.LIVE: 0x3F, Mode.BUFFER: 0x74}
 HSREQ_EXTENSION = 1
+KMREQ_EXTENSION = 2
 CONFIG_EXTENSION = 4
 
 
@@ -30,6 +33,7 @@ class Block(IntEnum):
     HSREQ = 1
     HSRSP = 2
     KMREQ = 3
+    KMRSP = 4
     STREAM_ID = 5
     CONGESTION = 6
     FILTER = 7
@@ -43,6 +47,7 @@ class Refusal(IntEnum):
     RESOURCE = 1003
     ROGUE = 1004
     VERSION = 1008
+    BADSECRET = 1010
     UNSECURE = 1011
     MESSAGEAPI = 1012
     FILTER = 1014
@@ -72,6 +77,11 @@ class Handshake(NamedTuple):
     def block(self, kind: Block) -> bytes | None:
         """The contents of the first block of this type."""
         return next((contents for it, contents in self.blocks if it == kind), None)
+
+    def key_material(self) -> Message | None:
+        """The message of the only KMREQ; None if there is none or more than one, or it has a fault."""
+        found = [contents for it, contents in self.blocks if it == Block.KMREQ]
+        return key_material.read(found[0]) if len(found) == 1 else None
 
     def has_flag(self, flag: int) -> bool:
         """Whether HSREQ has a flag (section 3.2.1.1.1)."""
@@ -134,8 +144,8 @@ def text_of(contents: bytes) -> bytes:
 
 
 def answer(asked: Handshake, extension: int, mtu: int, window: int, kind: int, identity: int, cookie: int, blocks: bytes = b"") -> bytes:
-    """The datagram of an answer: type 0, timestamp 0, to the caller's socket ID, with the caller's initial number as it came, no
-    encryption, and zeros for the peer's address (section 3.2.1)."""
+    """The datagram of an answer: type 0, timestamp 0, to the caller's socket ID, with the caller's initial number as it came, and zeros for
+    the peer's address (section 3.2.1). The word `extension` has the field encryption in its upper half."""
     header = words(CONTROL_BIT, 0, 0, asked.caller)
     return header + words(VERSION, extension, asked.initial, mtu, window, kind, identity, cookie) + bytes(16) + blocks
 
@@ -150,11 +160,15 @@ def refusal(asked: Handshake, reason: Refusal) -> bytes:
     return answer(asked, 0, LONGEST_MTU, USUAL_WINDOW, reason, LISTENER, 0)
 
 
-def conclusion_answer(asked: Handshake, mode: Mode, delays: Delays, window: int, identity: int) -> bytes:
+def conclusion_answer(asked: Handshake, mode: Mode, delays: Delays, window: int, identity: int, key_length: int | None) -> bytes:
     """The answer to a CONCLUSION that opens a session: HSRSP with the agreed delays, and the congestion text as it came (section
-    4.3.1.2)."""
+    4.3.1.2). With keys of some length KMRSP stands between them, with the words of KMREQ (section 3.2.1.2)."""
     blocks = struct.pack("!2H2I2H", Block.HSRSP, 3, SRT_VERSION, ANSWERED_FLAGS[mode], *delays)
     extension = HSREQ_EXTENSION
+    if key_length is not None:
+        contents = asked.block(Block.KMREQ) or b""
+        blocks += struct.pack("!2H", Block.KMRSP, len(contents) // 4) + contents
+        extension |= KMREQ_EXTENSION | key_length // 8 << 16
     text = asked.block(Block.CONGESTION)
     if text is not None:
         blocks += struct.pack("!2H", Block.CONGESTION, len(text) // 4) + text

@@ -54,6 +54,16 @@ def lets_in(entry: Entry, peer: Peer, role: Role) -> bool:
     return is_in(entry.publish_from if role is Role.PUBLISH else entry.request_from, peer)
 
 
+def passphrase_of(entry: Entry, role: Role) -> str | None:
+    """The passphrase of a role, by the key that has its name; a role that has one is secured."""
+    return getattr(entry, f"{role.value}_passphrase", None)
+
+
+def key_length_of(entry: Entry) -> int | None:
+    """The length that keys must have, if the route has one."""
+    return getattr(entry, "pbkeylen", None)
+
+
 def fits_key(entry: Entry, ask: Ask) -> bool:
     """Whether the Stream ID brings the key of its role, if the route has one."""
     key = entry.publish_key if ask.role is Role.PUBLISH else entry.request_key
@@ -101,12 +111,23 @@ class Lobby:
         return ToRoute(index)
 
     def class_of_conclusion(self, asked: Handshake, peer: Peer) -> Class:
-        """A CONCLUSION with the right cookie: the refusals that need no route, and then the route that its Stream ID names."""
-        reason = first_reason(asked)
+        """A CONCLUSION with the right cookie: the refusals that need no route, the route that its Stream ID names, and, if the role is
+        secured there, whether its KMREQ reads and has keys of the route's length."""
+        reason = first_reason(asked, self.asks_for_secured(asked))
         if reason is not None:
             return Answer(handshakes.refusal(asked, reason))
         index = self.asked_route(asked, peer)
-        return Answer(handshakes.refusal(asked, Refusal.PEER)) if index is None else ToRoute(index)
+        if index is None:
+            return Answer(handshakes.refusal(asked, Refusal.PEER))
+        if self.asks_for_secured(asked) and not has_keys_for(asked, self.routes[index].entry):
+            return Answer(handshakes.refusal(asked, Refusal.UNSECURE))
+        return ToRoute(index)
+
+    def asks_for_secured(self, asked: Handshake) -> bool:
+        """Whether the Stream ID names a route whose asked role is secured."""
+        ask = ask_of(asked)
+        index = self.index_of(ask.name) if ask else None
+        return ask is not None and index is not None and passphrase_of(self.routes[index].entry, ask.role) is not None
 
     def asked_route(self, asked: Handshake, peer: Peer) -> int | None:
         """The route that a Stream ID names and to which this peer may come in this role; None if there is none."""
@@ -118,15 +139,21 @@ class Lobby:
         return index if lets_in(entry, peer, ask.role) and fits_key(entry, ask) else None
 
 
-def first_reason(asked: Handshake) -> Refusal | None:
+def has_keys_for(asked: Handshake, entry: Entry) -> bool:
+    """Whether there is one KMREQ that reads, with keys of the length that the route wants, if it wants one."""
+    message = asked.key_material()
+    return message is not None and key_length_of(entry) in (None, message.key_length)
+
+
+def first_reason(asked: Handshake, is_secured: bool) -> Refusal | None:
     """The first reason to refuse a CONCLUSION whatever route it asks for: another version, an initial number of 32 bits, no HSREQ,
-    encryption, a packet filter, a connection group."""
+    encryption unless the role is secured, a packet filter, a connection group."""
     if asked.version != VERSION:
         return Refusal.VERSION
     if asked.initial & INITIAL_TOP_BIT or asked.block(Block.HSREQ) is None:
         return Refusal.ROGUE
     reasons = {Block.KMREQ: Refusal.UNSECURE, Block.FILTER: Refusal.FILTER, Block.GROUP: Refusal.GROUP}
-    return next((reason for block, reason in reasons.items() if asked.block(block) is not None), None)
+    return next((it for block, it in reasons.items() if asked.block(block) is not None and not (block is Block.KMREQ and is_secured)), None)
 
 
 def ask_of(asked: Handshake) -> Ask | None:

@@ -12,6 +12,7 @@ LONGEST = 1472
 CONTROL_BIT = 0x80000000
 WHOLE_MESSAGE_IN_ORDER = 0xE0000000
 RETRANSMITTED = 0x04000000
+ENCRYPTION_AT = 27
 MESSAGE_NUMBERS = (1 << 26) - 1
 
 
@@ -30,6 +31,7 @@ class Kind(IntEnum):
     USER_DEFINED = 0x7FFF
 
 
+KMREQ, KMRSP = 3, 4  # The subtypes of user-defined packets that mean something here (section 3.2.2).
 SHORTEST_BODY = {Kind.ACK: 4, Kind.NAK: 4, Kind.DROPREQ: 8}
 
 
@@ -44,9 +46,10 @@ class Data(NamedTuple):
 
 
 class Control(NamedTuple):
-    """A control packet (section 3.2). `information` is its second word; the subtype isn't read."""
+    """A control packet (section 3.2). `information` is its second word; the subtype is looked at in user-defined packets alone."""
 
     kind: Kind
+    subtype: int
     information: int
     body: bytes
     stamp: int
@@ -64,11 +67,11 @@ def read(datagram: bytes) -> Packet | None:
     first, second, stamp, destination = struct.unpack_from("!4I", datagram)
     body = datagram[HEADER:]
     if first < CONTROL_BIT:
-        return Data(first, second >> 27 & 3, body, stamp, destination) if body else None
+        return Data(first, second >> ENCRYPTION_AT & 3, body, stamp, destination) if body else None
     number = first >> 16 & 0x7FFF
     if number not in set(Kind) or len(body) < SHORTEST_BODY.get(Kind(number), 0):
         return None
-    return Control(Kind(number), second, body, stamp, destination)
+    return Control(Kind(number), first & 0xFFFF, second, body, stamp, destination)
 
 
 def words_of(body: bytes) -> tuple[int, ...]:
@@ -95,12 +98,12 @@ def message_number(index: int) -> int:
     return 1 + index % MESSAGE_NUMBERS
 
 
-def write_data(number: int, message: int, again: bool, time: int, destination: int, payload: bytes) -> bytes:
-    """A data packet with a whole message, in order and unencrypted; `again` sets the flag R (section 3.1)."""
-    flags = WHOLE_MESSAGE_IN_ORDER | (RETRANSMITTED if again else 0)
+def write_data(number: int, encryption: int, message: int, again: bool, time: int, destination: int, payload: bytes) -> bytes:
+    """A data packet with a whole message, in order; `encryption` is its KK, and `again` sets the flag R (section 3.1)."""
+    flags = WHOLE_MESSAGE_IN_ORDER | encryption << ENCRYPTION_AT | (RETRANSMITTED if again else 0)
     return words(sequence_word(number), flags | message, stamp_word(time), destination) + payload
 
 
-def write_control(kind: Kind, information: int, time: int, destination: int, body: bytes = b"") -> bytes:
-    """A control packet, with subtype 0 (section 3.2)."""
-    return words(CONTROL_BIT | kind << 16, information, stamp_word(time), destination) + body
+def write_control(kind: Kind, information: int, time: int, destination: int, body: bytes = b"", subtype: int = 0) -> bytes:
+    """A control packet (section 3.2)."""
+    return words(CONTROL_BIT | kind << 16 | subtype, information, stamp_word(time), destination) + body

@@ -9,8 +9,9 @@ from . import losses
 from .clock import Clock, Sample
 from .losses import LONGEST_SPAN, distance
 from .numbers import MILLISECOND, SECOND, WORDS, Run, in_window, lift, runs_of
-from .packets import Control, Data, Kind, Packet, sequence_word, words, words_of
+from .packets import KMREQ, KMRSP, Control, Data, Kind, Packet, sequence_word, words, words_of
 from .session import IDLE_AFTER, End, Opening, Session
+from .session_keys import PublisherKeys
 
 MOST_DELIVERED = 64
 FULL_ACK_AFTER = 10_000
@@ -53,8 +54,9 @@ class FullAck:
 class Publisher(Session):
     """A publisher's session. `position` is the least number that may still be delivered, `greatest` the greatest one received."""
 
-    def __init__(self, opening: Opening) -> None:
+    def __init__(self, opening: Opening, keys: PublisherKeys | None) -> None:
         super().__init__(opening)
+        self.keys = keys
         self.position = self.initial
         self.received: dict[int, Received] = {}
         self.dropped: set[int] = set()
@@ -76,12 +78,18 @@ class Publisher(Session):
     def take(self, packet: Packet, now: int) -> End | None:
         """Takes a packet that isn't a SHUTDOWN; other kinds than these change nothing. Returns why the session ends by it, if it does."""
         if isinstance(packet, Data):
-            return self.take_data(packet, now) if packet.encryption == 0 else None
+            opened = self.keys.opened(packet) if self.keys else packet
+            return self.take_data(opened, now) if opened.encryption == 0 else None
         if packet.kind is Kind.DROPREQ and self.entry.is_live:
             self.take_drop_request(packet)
         if packet.kind is Kind.ACKACK:
             self.confirm(packet, now)
         return None
+
+    def answer_keys(self, packet: Packet, now: int) -> list[bytes]:
+        """The KMRSP to a KMREQ, whose keys are taken if nothing is wrong."""
+        is_request = isinstance(packet, Control) and packet.kind is Kind.USER_DEFINED and packet.subtype == KMREQ
+        return [self.key_packet(KMRSP, now, self.keys.renew(packet.body))] if self.keys and is_request else []
 
     def take_data(self, packet: Data, now: int) -> End | None:
         """The first copy of a number of the window is received. In live mode a number past the window, by less than 2^30, ends the session

@@ -5,14 +5,15 @@ from dataclasses import dataclass
 from enum import Enum
 from typing import NamedTuple
 
-from . import handshakes, packets
+from . import ciphers, handshakes, key_material, packets
 from .configuration import Entry, site
 from .cookies import Peer
 from .handshakes import LONGEST_MTU, Delays, Handshake, Refusal
-from .lobby import ask_of, first_reason
+from .lobby import ask_of, first_reason, passphrase_of
 from .packets import Control, Kind, Packet
 from .publisher import Publisher
 from .session import End, Opening, Session
+from .session_keys import DerivationLimit, PublisherKeys, Secret, SeedSource, SubscriberKeys
 from .stream_ids import Role
 from .subscriber import Subscriber
 
@@ -80,6 +81,8 @@ class Route:
         self.active: Publisher | None = None
         self.last_end: PublisherEnd | None = None
         self.limits_met: list[Limit] = []
+        self.derivations = DerivationLimit()
+        self.seeds = SeedSource()
         self.replies: list[Reply] = []
 
     # ---- who is there ----
@@ -135,16 +138,16 @@ class Route:
         return self.replies
 
     def end_silent_sessions(self) -> None:
-        """Sessions of which nothing was heard for five seconds end; callers with libsrt are told. One that drains has a time of its own,
-        and isn't told."""
+        """Sessions of which nothing was heard for five seconds end, and those that didn't confirm a key for so long; callers with libsrt
+        are told. One that drains has a time of its own, and isn't told."""
         for session in self.by_slot():
             if isinstance(session, Publisher) and session.drains:
                 if session.drains_too_long(self.clock):
                     self.finish(session, End.DRAINING_TOO_LONG)
-            elif session.is_idle(self.clock):
+            elif end := session.end_of_silence(self.clock):
                 if self.entry.is_libsrt:
                     self.reply(session, session.shutdown(self.clock))
-                self.finish(session, End.IDLE)
+                self.finish(session, end)
 
     def take_over(self) -> None:
         """The publisher that stands by becomes active where it brought data of late and the active one didn't, live only."""
@@ -180,6 +183,8 @@ class Route:
         if isinstance(packet, Control) and packet.kind is Kind.SHUTDOWN:
             self.shut_down(session)
         elif isinstance(session, Publisher):
+            for content in session.answer_keys(packet, self.clock):
+                self.reply(session, content)
             end = session.take(packet, self.clock)
             if end and self.entry.is_libsrt:
                 self.reply(session, session.shutdown(self.clock))
@@ -202,7 +207,10 @@ class Route:
         """A conclusion gets the answer of its open session again, or is refused, or opens a session (section 4.3.1.2)."""
         asked = handshakes.read(packet.body) if isinstance(packet, Control) and packet.kind is Kind.HANDSHAKE else None
         ask = ask_of(asked) if asked else None
-        if asked is None or ask is None or asked.kind != handshakes.CONCLUSION or first_reason(asked) is not None:
+        if asked is None or ask is None or asked.kind != handshakes.CONCLUSION:
+            return
+        passphrase, message = passphrase_of(self.entry, ask.role), asked.key_material()
+        if first_reason(asked, passphrase is not None) is not None or passphrase is not None and message is None:
             return
         opened = next((it for it in self.open if it.is_of(peer, asked.caller) and not it.drains), None)
         if opened:
@@ -210,10 +218,16 @@ class Route:
             self.reply(opened, opened.opening.answer)
             return
         reason = self.reason_to_refuse(peer, asked, ask.role)
-        if reason is None:
-            self.open_session(peer, asked, ask.role, packet.stamp)
-        else:
+        if reason is not None:
             self.replies.append(Reply(peer, handshakes.refusal(asked, reason)))
+        elif passphrase is None or message is None:
+            self.open_session(peer, asked, ask.role, packet.stamp, None)
+        elif self.derivations.allows(peer, self.clock):
+            secret = Secret(message, ciphers.key_encrypting_key(passphrase, message.salt, message.key_length))
+            if key_material.brought(secret.kek, message) is None:
+                self.replies.append(Reply(peer, handshakes.refusal(asked, Refusal.BADSECRET)))
+            else:
+                self.open_session(peer, asked, ask.role, packet.stamp, secret)
 
     def free_slots(self) -> list[int]:
         return [it for it in range(self.entry.sessions) if it not in {it.opening.slot for it in self.open}]
@@ -255,20 +269,34 @@ class Route:
         delays = asked.delays()
         return Delays(max(self.entry.latency_ms, delays.sender_ms), max(self.entry.latency_ms, delays.receiver_ms))
 
-    def open_session(self, peer: Peer, asked: Handshake, role: Role, stamp: int) -> None:
-        """A session opens in the least free slot. Its socket ID tells the route, how many sessions the slot had before, and the slot."""
+    def open_session(self, peer: Peer, asked: Handshake, role: Role, stamp: int, secret: Secret | None) -> None:
+        """A session opens in the least free slot, with keys if its role is secured. Its socket ID tells the route, how many sessions the slot
+        had before, and the slot."""
         slot = self.free_slots()[0]
         generation = sum(it.opening.slot == slot for it in self.sessions)
         identity = (self.index + 1 << 20) + (generation % GENERATIONS << 8) + slot
         delays = self.agreed(asked)
-        answer = handshakes.conclusion_answer(asked, self.entry.mode, delays, self.entry.buffer, identity)
+        key_length = secret.message.key_length if secret else None
+        answer = handshakes.conclusion_answer(asked, self.entry.mode, delays, self.entry.buffer, identity, key_length)
         delay = delays.receiver_ms if role is Role.PUBLISH else delays.sender_ms
         opening = Opening(self.entry, peer, asked, stamp, slot, generation, identity, self.clock, delay, answer)
-        session = Publisher(opening) if role is Role.PUBLISH else Subscriber(opening)
+        session = self.publisher(opening, secret) if role is Role.PUBLISH else self.subscriber(opening, secret)
         self.sessions.append(session)
         self.open.append(session)
         self.choose_active()
         self.reply(session, answer)
+
+    def publisher(self, opening: Opening, secret: Secret | None) -> Publisher:
+        """A publisher's session with the keys that its conclusion brought."""
+        keys = key_material.brought(secret.kek, secret.message) if secret else None
+        return Publisher(opening, PublisherKeys(secret, keys) if secret and keys else None)
+
+    def subscriber(self, opening: Opening, secret: Secret | None) -> Subscriber:
+        """A subscriber's session with keys of its own."""
+        if secret is None:
+            return Subscriber(opening, None)
+        seed = self.seeds.next(opening.peer, opening.asked.cookie, opening.identity)
+        return Subscriber(opening, SubscriberKeys(secret, seed))
 
     # ---- delivery ----
 

@@ -25,6 +25,7 @@ class End(Enum):
     CLOSED = "its route was closed"
     DRAINING_TOO_LONG = "what it had brought wasn't delivered in time after its SHUTDOWN"
     FILE_ENDED = "the end of the file"
+    GIVEN_UP = "its key wasn't confirmed for five seconds"
 
 
 @dataclass
@@ -80,6 +81,14 @@ class Session:
     def is_idle(self, now: int) -> bool:
         """Whether nothing was heard of the caller for five seconds."""
         return now - self.heard >= IDLE_AFTER
+
+    def end_of_silence(self, now: int) -> End | None:
+        """Why the session ends because something didn't come for five seconds, if it does."""
+        return End.IDLE if self.is_idle(now) else None
+
+    def key_packet(self, subtype: int, now: int, contents: bytes) -> bytes:
+        """A KMREQ or KMRSP to the caller (section 3.2.2). It doesn't count as sent."""
+        return write_control(Kind.USER_DEFINED, 0, self.time(now), self.opening.asked.caller, contents, subtype)
 
     def write(self, kind: Kind, information: int, now: int, body: bytes = b"") -> bytes:
         """A control packet to the caller."""

@@ -7,8 +7,9 @@ from typing import NamedTuple
 
 from . import losses
 from .numbers import SECOND, Run, in_window
-from .packets import Control, Kind, Packet, message_number, sequence_word, words, words_of, write_data
-from .session import Opening, Session
+from .packets import KMREQ, KMRSP, Control, Kind, Packet, message_number, sequence_word, words, words_of, write_data
+from .session import End, Opening, Session
+from .session_keys import SubscriberKeys
 
 HEADERS = 44
 LONGEST_MTU = 1500
@@ -42,8 +43,9 @@ class Subscriber(Session):
     """A subscriber's session. Payload k of `queued` has the number initial + k. `acked` is the least number not acknowledged, `expired`
     the least that isn't too old, `unsent` the one behind the greatest that was sent."""
 
-    def __init__(self, opening: Opening) -> None:
+    def __init__(self, opening: Opening, keys: SubscriberKeys | None) -> None:
         super().__init__(opening)
+        self.keys = keys
         self.queued: list[Queued] = []
         self.acked = self.expired = self.unsent = self.initial
         self.marked: set[int] = set()
@@ -82,6 +84,11 @@ class Subscriber(Session):
         """The numbers in flight that were marked as lost since they were sent last, ascending."""
         return sorted(it for it in self.marked if it >= self.front)
 
+    def end_of_silence(self, now: int) -> End | None:
+        """It also ends if its key wasn't confirmed."""
+        is_given_up = self.keys is not None and self.keys.is_given_up(now)
+        return super().end_of_silence(now) or (End.GIVEN_UP if is_given_up else None)
+
     # ---- what is fed ----
 
     def feed(self, payload: bytes, now: int) -> None:
@@ -105,6 +112,8 @@ class Subscriber(Session):
         """Takes a packet that isn't a SHUTDOWN; other kinds than these change nothing. Returns the ACKACK of a Full ACK (section 3.2.8)."""
         if not isinstance(packet, Control):
             return []
+        if packet.kind is Kind.USER_DEFINED and packet.subtype == KMRSP and self.keys:
+            self.keys.confirm(packet.body)
         if packet.kind is Kind.NAK:
             self.take_nak(packet)
         if packet.kind is Kind.ACK:
@@ -141,8 +150,8 @@ class Subscriber(Session):
     # ---- what goes out ----
 
     def emit(self, now: int) -> list[bytes]:
-        """An event's DROPREQ and data."""
-        packets = self.drop_requests(now)
+        """An event's DROPREQ, KMREQ and data."""
+        packets = self.drop_requests(now) + self.announcements(now)
         self.renew_credit(now)
         if self.resend_is_due(now):
             self.marked.update(range(self.front, self.next))
@@ -156,6 +165,11 @@ class Subscriber(Session):
             return []
         message = message_number(gone.first - self.initial)
         return [self.write(Kind.DROPREQ, message, now, words(sequence_word(gone.first), sequence_word(gone.last)))]
+
+    def announcements(self, now: int) -> list[bytes]:
+        """The KMREQ of the next key, if one is due."""
+        contents = self.keys.announce(len(self.queued), now) if self.keys else None
+        return [] if contents is None else [self.key_packet(KMREQ, now, contents)]
 
     # ---- what is sent again without a NAK ----
 
@@ -207,9 +221,11 @@ class Subscriber(Session):
         return packets
 
     def emit_new(self, now: int, most: int) -> list[bytes]:
-        """New numbers go while fewer are in flight than the flow window allows."""
+        """New numbers go while fewer are in flight than the flow window allows, and their key is confirmed."""
         packets: list[bytes] = []
         while len(packets) < most and self.next < self.queued_end and self.next - self.front < self.flow_window:
+            if self.keys and self.keys.holds(self.next - self.initial):
+                break
             number = self.next
             self.unsent = number + 1
             if self.entry.resend_percent is not None:
@@ -222,7 +238,10 @@ class Subscriber(Session):
         self.sent = self.data_sent = now
         index = number - self.initial
         payload, origin = self.queued[index]
-        return write_data(number, message_number(index), again, self.time(origin), self.opening.asked.caller, payload)
+        encryption = 0
+        if self.keys:
+            encryption, payload = self.keys.closed(index, sequence_word(number), payload)
+        return write_data(number, encryption, message_number(index), again, self.time(origin), self.opening.asked.caller, payload)
 
     def has_all(self) -> bool:
         """Whether all that was queued is acknowledged."""
