@@ -7,7 +7,8 @@ from collections import namedtuple
 
 HANDSHAKE, KEEPALIVE, ACK, NAK, SHUTDOWN, ACKACK, DROPREQ = 0, 1, 2, 3, 5, 6, 7
 INDUCTION, CONCLUSION = 1, 0xFFFFFFFF
-HSREQ, HSRSP, KMREQ, STREAM_ID, CONGESTION, FILTER, GROUP = 1, 2, 3, 5, 6, 7, 8
+USER_DEFINED = 0x7FFF
+HSREQ, HSRSP, KMREQ, KMRSP, STREAM_ID, CONGESTION, FILTER, GROUP = 1, 2, 3, 4, 5, 6, 7, 8  # KMREQ and KMRSP are subtypes of USER_DEFINED too.
 FLAGS = {"live": 0xBF, "buffer": 0xE4}
 PERIODIC_NAK = 0x10
 SRT_VERSION = 0x00010501
@@ -18,7 +19,7 @@ AGAIN = 0x04000000  # The flag R of a data packet's second word.
 LOOPBACK = bytes([1, 0, 0, 127]) + bytes(12)
 
 Data = namedtuple("Data", "number word stamp destination payload")
-Control = namedtuple("Control", "kind info stamp destination body")
+Control = namedtuple("Control", "kind info stamp destination body subtype")
 Handshake = namedtuple("Handshake", "version encryption extension initial mtu window kind socket_id cookie blocks")
 
 
@@ -28,8 +29,8 @@ def data(number: int, message: int, stamp: int, destination: int, payload: bytes
     return struct.pack("!4I", number, word, stamp, destination) + payload
 
 
-def control(kind: int, info: int, stamp: int, destination: int, body: bytes = b"") -> bytes:
-    return struct.pack("!4I", 0x80000000 | kind << 16, info, stamp, destination) + body
+def control(kind: int, info: int, stamp: int, destination: int, body: bytes = b"", subtype: int = 0) -> bytes:
+    return struct.pack("!4I", 0x80000000 | kind << 16 | subtype, info, stamp, destination) + body
 
 
 def read(datagram: bytes) -> Data | Control | None:
@@ -39,7 +40,7 @@ def read(datagram: bytes) -> Data | Control | None:
     first, second, stamp, destination = struct.unpack_from("!4I", datagram)
     if first < 0x80000000:
         return Data(first, second, stamp, destination, datagram[16:])
-    return Control(first >> 16 & 0x7FFF, second, stamp, destination, datagram[16:])
+    return Control(first >> 16 & 0x7FFF, second, stamp, destination, datagram[16:], first & 0xFFFF)
 
 
 def words(*numbers: int) -> bytes:

@@ -5,7 +5,10 @@ from enum import Enum
 from random import Random
 from typing import TYPE_CHECKING, NamedTuple
 
+import material
 import packets
+from material import WRONG_PASSPHRASE, Material
+from rules.ciphers import KEY_LENGTHS
 from rules.numbers import SECOND
 
 if TYPE_CHECKING:
@@ -13,6 +16,7 @@ if TYPE_CHECKING:
 
 Address = tuple[bytes, int]
 USUAL_WINDOW = 8192
+WHOLE_MESSAGE = 0xC0000000
 IPV4 = bytes(10) + b"\xff\xff"
 ADDRESSES = [IPV4 + bytes(it) for it in ((127, 0, 0, 1), (10, 0, 0, 1), (10, 0, 0, 5))] + [b"\x20\x01" + bytes(13) + b"\x01"]
 
@@ -28,11 +32,22 @@ class State(Enum):
 
 
 class Target(NamedTuple):
-    """The route that a caller asks for: its name, its mode, and the keys of both roles, if it has any."""
+    """The route that a caller asks for: its name, its mode, the keys and passphrases of both roles, if it has any, and the length of keys that
+    it wants."""
 
     name: str
     mode: str
     keys: dict[str, str]
+    passphrases: dict[str, str]
+    key_length: int | None
+
+    def material(self, random: Random, role: str) -> Material | None:
+        """What a caller of a role needs to be let in, seldom with another passphrase or length; None if the role has no passphrase."""
+        if role not in self.passphrases:
+            return None
+        passphrase = self.passphrases[role] if random.random() < 0.93 else random.choice((WRONG_PASSPHRASE, *self.passphrases.values()))
+        length = self.key_length if self.key_length is not None and random.random() < 0.9 else random.choice(KEY_LENGTHS)
+        return Material(random, passphrase, length)
 
 
 def stream_id(random: Random, target: Target, role: str) -> bytes:
@@ -63,6 +78,7 @@ class Caller:
         self.window = self.random.choice((USUAL_WINDOW, USUAL_WINDOW, 25600, 40, 3))
         self.delays = self.random.choice(((120, 120), (20, 300), (0, 0), (1500, 20)))
         self.congestion = self.random.choice((b"", b"", b"live" if target.mode == "live" else b"file"))
+        self.material = target.material(self.random, self.role)
         self.state = State.SILENT
         self.session = 0
         self.is_mute = False
@@ -88,6 +104,15 @@ class Caller:
         return packets.FLAGS[self.target.mode] | self.random.choice((0, 4, 0x80))
 
     def blocks(self) -> bytes:
+        """The blocks of its conclusion."""
+        text = self.plain_blocks()
+        if not self.target.passphrases:
+            return text
+        keys = material.blocks(self.random, self.material)
+        return text + keys if self.random.random() < 0.8 else keys + text
+
+    def plain_blocks(self) -> bytes:
+        """Those without a KMREQ."""
         flags = self.flags()
         text = packets.hsreq(flags, *self.delays) + packets.block(packets.STREAM_ID, packets.text_words(self.stream_id))
         if self.congestion:
@@ -115,8 +140,8 @@ class Caller:
     def send(self, datagram: bytes) -> None:
         self.world.network.send_up(self, datagram)
 
-    def send_control(self, kind: int, information: int = 0, body: bytes = b"") -> None:
-        self.send(packets.control(kind, information, self.stamp(), self.session, body))
+    def send_control(self, kind: int, information: int = 0, body: bytes = b"", subtype: int = 0) -> None:
+        self.send(packets.control(kind, information, self.stamp(), self.session, body, subtype))
 
     def hear(self, datagram: bytes) -> None:
         """Takes a packet for this caller's socket ID."""
@@ -243,9 +268,22 @@ class Publisher(Caller):
 
     def stream(self) -> None:
         """A burst of new packets, most often short, and no more than the gateway has room for, but for reckless ones. In a long one every
-        second number may be missing."""
+        second number may be missing. Who has keys renews them now and then."""
+        if self.material is not None and self.random.random() < 0.03:
+            self.renew(self.material)
         is_long = self.random.random() < 0.03
         self.send_new(70 if is_long else self.random.choice((1, 1, 1, 1, 2, 2, 3, 5)), 2 if is_long and self.random.random() < 0.2 else 1)
+
+    def renew(self, its: Material) -> None:
+        """A KMREQ with new keys, or one with something wrong. It may go on under the new key before that is answered."""
+        chance = self.random.random()
+        if chance < 0.7:
+            self.send_control(packets.USER_DEFINED, 0, its.renewed(), packets.KMREQ)
+        elif chance < 0.8:
+            its.turn()
+        else:
+            message = material.changed(self.random, its.message(its.current)) if chance < 0.9 else material.other(self.random, its)
+            self.send_control(packets.USER_DEFINED, 0, message, self.random.choice((packets.KMREQ, packets.KMREQ, packets.KMRSP, 0, 5)))
 
     def send_new(self, count: int, stride: int) -> None:
         """New packets, each by a stride past the one before."""
@@ -269,13 +307,19 @@ class Publisher(Caller):
 
     def data(self, number: int, again: bool) -> bytes:
         stamp, payload = self.flight[number]
-        return packets.data(number % packets.NUMBERS, 1 + number % 1000, stamp, self.session, payload, again)
+        flags = WHOLE_MESSAGE
+        if self.material is not None:
+            which, payload = self.material.encrypted(number % packets.NUMBERS, payload)
+            flags |= which << 27
+        return packets.data(number % packets.NUMBERS, 1 + number % 1000, stamp, self.session, payload, again, flags)
 
     def send_number(self, number: int, again: bool) -> None:
         self.send(self.data(number, again))
 
     def on_control(self, packet: packets.Control) -> None:
-        """Full ACKs are confirmed, and NAKs bring resends and drop requests, most often."""
+        """Full ACKs are confirmed, and NAKs bring resends and drop requests, most often. A KMRSP with a message turns the key."""
+        if packet.kind == packets.USER_DEFINED and packet.subtype == packets.KMRSP and len(packet.body) > 4 and self.material is not None:
+            self.material.turn()
         if packet.kind == packets.ACK:
             fields = packets.words_of(packet.body)
             self.base = max(self.base, packets.near(fields[0], self.base))
@@ -317,6 +361,7 @@ class Subscriber(Caller):
         self.is_slow = self.random.random() < world.plot.slow
         self.reports = self.random.random() >= world.plot.unreported
         self.holds_until = 0
+        self.confirms = self.material is None or self.random.random() < 0.9
         if self.is_slow:
             self.pace, self.window, self.hurry = 0.5, self.random.choice((2, 3, 10)), 0.2
 
@@ -338,6 +383,19 @@ class Subscriber(Caller):
             _, last = packets.words_of(packet.body)[:2]
             self.front = max(self.front, packets.near(last, self.front) + 1)
             self.pass_waiting()
+        if packet.kind == packets.USER_DEFINED and packet.subtype == packets.KMREQ and self.confirms:
+            self.confirm(packet.body)
+
+    def confirm(self, message: bytes) -> None:
+        """Most often the KMRSP to a KMREQ, with the same message; or one with another, or nothing."""
+        chance = self.random.random()
+        wrong = (packets.words(0x03000000), packets.words(0x04000000), message[:-1] + bytes([message[-1] ^ 1]), message[:-4], message + bytes(4), b"")
+        if chance < 0.7:
+            self.send_control(packets.USER_DEFINED, 0, message, packets.KMRSP)
+        elif chance < 0.8:
+            self.send_control(packets.USER_DEFINED, 0, self.random.choice(wrong), packets.KMRSP)
+        elif chance < 0.85:
+            self.send_control(packets.USER_DEFINED, 0, message, self.random.choice((packets.KMREQ, 0)))
 
     def pass_waiting(self) -> None:
         while self.front in self.waiting:

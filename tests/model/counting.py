@@ -4,6 +4,7 @@ from __future__ import annotations
 from collections import Counter
 from typing import Iterator, NamedTuple
 
+import key_cases
 import libsrt
 import packets
 from rules.hub import Hub
@@ -52,18 +53,20 @@ LETTERS = {"A": "arrival", "T": "tick", "U": "turn", "S": "send", "O": "opening"
 def expected(keys: frozenset[str]) -> list[str]:
     """The kinds each of which has to occur if some routes have these optional keys."""
     by_key = [HAPPENINGS_BY_KEY, *([libsrt.KINDS_BY_KEY] if "callers" in keys else [])]
+    by_key += [{it: key_cases.kinds_of(it, "callers" in keys) for it in keys}]
     return [*EVENTS, *COMES, *REPLIES, *HAPPENINGS, *(kind for its in by_key for key, kinds in its.items() if key in keys for kind in kinds)]
 
 
 class Before(NamedTuple):
     """What a route was like before a turn: its active publisher, how much each publisher had delivered, how much was queued for each
-    subscriber, and what else is kept of one with `callers = "libsrt"`."""
+    subscriber, and what else is kept of one with `callers = "libsrt"`, and of one with a passphrase."""
 
     route: Route
     active: Publisher | None
     delivered: dict[Publisher, int]
     queued: dict[Subscriber, int]
     libsrt: libsrt.Before | None
+    keys: key_cases.Before | None
 
 
 def kind_of_arrival(datagram: bytes) -> str:
@@ -94,7 +97,7 @@ class Tally:
         route = lane.route
         delivered = {it: len(it.delivered) for it in route.publishers()}
         queued = {it: len(it.queued) for it in route.subscribers()}
-        return Before(route, route.active, delivered, queued, libsrt.before_turn(lane))
+        return Before(route, route.active, delivered, queued, libsrt.before_turn(lane), key_cases.before_turn(lane))
 
     def note(self, line: str, answer: str, before: Before | None) -> None:
         """Counts a line and its answer."""
@@ -111,7 +114,7 @@ class Tally:
     def kinds_of_reply(self, datagram: bytes) -> Iterator[str]:
         packet = packets.read(datagram)
         if isinstance(packet, packets.Data):
-            yield "data again" if packet.word & 0x04000000 else "data"
+            yield "data again" if packet.word & packets.AGAIN else "data"
             return
         assert packet is not None
         if packet.kind == packets.HANDSHAKE:
@@ -151,6 +154,8 @@ class Tally:
             if subscriber.is_open and subscriber.lost() and subscriber.credit < CREDIT_OF_PACKET:
                 self.add("resend without credit")
         for kind in libsrt.reached(before.libsrt) if before.libsrt else ():
+            self.add(kind)
+        for kind in key_cases.reached(before.keys) if before.keys else ():
             self.add(kind)
 
     def note_sessions(self, hub: Hub) -> None:

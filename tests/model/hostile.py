@@ -5,7 +5,9 @@ import struct
 from random import Random
 from typing import Callable, NamedTuple
 
+import material
 import packets
+from callers import Target
 from plots import SECRET
 
 
@@ -118,12 +120,18 @@ ODD_STREAM_IDS = (
 )
 
 
-def odd_conclusion(random: Random, peer: tuple[bytes, int], moment: int, name: str, mode: str) -> bytes:
-    """A conclusion that is right but for one or two things, for a route of this name."""
-    flags = packets.FLAGS[mode]
+def key_blocks(random: Random, target: Target, role: bytes) -> list[bytes]:
+    """The KMREQ of a conclusion that asks for a role with a passphrase."""
+    its = target.material(random, "publish" if role == b",m=publish" else "request")
+    return [] if its is None else [material.blocks(random, its)]
+
+
+def odd_conclusion(random: Random, peer: tuple[bytes, int], moment: int, target: Target) -> bytes:
+    """A conclusion that is right but for one or two things."""
+    flags = packets.FLAGS[target.mode]
     role = random.choice((b",m=publish", b",m=request", b""))
-    it = Odd(5, random.randrange(1 << 31), 1500, 8192, packets.CONCLUSION, packets.cookie(SECRET, *peer, moment // 60_000_000),
-             [hsreq(flags), stream_block(b"#!::r=" + name.encode() + role)])
+    blocks = [hsreq(flags), stream_block(b"#!::r=" + target.name.encode() + role), *key_blocks(random, target, role)]
+    it = Odd(5, random.randrange(1 << 31), 1500, 8192, packets.CONCLUSION, packets.cookie(SECRET, *peer, moment // 60_000_000), blocks)
     changes: tuple[Callable[[], Odd], ...] = (
         lambda: it._replace(version=random.choice((0, 4, 6))),
         lambda: it._replace(initial=it.initial | 0x80000000),

@@ -88,6 +88,7 @@ SECRET = bytes(range(32))
 NAMES = ("studio", "files", "a", "b/c", "news.1", "sport_2", "x-y")
 NETWORKS = ("10.0.0.0/30", "10.0.0.4/30", "10.0.0.0/24", "127.0.0.1", "0.0.0.0/0")
 ACCESS_KEYS = ("open-sesame", "k")
+PASSPHRASES = {"publish_passphrase": "correct horse battery", "request_passphrase": "hält die Leitung"}
 
 
 def route_text(random: Random, plot: Plot, name: str, mode: str, more: list[str]) -> str:
@@ -116,8 +117,13 @@ def optional_keys(random: Random, plot: Plot, keys: frozenset[str]) -> list[str]
         f"sessions_per_address = {random.randint(1, 3)}": 0.3,
         f"takeover_ms = {random.choice((100, 200, 500, 1500))}": 0.6,
         f"resend_percent = {random.choice((5, 10, 25))}": 0.5,
+        **{f'{key} = "{text}"': 0.5 for key, text in PASSPHRASES.items() if key in keys},
     }
-    return [line for line, share in lines.items() if random.random() < share and line.split(" ")[0] in keys]
+    found = [line for line, share in lines.items() if random.random() < share and line.split(" ")[0] in keys]
+    has_passphrase = any(line.split(" ")[0] in PASSPHRASES for line in found)
+    if has_passphrase and "pbkeylen" in keys and random.random() < 0.3:
+        found.append(f"pbkeylen = {random.choice((16, 24, 32))}")
+    return found
 
 
 def config_text(random: Random, plot: Plot, keys: frozenset[str]) -> str:

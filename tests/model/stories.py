@@ -3,10 +3,10 @@ numbers, stamps, ports and payloads are random all the same."""
 from __future__ import annotations
 
 from random import Random
-from typing import Any, Callable
+from typing import Any, Callable, TypeVar
 
 import packets
-from callers import ADDRESSES, Caller, Publisher, State, Subscriber
+from callers import ADDRESSES, WHOLE_MESSAGE, Caller, Publisher, State, Subscriber
 from counting import Tally
 from plots import Plot
 from rules.numbers import SECOND
@@ -19,9 +19,11 @@ LATER = SECOND // 10
 class Story:
     """A tape of one route whose callers do what they are told. Numbers of packets are counted from a caller's initial one."""
 
-    def __init__(self, seed: int, mode: str, tally: Tally, buffer: int = 32, more: tuple[str, ...] = (), now: int | None = None) -> None:
+    def __init__(
+        self, seed: int, mode: str, tally: Tally, buffer: int = 32, more: tuple[str, ...] = (), now: int | None = None, callers: str = "libsrt"
+    ) -> None:
         self.mode = mode
-        plot = PLOT._replace(modes=(mode,), buffers=(buffer,), lines=('callers = "libsrt"', *more))
+        plot = PLOT._replace(modes=(mode,), buffers=(buffer,), lines=(f'callers = "{callers}"', *more))
         self.world = World(Random(seed), plot, frozenset(), tally)
         self.world.now = self.world.now if now is None else now
         (self.entry,) = self.world.entries().values()
@@ -49,8 +51,16 @@ class Story:
         self.world.serve()
 
     def calls(self, caller: Caller) -> None:
-        """A caller makes its conclusion. If a session opens it is its own from now on."""
-        self.sends(caller, caller.handshake(5, packets.CONCLUSION, caller.cookie(), caller.blocks()))
+        """A caller makes its conclusion."""
+        self.concludes(caller, caller.blocks())
+        self.notes(caller)
+
+    def concludes(self, caller: Caller, blocks: bytes) -> None:
+        """A caller makes its conclusion with these blocks."""
+        self.sends(caller, caller.handshake(5, packets.CONCLUSION, caller.cookie(), blocks))
+
+    def notes(self, caller: Caller) -> None:
+        """The session that is open for a caller is its own from now on."""
         route = self.world.player.hub.lanes[0].route
         mine = [it for it in route.open if it.opening.peer.port == caller.peer[1]]
         if mine:
@@ -58,6 +68,12 @@ class Story:
 
     def comes(self, kind: type[Caller], address: int = 0, reports: bool = True, delays: tuple[int, int] | None = None) -> Caller:
         """A caller of this role comes and is let in. A subscriber reports losses at intervals, if nothing else is said."""
+        caller = self.new(kind, address, reports, delays)
+        self.calls(caller)
+        return caller
+
+    def new(self, kind: type[Caller], address: int = 0, reports: bool = True, delays: tuple[int, int] | None = None) -> Caller:
+        """A caller that didn't call yet."""
         self.world.next_port += 1
         random = self.world.random
         caller = kind(self.world, target_of(self.entry), (ADDRESSES[address], self.world.next_port), random.randrange(1 << 32))
@@ -65,7 +81,6 @@ class Story:
         caller.delays = caller.delays if delays is None else delays
         if isinstance(caller, Subscriber):
             caller.reports = reports
-        self.calls(caller)
         return caller
 
     def publisher(self, address: int = 0) -> Caller:
@@ -76,13 +91,16 @@ class Story:
 
     def data(self, caller: Caller, first: int, count: int = 1, early: int = 0) -> None:
         """Data packets with these numbers, whose stamps are so much ahead of their time."""
-        for number in range(caller.initial + first, caller.initial + first + count):
-            payload = self.world.random.randbytes(self.world.random.choice((1, 30)))
-            stamp = caller.stamp(self.world.now + early)
-            self.sends(caller, packets.data(number % packets.NUMBERS, 1, stamp, caller.session, payload))
+        for number in range(first, first + count):
+            self.packet(caller, number, self.world.random.randbytes(self.world.random.choice((1, 30))), early)
 
-    def control(self, caller: Caller, kind: int, information: int = 0, body: bytes = b"") -> None:
-        self.sends(caller, packets.control(kind, information, caller.stamp(), caller.session, body))
+    def packet(self, caller: Caller, number: int, payload: bytes, early: int, flags: int = WHOLE_MESSAGE) -> None:
+        """A data packet with this payload."""
+        stamp = caller.stamp(self.world.now + early)
+        self.sends(caller, packets.data((caller.initial + number) % packets.NUMBERS, 1, stamp, caller.session, payload, flags=flags))
+
+    def control(self, caller: Caller, kind: int, information: int = 0, body: bytes = b"", subtype: int = 0) -> None:
+        self.sends(caller, packets.control(kind, information, caller.stamp(), caller.session, body, subtype))
 
     def alive(self, *callers: Caller) -> None:
         for it in callers:
@@ -97,18 +115,27 @@ class Story:
 
 
 STORIES: dict[str, Callable[[int, Tally], Made]] = {}
+# The optional keys that the configuration of a story has.
+KEYS_OF_STORIES: dict[str, frozenset[str]] = {}
+Kind = TypeVar("Kind", bound=Story)
 
 
 def story(*modes: str, **words: Any) -> Callable[[Callable[[Story], None]], None]:
     """Adds a story to the list, once for each of these modes. `words` are those of a Story."""
-    def adding(tell: Callable[[Story], None]) -> None:
+    return story_of(Story, frozenset({"callers"}), *modes, **words)
+
+
+def story_of(kind: type[Kind], keys: frozenset[str], *modes: str, **words: Any) -> Callable[[Callable[[Kind], None]], None]:
+    """The same for a kind of story whose configuration has these optional keys."""
+    def adding(tell: Callable[[Kind], None]) -> None:
         for mode in modes:
             def made(seed: int, tally: Tally, mode: str = mode) -> Made:
-                it = Story(seed, mode, tally, **words)
+                it = kind(seed, mode, tally, **words)
                 tell(it)
                 tally.note_sessions(it.world.player.hub)
                 return it.made()
             STORIES[f"{tell.__name__}_{mode}"] = made
+            KEYS_OF_STORIES[f"{tell.__name__}_{mode}"] = keys
     return adding
 
 

@@ -14,9 +14,11 @@ from network import Network
 from plots import NAMES, SECRET, Plot, config_text
 from rules import configuration
 from rules.configuration import Entry
+from rules.lobby import key_length_of, passphrase_of
 from rules.numbers import MOMENTS, SECOND, WORDS
 from rules.publisher import Publisher as SessionOfPublisher
 from rules.session import Session
+from rules.stream_ids import Role
 from rules.tapes import NoEvent, Player
 
 TICK = 10_000
@@ -51,7 +53,13 @@ class Made(NamedTuple):
 def target_of(entry: Entry) -> Target:
     """What a right caller knows of a route."""
     keys = {"publish": entry.publish_key, "request": entry.request_key}
-    return Target(entry.name, entry.mode.value, {role: key for role, key in keys.items() if key is not None})
+    passphrases = {it.value: passphrase_of(entry, it) for it in Role}
+    return Target(entry.name, entry.mode.value, given(keys), given(passphrases), key_length_of(entry))
+
+
+def given(values: dict[str, str | None]) -> dict[str, str]:
+    """The values that were given."""
+    return {role: value for role, value in values.items() if value is not None}
 
 
 class World:
@@ -242,8 +250,8 @@ class World:
         """A conclusion with something wrong, for a route that is shown, if one is."""
         entry = self.random.choice(list(self.entries().values()) or [None])
         peer = (self.random.choice(ADDRESSES), self.random.randint(4000, 4010))
-        name, mode = (entry.name, entry.mode.value) if entry else ("nobody", "live")
-        self.arrive(peer, hostile.odd_conclusion(self.random, peer, self.now, name, mode))
+        target = target_of(entry) if entry else Target("nobody", "live", {}, {}, None)
+        self.arrive(peer, hostile.odd_conclusion(self.random, peer, self.now, target))
 
     def full_routes(self) -> list[int]:
         """The routes that are shown and have full inboxes."""
