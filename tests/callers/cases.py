@@ -523,7 +523,7 @@ def expect_stream(outlet, end, who="the tool"):
     expect(found and found == list(range(found[0], end)), f"{who} got {len(found)} payloads, {found[:1]} to {found[-1:]}, with gaps or others")
 
 
-def tools_relay(source, sinks, least_ms, count=400, calm=None):
+def tools_relay(source, sinks, least_ms, count=400, calm=None, slack_ms=100):
     """Plays an srt-live-transmit that publishes to `source`, and one that subscribes at each of `sinks`."""
     inlet, outlets = tools.Inlet(), [tools.Outlet() for _ in sinks]
     ran = [tools.transmit(inlet.address, source)]
@@ -544,7 +544,7 @@ def tools_relay(source, sinks, least_ms, count=400, calm=None):
             time.sleep(0.02)
         for at, outlet in enumerate(outlets):
             expect_stream(outlet, first + count, f"player {at}")
-            expect_delays(list(outlet.got), least_ms)
+            expect_delays(list(outlet.got), least_ms, slack_ms)
     finally:
         for one in ran:
             one.end()

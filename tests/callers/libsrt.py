@@ -76,12 +76,12 @@ class Transfer:
         self.running.append(tools.Tool([FILE, source, sink]))
         return self.running[-1]
 
-    def sender(self, address):
-        return self.started(f"file://{self.path}", tools.srt(address, streamid=publish(self.name)))
+    def sender(self, address, **options):
+        return self.started(f"file://{self.path}", tools.srt(address, streamid=publish(self.name), **options))
 
-    def receiver(self, address, at=0):
+    def receiver(self, address, at=0, **options):
         os.mkdir(f"{self.room.name}/received.{at}")
-        return self.started(tools.srt(address, streamid=self.name), f"file://{self.room.name}/received.{at}/file")
+        return self.started(tools.srt(address, streamid=self.name, **options), f"file://{self.room.name}/received.{at}/file")
 
     def received(self, at=0):
         """The bytes that a receiver has written. It gives the file the name of its Stream ID, or the one that is asked for."""

@@ -146,9 +146,9 @@ def ffmpeg_takes_over(_):
 class Fed:
     """An srt-live-transmit that publishes numbered payloads, 250 in a second, until it is ended."""
 
-    def __init__(self, address, first):
+    def __init__(self, address, first, **options):
         self.inlet, self.over = tools.Inlet(), threading.Event()
-        self.tool = tools.transmit(self.inlet.address, tools.srt(address, streamid=publish("studio")))
+        self.tool = tools.transmit(self.inlet.address, tools.srt(address, streamid=publish("studio"), **options))
         self.process, self.errors = self.tool.process, self.tool.errors
         self.feeding = threading.Thread(target=lambda: self.inlet.feed(endless(self.over, first), 0.004), daemon=True)
         self.feeding.start()

@@ -1,4 +1,4 @@
-"""Real callers: srt-live-transmit and ffmpeg, if they are installed."""
+"""Real callers: srt-live-transmit, ffmpeg and GStreamer, if they are installed."""
 import shutil
 import socket
 import subprocess
@@ -9,10 +9,18 @@ from machine import free_port
 
 SRT = "srt-live-transmit"
 FFMPEG = "ffmpeg"
+GSTREAMER = "gst-launch-1.0"
+INSPECT = "gst-inspect-1.0"
 
 
 def has(tool):
-    return shutil.which(tool) is not None
+    """Whether a tool is installed; GStreamer with its elements for SRT."""
+    if shutil.which(tool) is None:
+        return False
+    if tool != GSTREAMER:
+        return True
+    quiet = dict(stdin=subprocess.DEVNULL, stdout=subprocess.DEVNULL, stderr=subprocess.DEVNULL)
+    return shutil.which(INSPECT) is not None and all(subprocess.run([INSPECT, "--exists", it], **quiet).returncode == 0 for it in ("srtsrc", "srtsink"))
 
 
 class Tool:
@@ -134,6 +142,12 @@ class Outlet(threading.Thread):
 def transmit(source, sink, fed=False):
     """An srt-live-transmit that forwards from one address to another."""
     return Tool([SRT, "-chunk:1316", source, sink], fed)
+
+
+def gstreamer(*elements):
+    """A GStreamer pipeline of these elements, each a list of words."""
+    words = [word for it in elements for word in ("!", *it)]
+    return Tool([GSTREAMER, "-q", *words[1:]])
 
 
 def srt(address, **options):
