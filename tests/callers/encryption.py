@@ -1,6 +1,7 @@
-"""Routes with passphrases: encoders under keys of each length, which they renew while they send, and callers that are refused. An observer on
-the line sees under which keys packets are."""
+"""Routes with passphrases: encoders under keys of each length, which they renew while they send, players that are announced keys of their
+own, and callers that are refused. An observer on the line sees under which keys packets are."""
 import collections
+import re
 import tempfile
 import threading
 import time
@@ -9,9 +10,10 @@ import packets
 import running
 import tools
 from access import closed, opens, viewed
-from caller import Caller, Publisher, Subscriber, endless, indexes, start_all, stream
+from caller import Caller, Publisher, Subscriber, endless, indexes, now, start_all, stream
 from cases import case, continuous, tools_relay
-from expecting import expect, expect_refusal, expect_run, publish
+from expecting import expect, expect_refusal, expect_run, publish, request
+from libsrt import FILE, MEGABYTE, Transfer, expect_content, files
 from proxy import Proxy
 from running import Run
 from takeover import OTHER_NUMBERS, TAKEOVER_MS, Fed, Watch, number_of, source_of_number, two_publishers
@@ -273,3 +275,192 @@ def many_strangers(_):
         viewer.wait(5, count)
         closed(viewer, publisher, encoder, backup)
         expect_run(viewer.got, 0, count, "the viewer beside it")
+
+
+# Players.
+
+REQUEST_PASSPHRASE = "hold the line please"
+# The contents of a KMREQ with a key of 24 bytes, wrapped by the passphrase of players.
+PLAYER_KEYS = bytes.fromhex("12202901000000000200020000000406ffeeddccbbaa9988776655443322110055d5c0a04098090aa97287b4eba8443d46d8ba88121ed8187cffdf8e770d9860")
+GIVEN_UP_AFTER = 5.0
+
+
+def for_players(name="studio", **others):
+    """The table of a route whose players need the passphrase."""
+    return live(name, request_passphrase=REQUEST_PASSPHRASE, **others)
+
+
+def plays(address, name="studio", passphrase=REQUEST_PASSPHRASE, **options):
+    """The address from which a player of libsrt receives."""
+    return tools.srt(address, streamid=name, passphrase=passphrase, **options)
+
+
+def expect_players_encrypted(lines):
+    """Expects that each player was announced a key, and that no two of them were sent the same bytes."""
+    for at, (line, seen) in enumerate(lines):
+        line.stop()
+        seen.expect_encrypted(False, f"player {at}")
+        announced, confirmed = seen.keys[False, packets.KMREQ], seen.keys[True, packets.KMRSP]
+        expect(1 <= announced <= 20 and confirmed >= 1, f"player {at}: {announced} KMREQs and {confirmed} KMRSPs")
+    for at, (_, seen) in enumerate(lines):
+        for _, other in lines[:at]:
+            expect(not seen.payloads[False] & other.payloads[False], "two players were sent the same bytes")
+
+
+@case("srt-live-transmit in clear to players with keys of 16, 24 and 32 bytes, and of no length that was given", needs=[tools.SRT])
+def transmit_plays(_):
+    with Run([for_players(latency_ms=300)]) as run:
+        run.is_up()
+        lines = [observed(run.address) for _ in range(4)]
+        sinks = [plays(line.address, **options) for (line, _), options in zip(lines, [*(dict(pbkeylen=it) for it in LENGTHS), {}])]
+        tools_relay(tools.srt(run.address, streamid=publish("studio")), sinks, 600, 600, slack_ms=SLACK_MS)
+        expect_players_encrypted(lines)
+
+
+def wait_for_players(run, count, seconds=15):
+    """Waits until the log says that so many players' sessions were opened."""
+    until = time.monotonic() + seconds
+    while time.monotonic() < until and sum(bool(re.match(r"studio: subscriber \S+ opened", it)) for it in run.texts()) < count:
+        time.sleep(0.02)
+
+
+def pieces_of(contents, size=1316):
+    """The payloads that a player wrote one behind the other."""
+    return [(contents[at:at + size], 0) for at in range(0, len(contents) - size + 1, size)]
+
+
+@case("ffmpeg and GStreamer play under keys, and write what was published", needs=[tools.FFMPEG, tools.GSTREAMER])
+def others_play(_):
+    """ffmpeg passes on what it receives, as data."""
+    count = 500
+    with Run([for_players(latency_ms=300)]) as run, tempfile.TemporaryDirectory(prefix="srtgw-keys-") as room:
+        run.is_up()
+        lines = [observed(run.address) for _ in range(2)]
+        words = ["-hide_banner", "-loglevel", "error", "-probesize", "32", "-analyzeduration", "0", "-f", "data", "-i", plays(lines[0][0].address, pbkeylen=32)]
+        source = to_gstreamer("srtsrc", lines[1][0].address, "studio", f"passphrase={REQUEST_PASSPHRASE}", "pbkeylen=16")
+        with tools.Tool([tools.FFMPEG, *words, "-map", "0", "-c", "copy", "-f", "data", "-flush_packets", "1", "pipe:1"]) as ffmpeg, \
+                tools.gstreamer(source, ["filesink", f"location={room}/came", "buffer-mode=2"]) as gstreamer:
+            wait_for_players(run, 2)
+            publisher = opens(Publisher(run.address, publish("studio"), stream(count), 5_000), "a publisher")
+            publisher.start()
+            expect(publisher.wait_delivered(20), "the publisher's window didn't become free")
+            ffmpeg.wait_output(1316 * count, 5)
+            time.sleep(1)
+            closed(publisher)
+        with open(f"{room}/came", "rb") as file:
+            written = file.read()
+        for who, came, tool in (("ffmpeg", bytes(ffmpeg.output), ffmpeg), ("GStreamer", written, gstreamer)):
+            expect(len(came) == 1316 * count, f"{who} has {len(came)} bytes of {1316 * count}: {tool.errors()[-300:]!r}")
+            expect_run(pieces_of(came), 0, count, who)
+        expect_players_encrypted(lines)
+
+
+@case("keys on both sides, over lines that lose 5 %, KMREQs and KMRSPs too", needs=[tools.SRT])
+def both_sides_over_bad_lines(_):
+    """A player's clock begins with the answer of its conclusion, which may be lost too."""
+    table = live(publish_passphrase=PUBLISH_PASSPHRASE, request_passphrase=REQUEST_PASSPHRASE, latency_ms=800)
+    with Run([table]) as run:
+        run.is_up()
+        here, there = observed(run.address), [observed(run.address) for _ in LENGTHS]
+
+        def bad(yes):
+            for line, _ in (here, *there):
+                line.loss = 0.05 if yes else 0
+
+        sinks = [plays(line.address, pbkeylen=it, latency=800) for (line, _), it in zip(there, LENGTHS)]
+        for line, _ in there:
+            line.loss = 0.05
+        tools_relay(sends(here[0].address, length=24), sinks, 1600, 1000, bad, 2000)
+        here[1].expect_encrypted(True, "the encoder", both=True)
+        here[0].stop()
+        expect_players_encrypted(there)
+        expect(all(line.lost >= 20 for line, _ in (here, *there)), f"the lines lost only {[line.lost for line, _ in (here, *there)]} packets")
+
+
+@case("a file under keys from srt-file-transmit to two of them, and all end by themselves", needs=[FILE])
+def file_under_keys(_):
+    table = files("archive", publish_passphrase=PUBLISH_PASSPHRASE, request_passphrase=REQUEST_PASSPHRASE)
+    with Run([table], "--no-time") as run, Transfer(2 * MEGABYTE, "archive") as transfer:
+        run.is_up()
+        lines = [observed(run.address) for _ in range(3)]
+        receivers = [transfer.receiver(lines[at][0].address, at, passphrase=REQUEST_PASSPHRASE, pbkeylen=length) for at, length in enumerate((16, 32))]
+        for at in range(len(receivers)):
+            run.line(r"archive: subscriber \S+ opened.*", 10)
+        sender = transfer.sender(lines[2][0].address, passphrase=PUBLISH_PASSPHRASE, pbkeylen=32, kmrefreshrate=500, kmpreannounce=100)
+        expect(sender.ended(60), f"the sender goes on, {len(transfer.received())} bytes were received")
+        for at, receiver in enumerate(receivers):
+            expect(receiver.ended(30), f"receiver {at} goes on, {len(transfer.received(at))} bytes were received")
+            expect_content(transfer.received(at), transfer.contents, f"receiver {at}")
+        lines[2][1].expect_encrypted(True, "the sender")
+        lines[2][0].stop()
+        expect_players_encrypted(lines[:2])
+
+
+# Who may play.
+
+
+class KeyedSubscriber(Subscriber):
+    """A player that confirms its keys, if it is to. `announced` has the messages of all KMREQs."""
+
+    def __init__(self, address, stream_id, confirms=True, contents=PLAYER_KEYS, **others):
+        super().__init__(address, stream_id, more=key_block(contents), **others)
+        self.confirms, self.announced = confirms, []
+
+    def on_control(self, packet):
+        if packet.kind == packets.USER_DEFINED and packet.subtype == packets.KMREQ:
+            self.announced.append(packet.body)
+            if self.confirms:
+                self.send(packets.control(packets.USER_DEFINED, 0, self.stamp(), self.peer_id, packet.body, packets.KMRSP))
+        else:
+            super().on_control(packet)
+
+
+@case("who may play: passphrases that are right, wrong, missing and in vain")
+def who_may_play(_):
+    with Run([for_players(), for_players("long", pbkeylen=32), for_publishers("other")]) as run:
+        run.is_up()
+        wrong = PLAYER_KEYS[:-1] + bytes([PLAYER_KEYS[-1] ^ 1])
+        for what, blocks, code in (("no KMREQ", b"", UNSECURE), ("two", 2 * key_block(PLAYER_KEYS), UNSECURE), ("keys of publishers", key_block(), BADSECRET),
+                                   ("a key that can't be unwrapped", key_block(wrong), BADSECRET)):
+            expect_refusal(code, Caller(run.address, request("studio"), more=blocks), what)
+        expect_refusal(UNSECURE, Caller(run.address, "long", more=key_block(PLAYER_KEYS)), "a key that is too short")
+        expect_refusal(UNSECURE, Caller(run.address, "other", more=key_block(PLAYER_KEYS)), "keys for a route without them")
+        expect_refusal(UNSECURE, Caller(run.address, publish("studio"), more=key_block(PLAYER_KEYS)), "an encoder with keys in vain")
+        caller = opens(Caller(run.address, "studio", more=key_block(PLAYER_KEYS)), "a player with keys")
+        expect(caller.answer[:3] == (5, 3, 3) and caller.answer.blocks[packets.KMRSP] == PLAYER_KEYS, f"its conclusion is answered with {caller.answer}")
+        closed(caller, opens(Caller(run.address, publish("studio")), "an encoder in clear"))
+
+
+@case("srt-live-transmit as a player reports a wrong passphrase, none, and one in vain", needs=[tools.SRT])
+def player_is_refused(_):
+    with Run([for_players(), for_players("other"), live("clear")]) as run:
+        run.is_up()
+        expect_rejected(run.address, [
+            ("studio", dict(passphrase=WRONG_PASSPHRASE), INCORRECT), ("other", dict(), UNEXPECTED), ("clear", dict(passphrase=REQUEST_PASSPHRASE), UNEXPECTED),
+            (publish("other"), dict(passphrase=REQUEST_PASSPHRASE), UNEXPECTED),
+        ])
+        expect(not [it for it in run.texts() if " opened" in it], f"sessions were opened: {run.texts()}")
+
+
+@case("a player that doesn't confirm its key is sent no payload, and ends after five seconds; one with the same KMREQ has another key")
+def never_confirms(_):
+    over = threading.Event()
+    with Run([for_players()]) as run:
+        run.is_up()
+        publisher = Publisher(run.address, publish("studio"), endless(over), 10_000)
+        players = [KeyedSubscriber(run.address, "studio", confirms) for confirms in (True, True, False)]
+        began = now()
+        start_all(*players, publisher)
+        silent = players[2]
+        expect(silent.shut.wait(GIVEN_UP_AFTER + 3), "who doesn't confirm isn't told of an end")
+        spent = (now() - began) / 1e6
+        expect(spent >= GIVEN_UP_AFTER, f"it ended after {spent:.1f} s")
+        expect(not silent.got and len(silent.announced) >= 20, f"it was sent {len(silent.got)} payloads and {len(silent.announced)} KMREQs")
+        over.set()
+        expect(publisher.wait_delivered(10), "the publisher's window didn't become free")
+        time.sleep(0.5)
+        closed(publisher, *players[:2])
+    messages = [set(it.announced) for it in players]
+    expect(all(len(it) == 1 for it in messages) and len(set.union(*messages)) == 3, f"the keys of the players are {messages}")
+    first, second = ({body for body, _ in it.got} for it in players[:2])
+    expect(len(first) >= 200 and len(second) >= 200 and not first & second, f"{len(first & second)} of {len(first)} and {len(second)} payloads are the same")
