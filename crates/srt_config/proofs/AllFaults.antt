@@ -16,7 +16,7 @@ use Rattle.srt_config.specs.declared.config.placed.Place.TheVariants as place
 use Rattle.srt_config.specs.declared.config.keys.Key.TheVariants.{Bind, Workers, Status, Defaults, Route, Name, Mode, LatencyMs, Buffer, Sessions}
 use Rattle.srt_config.specs.declared.config.keys.Key.TheVariants.{Inbox, Outbox, OpenRound, CloseRound, Callers, PublishFrom, RequestFrom, PublishKey}
 use Rattle.srt_config.specs.declared.config.keys.Key.TheVariants.{RequestKey, Reserved, SessionsPerAddress, TakeoverMs, ResendPercent}
-use Rattle.srt_config.specs.declared.config.keys.Key.TheVariants.{PublishPassphrase, Pbkeylen, Expect}
+use Rattle.srt_config.specs.declared.config.keys.Key.TheVariants.{PublishPassphrase, RequestPassphrase, Pbkeylen, Expect}
 use Rattle.srt_config.specs.KeyTable.{key_name}
 use Rattle.srt_config.specs.FirstFault.{Fault, UnknownKey, Missing, WrongKind, OutOfRange, BadName, RepeatedName, ◌>>=◌}
 use Rattle.srt_config.specs.Keys.{is_key, lesser, least_unknown, none_unknown, known, present, of_kind, value_at, text_at, number_at, optional}
@@ -224,11 +224,13 @@ rules_lead at table n callers is later =
 
 encryption_leads : (at : Place) (allowed : Bool) (table : Members) (later : List Placed) →
     LeadsTo at (encryption_in allowed table)
-    (told at (fault_if (passphrase_at PublishPassphrase table)) ++ (told at (fault_if (key_length_at allowed table)) ++ later)) later
+    (told at (fault_if (passphrase_at PublishPassphrase table)) ++
+    (told at (fault_if (passphrase_at RequestPassphrase table)) ++ (told at (fault_if (key_length_at allowed table)) ++ later))) later
 unfolding encryption_in
 encryption_leads at allowed table later =
     on at (passphrase_at PublishPassphrase table) _ _ _ _ (one at _ _) (λ publish e.
-    last at (key_length_at allowed table) _ _ _ (one at _ _))
+    on at (passphrase_at RequestPassphrase table) _ _ _ _ (one at _ _) (λ request e.
+    last at (key_length_at allowed table) _ _ _ (one at _ _)))
 
 -- the names of routes before
 any_name : (before : List Terms) (text : List ℕ) →
@@ -270,7 +272,8 @@ abbrev behind : (number : ℕ) (before : List Terms) (table : Members) → List 
 behind number before table =
     each (place.Route number) (route_fault (map (λ (t : Terms). t.name) before) table)
     (Mode ∷ LatencyMs ∷ Buffer ∷ Sessions ∷ Inbox ∷ Outbox ∷ OpenRound ∷ CloseRound ∷ Callers ∷ PublishFrom ∷ RequestFrom ∷
-    PublishKey ∷ RequestKey ∷ Reserved ∷ SessionsPerAddress ∷ TakeoverMs ∷ ResendPercent ∷ PublishPassphrase ∷ Pbkeylen ∷ Expect ∷ [])
+    PublishKey ∷ RequestKey ∷ Reserved ∷ SessionsPerAddress ∷ TakeoverMs ∷ ResendPercent ∷ PublishPassphrase ∷ RequestPassphrase ∷ Pbkeylen ∷
+    Expect ∷ [])
 
 -- the faults of a route, whose names before are those of these routes
 route_leads : (number : ℕ) (before : List Terms) (table own : Members) →

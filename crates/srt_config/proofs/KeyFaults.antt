@@ -21,7 +21,8 @@ use Rattle.srt_config.specs.declared.config.keys.Key.{Key}
 use Rattle.srt_config.specs.declared.config.keys.Key.TheVariants.{Secret, Bind, Workers, Status, Defaults, Route, Name, Mode, LatencyMs, Buffer}
 use Rattle.srt_config.specs.declared.config.keys.Key.TheVariants.{Sessions, Inbox, Outbox, OpenRound, CloseRound, Callers}
 use Rattle.srt_config.specs.declared.config.keys.Key.TheVariants.{PublishFrom, RequestFrom, PublishKey, RequestKey, Reserved}
-use Rattle.srt_config.specs.declared.config.keys.Key.TheVariants.{SessionsPerAddress, TakeoverMs, ResendPercent, PublishPassphrase, Pbkeylen, Expect}
+use Rattle.srt_config.specs.declared.config.keys.Key.TheVariants.{SessionsPerAddress, TakeoverMs, ResendPercent, PublishPassphrase, RequestPassphrase, Pbkeylen}
+use Rattle.srt_config.specs.declared.config.keys.Key.TheVariants.{Expect}
 use Rattle.srt_config.specs.Access.{network_in, are_texts, member_count, networked, networks_from, list_in, list_value, list_at}
 use Rattle.srt_config.specs.Access.{is_key_text, key_in, key_value, key_at, callers_of, access_at}
 use Rattle.srt_config.specs.Rules.{callers_in, callers_value, callers_at, draft_if_none, most_reserved, rules_with, rules_at}
@@ -516,7 +517,8 @@ encryption_tells : (allowed : Bool) (table : Members) → Tells (encryption_in a
 unfolding encryption_in
 encryption_tells allowed table =
     on (passphrase_at PublishPassphrase table) _ _ _ (passphrase_tells PublishPassphrase table) (λ publish e.
-    last (key_length_at allowed table) (encryption_with publish) _ (key_length_tells allowed table))
+    on (passphrase_at RequestPassphrase table) _ _ _ (passphrase_tells RequestPassphrase table) (λ request e.
+    last (key_length_at allowed table) (encryption_with publish request) _ (key_length_tells allowed table)))
 
 -- a truth value, which has no fault of its own
 truth_is : (key : Key) (o : Option Data) → optional (λ value. of_kind key (as_bool value)) o

@@ -1,8 +1,8 @@
 -- Computed examples: passphrases and lengths of keys, in routes and in the table of defaults.
-use Rattle.std.proofs.Common.{◌≡◌, ℕ, pos, negsuc, true, false, replicate, codes, [], ◌∷◌, Some, None, Ok, Err, refl}
+use Rattle.std.proofs.Common.{◌≡◌, pos, negsuc, true, false, replicate, codes, [], Some, None, Ok, Err, refl}
 use Rattle.toml.specs.Data.{Members, no_members, member, string, integer}
 use Rattle.srt_types.specs.declared.shared.KeyLength.TheVariants.{Aes128, Aes192, Aes256}
-use Rattle.srt_config.specs.declared.config.keys.Key.TheVariants.{PublishPassphrase, Pbkeylen}
+use Rattle.srt_config.specs.declared.config.keys.Key.TheVariants.{PublishPassphrase, RequestPassphrase, Pbkeylen}
 use Rattle.srt_config.specs.FirstFault.{WrongKind, OutOfRange}
 use Rattle.srt_config.specs.Encryption.{is_passphrase, passphrase_in, passphrase_value, passphrase_at, key_length_in, key_length_value, key_length_at}
 use Rattle.srt_config.specs.Encryption.{encryption_with, encryption_in, encryption_at, default_encryption_at}
@@ -52,20 +52,41 @@ length_of_a_route : encryption_at length_alone ≡ Err (OutOfRange Pbkeylen)
 unfolding encryption_in passphrase_at key_length_at key_length_value
 length_of_a_route = refl
 
-length_of_the_defaults : default_encryption_at length_alone ≡ Ok (encryption_with None (Some Aes128))
+length_of_the_defaults : default_encryption_at length_alone ≡ Ok (encryption_with None None (Some Aes128))
 unfolding encryption_in passphrase_at key_length_at key_length_value
 length_of_the_defaults = refl
 
 -- the length from the defaults and the passphrase of the route, and the other way round
 length_from_the_defaults : encryption_at (completed passphrase_alone length_alone)
-    ≡ Ok (encryption_with (Some (codes "correct horse battery")) (Some Aes128))
+    ≡ Ok (encryption_with (Some (codes "correct horse battery")) None (Some Aes128))
 unfolding encryption_in passphrase_at passphrase_value passphrase_in text_value key_length_at key_length_value
 length_from_the_defaults = refl
 
 passphrase_from_the_defaults : encryption_at (completed length_alone passphrase_alone)
-    ≡ Ok (encryption_with (Some (codes "correct horse battery")) (Some Aes128))
+    ≡ Ok (encryption_with (Some (codes "correct horse battery")) None (Some Aes128))
 unfolding encryption_in passphrase_at passphrase_value passphrase_in text_value key_length_at key_length_value
 passphrase_from_the_defaults = refl
+
+-- one passphrase of the two suffices
+abbrev other_passphrase : Members
+other_passphrase = member (codes "pbkeylen") (integer (pos 16)) (member (codes "request_passphrase") (string (codes "hold the line please")) no_members)
+
+length_with_the_other : encryption_at other_passphrase ≡ Ok (encryption_with None (Some (codes "hold the line please")) (Some Aes128))
+unfolding encryption_in passphrase_at passphrase_value passphrase_in text_value key_length_at key_length_value
+length_with_the_other = refl
+
+-- of two wrong passphrases the first one is the fault
+abbrev both_too_short : Members
+both_too_short =
+    member (codes "publish_passphrase") (string (codes "correct h")) (member (codes "request_passphrase") (string (codes "hold the ")) no_members)
+
+first_is_wrong : encryption_at both_too_short ≡ Err (OutOfRange PublishPassphrase)
+unfolding encryption_in passphrase_at passphrase_value passphrase_in text_value
+first_is_wrong = refl
+
+other_is_wrong : route_fault [] both_too_short RequestPassphrase ≡ Some (OutOfRange RequestPassphrase)
+unfolding passphrase_at passphrase_value passphrase_in text_value
+other_is_wrong = refl
 
 -- another kind comes before all else
 abbrev quoted : Members

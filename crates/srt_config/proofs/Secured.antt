@@ -10,15 +10,15 @@ use Rattle.srt_types.specs.Access.{AccessTerms, bytes_in}
 use Rattle.srt_types.specs.Entries.{is_between}
 use Rattle.srt_types.specs.Terms.{Terms}
 use Rattle.srt_config.specs.declared.config.keys.Key.{Key}
-use Rattle.srt_config.specs.declared.config.keys.Key.TheVariants.{PublishFrom, RequestFrom, PublishKey, RequestKey, PublishPassphrase, Pbkeylen, Expect}
+use Rattle.srt_config.specs.declared.config.keys.Key.TheVariants.{PublishPassphrase, RequestPassphrase, Pbkeylen, Expect}
 use Rattle.srt_config.specs.KeyTable.{key_name}
-use Rattle.srt_config.specs.FirstFault.{Fault, WrongKind, OutOfRange, ◌>>=◌}
+use Rattle.srt_config.specs.FirstFault.{Fault, OutOfRange, ◌>>=◌}
 use Rattle.srt_config.specs.Keys.{known, of_kind, optional, optional_flag_at, given_or_false, text_value}
-use Rattle.srt_config.specs.Access.{list_at, key_at, callers_of, access_at}
+use Rattle.srt_config.specs.Access.{access_at}
 use Rattle.srt_config.specs.Rules.{callers_at, draft_if_none, rules_at}
-use Rattle.srt_config.specs.Encryption.{passphrase_in, passphrase_value, passphrase_at, length_of, length_in, lengthened, key_length_in, key_length_value}
+use Rattle.srt_config.specs.Encryption.{passphrase_in, passphrase_value, passphrase_at, length_of, lengthened, key_length_in, key_length_value}
 use Rattle.srt_config.specs.Encryption.{key_length_at, has_passphrase, EncryptionTerms, encryption_with, encryption_in, encryption_at, with_encryption}
-use Rattle.srt_config.specs.EncryptionLaws.{text_of, number_of, size_of, IsWritten, EncryptionIsWritten, has_few_bytes, has_right_encryption}
+use Rattle.srt_config.specs.EncryptionLaws.{size_of, IsWritten, EncryptionIsWritten, has_few_bytes, has_right_encryption}
 use Rattle.srt_config.specs.EncryptionLaws.{EncryptionIsRight}
 use Rattle.srt_config.specs.Routes.{route_keys, name_at, mode_at, numbers_at, schedule_at, terms_with, with_access, with_rules, Planned, planned, route_at}
 use Rattle.srt_config.proofs.Sound.{passed}
@@ -119,6 +119,7 @@ read_length allowed table size e = length_is allowed (get_member (key_name Pbkey
 -- the encryption of a route's table
 record IsRead (table : Members) (encryption : EncryptionTerms) : Type 0 where
   publish : IsPassphrase (get_member (key_name PublishPassphrase) table) encryption.publish
+  request : IsPassphrase (get_member (key_name RequestPassphrase) table) encryption.request
   size : IsLength (has_passphrase table) (get_member (key_name Pbkeylen) table) encryption.key_length
 
 abbrev ok_encryption : EncryptionTerms → Result EncryptionTerms Fault
@@ -131,26 +132,14 @@ is_read : (table : Members) (encryption : EncryptionTerms) → encryption_at tab
 unfolding encryption_in
 is_read table encryption h =
     let a = passed (passphrase_at PublishPassphrase table) _ encryption h in
-    let b = passed (key_length_at (has_passphrase table) table) _ encryption a.2 in
-    subst (λ (x : EncryptionTerms). IsRead table x) (own_encryption (encryption_with a.0 b.0) encryption b.2)
-    (record { publish = read_passphrase PublishPassphrase table a.0 a.1; size = read_length (has_passphrase table) table b.0 b.1 })
-
-abbrev ok_access : AccessTerms → Result AccessTerms Fault
-ok_access x = Ok x
-
-own_access : (a b : AccessTerms) → ok_access a ≡ ok_access b → a ≡ b
-own_access a b e = cc
-
--- the lists and keys are read without a passphrase
-no_passphrase : (table : Members) (access : AccessTerms) → access_at table ≡ Ok access → access.request.passphrase ≡ None
-unfolding access_at
-no_passphrase table access h =
-    let a = passed (list_at PublishFrom table) _ access h in
-    let b = passed (list_at RequestFrom table) _ access a.2 in
-    let c = passed (key_at PublishKey table) _ access b.2 in
-    let d = passed (key_at RequestKey table) _ access c.2 in
-    let same : callers_of a.0 b.0 c.0 d.0 ≡ access = own_access (callers_of a.0 b.0 c.0 d.0) access d.2 in
-    sym (ap (λ (x : AccessTerms). x.request.passphrase) same)
+    let b = passed (passphrase_at RequestPassphrase table) _ encryption a.2 in
+    let c = passed (key_length_at (has_passphrase table) table) _ encryption b.2 in
+    subst (λ (x : EncryptionTerms). IsRead table x) (own_encryption (encryption_with a.0 b.0 c.0) encryption c.2)
+    (record {
+      publish = read_passphrase PublishPassphrase table a.0 a.1;
+      request = read_passphrase RequestPassphrase table b.0 b.1;
+      size = read_length (has_passphrase table) table c.0 c.1;
+    })
 
 abbrev ok_route : Planned → Result Planned Fault
 ok_route x = Ok x
@@ -184,20 +173,28 @@ pub encryption_is_written : EncryptionIsWritten
 encryption_is_written before table route h =
     let r = route_access before table route h in
     let read = is_read table r.2 r.3 in
-    subst (λ (a : AccessTerms). IsWritten table a) r.4 (read.publish.written, no_passphrase table r.0 r.1, read.size.written)
+    subst (λ (a : AccessTerms). IsWritten table a) r.4 (read.publish.written, read.request.written, read.size.written)
 
-right : (text request : Option (List ℕ)) (size : Option KeyLength) (has : Bool) → has_few_bytes text ≡ true → request ≡ None → is_some text ≡ has →
-    (is_none size || has) ≡ true → (has_few_bytes text && has_few_bytes request && (is_none size || is_some text || is_some request)) ≡ true
-right None None None has few same there may = refl
-right None None (Some size) has few same there may = absurd (false≢true (there ∙ may))
-right (Some text) None None has few same there may = rw few refl
-right (Some text) None (Some size) has few same there may = rw few refl
-right text (Some other) size has few same there may = absurd cc
+right : (text request : Option (List ℕ)) (size : Option KeyLength) (has other : Bool) → has_few_bytes text ≡ true → has_few_bytes request ≡ true →
+    is_some text ≡ has → is_some request ≡ other → (is_none size || (has || other)) ≡ true →
+    (has_few_bytes text && has_few_bytes request && (is_none size || is_some text || is_some request)) ≡ true
+right None None None has other few brief there too may = refl
+right None None (Some size) has other few brief there too may = absurd (false≢true (either has other there too ∙ may))
+  where
+    either : (has other : Bool) → false ≡ has → false ≡ other → false ≡ (has || other)
+    either false other there too = too
+    either true other there too = absurd (false≢true there)
+right None (Some text) None has other few brief there too may = rw brief refl
+right None (Some text) (Some size) has other few brief there too may = rw brief refl
+right (Some text) None None has other few brief there too may = rw few refl
+right (Some text) None (Some size) has other few brief there too may = rw few refl
+right (Some text) (Some also) None has other few brief there too may = rw (few, brief) refl
+right (Some text) (Some also) (Some size) has other few brief there too may = rw (few, brief) refl
 
 pub encryption_is_right : EncryptionIsRight
 encryption_is_right before table route h =
     let r = route_access before table route h in
     let read = is_read table r.2 r.3 in
     subst (λ (a : AccessTerms). has_right_encryption a ≡ true) r.4
-    (right r.2.publish r.0.request.passphrase r.2.key_length (has_passphrase table) read.publish.few (no_passphrase table r.0 r.1) read.publish.there
-    read.size.may)
+    (right r.2.publish r.2.request r.2.key_length (is_some (get_member (key_name PublishPassphrase) table))
+    (is_some (get_member (key_name RequestPassphrase) table)) read.publish.few read.request.few read.publish.there read.request.there read.size.may)

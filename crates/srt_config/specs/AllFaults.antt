@@ -14,7 +14,7 @@ use Rattle.srt_config.specs.declared.config.keys.Key.{Key}
 use Rattle.srt_config.specs.declared.config.keys.Key.TheVariants.{Secret, Bind, Workers, Status, Defaults, Route, Name, Mode, LatencyMs, Buffer}
 use Rattle.srt_config.specs.declared.config.keys.Key.TheVariants.{Sessions, Inbox, Outbox, OpenRound, CloseRound, Callers, PublishFrom}
 use Rattle.srt_config.specs.declared.config.keys.Key.TheVariants.{RequestFrom, PublishKey, RequestKey, Reserved}
-use Rattle.srt_config.specs.declared.config.keys.Key.TheVariants.{PublishPassphrase, Pbkeylen, Expect}
+use Rattle.srt_config.specs.declared.config.keys.Key.TheVariants.{PublishPassphrase, RequestPassphrase, Pbkeylen, Expect}
 use Rattle.srt_config.specs.KeyTable.{key_name, limits_of}
 use Rattle.srt_config.specs.FirstFault.{Fault, Toml, UnknownKey, Missing, WrongKind, OutOfRange, BadName, RepeatedName, BadSecret, BadAddress}
 use Rattle.srt_config.specs.FirstFault.{OutOfMemory, plain_fault, ◌>>=◌}
@@ -120,6 +120,7 @@ default_fault table RequestFrom = fault_if (list_at RequestFrom table)
 default_fault table PublishKey = fault_if (key_at PublishKey table)
 default_fault table RequestKey = fault_if (key_at RequestKey table)
 default_fault table PublishPassphrase = fault_if (passphrase_at PublishPassphrase table)
+default_fault table RequestPassphrase = fault_if (passphrase_at RequestPassphrase table)
 default_fault table Pbkeylen = fault_if (key_length_at true table)
 default_fault table Expect = fault_if (optional_flag_at Expect table)
 default_fault table key = fault_if (optional_key_number_at key table)

@@ -8,7 +8,7 @@ use Rattle.srt_config.specs.declared.config.keys.Key.{Key}
 use Rattle.srt_config.specs.declared.config.keys.Key.TheVariants.{Defaults, Route, Mode, LatencyMs, Buffer, Sessions, Inbox, Outbox}
 use Rattle.srt_config.specs.declared.config.keys.Key.TheVariants.{OpenRound, CloseRound, Callers, PublishFrom, RequestFrom, PublishKey}
 use Rattle.srt_config.specs.declared.config.keys.Key.TheVariants.{RequestKey, Reserved, SessionsPerAddress, TakeoverMs, ResendPercent}
-use Rattle.srt_config.specs.declared.config.keys.Key.TheVariants.{PublishPassphrase, Pbkeylen, Expect}
+use Rattle.srt_config.specs.declared.config.keys.Key.TheVariants.{PublishPassphrase, RequestPassphrase, Pbkeylen, Expect}
 use Rattle.srt_config.specs.KeyTable.{key_name}
 use Rattle.srt_config.specs.FirstFault.{Fault, ◌>>=◌}
 use Rattle.srt_config.specs.Keys.{known, optional, text_value, of_kind, optional_key_number_at, optional_flag_at}
@@ -67,7 +67,8 @@ with_defaults members = with_routes (completed_by (table_at Defaults members) (i
 abbrev pub default_keys : List Key
 default_keys =
     Mode ∷ LatencyMs ∷ Buffer ∷ Sessions ∷ Inbox ∷ Outbox ∷ OpenRound ∷ CloseRound ∷ Callers ∷ PublishFrom ∷ RequestFrom ∷
-    PublishKey ∷ RequestKey ∷ Reserved ∷ SessionsPerAddress ∷ TakeoverMs ∷ ResendPercent ∷ PublishPassphrase ∷ Pbkeylen ∷ Expect ∷ []
+    PublishKey ∷ RequestKey ∷ Reserved ∷ SessionsPerAddress ∷ TakeoverMs ∷ ResendPercent ∷ PublishPassphrase ∷ RequestPassphrase ∷ Pbkeylen ∷
+    Expect ∷ []
 
 unfoldable pub mode_value : Data → Result TheMode Fault
 mode_value value = text_value Mode value >>= λ text. mode_in text

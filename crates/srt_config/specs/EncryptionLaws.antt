@@ -6,7 +6,7 @@ use Rattle.srt_types.specs.Access.{AccessTerms, is_secured, bytes_in}
 use Rattle.srt_types.specs.Entries.{is_between}
 use Rattle.srt_types.specs.Terms.{Terms}
 use Rattle.srt_config.specs.declared.config.keys.Key.{Key}
-use Rattle.srt_config.specs.declared.config.keys.Key.TheVariants.{PublishPassphrase, Pbkeylen}
+use Rattle.srt_config.specs.declared.config.keys.Key.TheVariants.{PublishPassphrase, RequestPassphrase, Pbkeylen}
 use Rattle.srt_config.specs.KeyTable.{key_name}
 use Rattle.srt_config.specs.Routes.{Planned, route_at}
 
@@ -21,10 +21,10 @@ number_of key table = option_and_then as_integer (get_member (key_name key) tabl
 abbrev pub size_of : KeyLength → ℤ
 size_of size = pos (bytes_in size)
 
--- the passphrase and the length of keys are those of the table; there is none where the table has no such key
+-- the passphrases and the length of keys are those of the table; there is none where the table has no such key
 abbrev pub IsWritten : Members → AccessTerms → Type 0
 IsWritten table access =
-    (access.publish.passphrase ≡ text_of PublishPassphrase table) × (access.request.passphrase ≡ None) ×
+    (access.publish.passphrase ≡ text_of PublishPassphrase table) × (access.request.passphrase ≡ text_of RequestPassphrase table) ×
     (option_map size_of access.key_length ≡ number_of Pbkeylen table)
 
 -- so is each route's that was read

@@ -13,7 +13,8 @@ use Rattle.srt_config.specs.declared.config.keys.Key.{Key}
 use Rattle.srt_config.specs.declared.config.keys.Key.TheVariants.{Secret, Bind, Workers, Status, Defaults, Route, Name, Mode, LatencyMs, Buffer}
 use Rattle.srt_config.specs.declared.config.keys.Key.TheVariants.{Sessions, Inbox, Outbox, OpenRound, CloseRound, Callers}
 use Rattle.srt_config.specs.declared.config.keys.Key.TheVariants.{PublishFrom, RequestFrom, PublishKey, RequestKey, Reserved}
-use Rattle.srt_config.specs.declared.config.keys.Key.TheVariants.{SessionsPerAddress, TakeoverMs, ResendPercent, PublishPassphrase, Pbkeylen, Expect}
+use Rattle.srt_config.specs.declared.config.keys.Key.TheVariants.{SessionsPerAddress, TakeoverMs, ResendPercent, PublishPassphrase, RequestPassphrase, Pbkeylen}
+use Rattle.srt_config.specs.declared.config.keys.Key.TheVariants.{Expect}
 use Rattle.srt_config.specs.Access.{network_in, are_texts, member_count, is_key_text}
 use Rattle.srt_config.specs.Rules.{most_reserved}
 use Rattle.srt_config.specs.Encryption.{has_passphrase}
@@ -174,6 +175,7 @@ NoKeyLength allowed n fault = (fault ≡ OutOfRange Pbkeylen) × ((size : KeyLen
 abbrev pub InEncryption : (allowed : Bool) → Members → Faulty
 InEncryption allowed table =
     AtOptional PublishPassphrase as_str (NoPassphrase PublishPassphrase) table ⊳
+    AtOptional RequestPassphrase as_str (NoPassphrase RequestPassphrase) table ⊳
     AtOptional Pbkeylen as_integer (NoKeyLength allowed) table
 
 -- no truth value has a fault

@@ -4,7 +4,7 @@ use Rattle.srt_config.specs.declared.config.keys.Key.{Key}
 use Rattle.srt_config.specs.declared.config.keys.Key.TheVariants.{Secret, Bind, Workers, Status, Defaults, Route, Name, Mode, LatencyMs, Buffer}
 use Rattle.srt_config.specs.declared.config.keys.Key.TheVariants.{Sessions, Inbox, Outbox, OpenRound, CloseRound, Callers, PublishFrom, RequestFrom}
 use Rattle.srt_config.specs.declared.config.keys.Key.TheVariants.{PublishKey, RequestKey, Reserved, SessionsPerAddress, TakeoverMs}
-use Rattle.srt_config.specs.declared.config.keys.Key.TheVariants.{ResendPercent, PublishPassphrase, Pbkeylen, Expect}
+use Rattle.srt_config.specs.declared.config.keys.Key.TheVariants.{ResendPercent, PublishPassphrase, RequestPassphrase, Pbkeylen, Expect}
 use Rattle.srt_config.specs.declared.config.keys.ValueKind.{ValueKind}
 use Rattle.srt_config.specs.declared.config.keys.ValueKind.TheVariants.{Text, Number, Boolean, Networks, Table, Tables}
 use Rattle.srt_config.specs.declared.config.keys.Limits.{Limits}
@@ -36,6 +36,7 @@ key_name SessionsPerAddress = codes "sessions_per_address"
 key_name TakeoverMs = codes "takeover_ms"
 key_name ResendPercent = codes "resend_percent"
 key_name PublishPassphrase = codes "publish_passphrase"
+key_name RequestPassphrase = codes "request_passphrase"
 key_name Pbkeylen = codes "pbkeylen"
 key_name Expect = codes "expect"
 
@@ -66,6 +67,7 @@ kind_of SessionsPerAddress = Number
 kind_of TakeoverMs = Number
 kind_of ResendPercent = Number
 kind_of PublishPassphrase = Text
+kind_of RequestPassphrase = Text
 kind_of Pbkeylen = Number
 kind_of Expect = Boolean
 
@@ -100,6 +102,7 @@ limits_of SessionsPerAddress = between 1 17
 limits_of TakeoverMs = between 100 5000
 limits_of ResendPercent = between 5 1000
 limits_of PublishPassphrase = between 10 79
+limits_of RequestPassphrase = between 10 79
 limits_of Pbkeylen = between 16 32
 limits_of Expect = between 0 4_294_967_295
 
@@ -133,6 +136,7 @@ choices_of SessionsPerAddress = None
 choices_of TakeoverMs = None
 choices_of ResendPercent = None
 choices_of PublishPassphrase = None
+choices_of RequestPassphrase = None
 choices_of Pbkeylen = None
 choices_of Expect = None
 
@@ -163,5 +167,6 @@ is_private SessionsPerAddress = false
 is_private TakeoverMs = false
 is_private ResendPercent = false
 is_private PublishPassphrase = true
+is_private RequestPassphrase = true
 is_private Pbkeylen = false
 is_private Expect = false

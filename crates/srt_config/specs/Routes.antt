@@ -15,7 +15,7 @@ use Rattle.srt_config.specs.declared.config.keys.Key.{Key}
 use Rattle.srt_config.specs.declared.config.keys.Key.TheVariants.{Route, Name, Mode, LatencyMs, Buffer, Sessions, Inbox, Outbox}
 use Rattle.srt_config.specs.declared.config.keys.Key.TheVariants.{OpenRound, CloseRound, Callers, PublishFrom, RequestFrom, PublishKey}
 use Rattle.srt_config.specs.declared.config.keys.Key.TheVariants.{RequestKey, Reserved, SessionsPerAddress, TakeoverMs, ResendPercent}
-use Rattle.srt_config.specs.declared.config.keys.Key.TheVariants.{PublishPassphrase, Pbkeylen, Expect}
+use Rattle.srt_config.specs.declared.config.keys.Key.TheVariants.{PublishPassphrase, RequestPassphrase, Pbkeylen, Expect}
 use Rattle.srt_config.specs.KeyTable.{limits_of}
 use Rattle.srt_config.specs.Access.{access_at}
 use Rattle.srt_config.specs.Rules.{callers_at, draft_if_none, rules_at}
@@ -58,7 +58,8 @@ numbers_at table =
 abbrev pub route_keys : List Key
 route_keys =
     Name ∷ Mode ∷ LatencyMs ∷ Buffer ∷ Sessions ∷ Inbox ∷ Outbox ∷ OpenRound ∷ CloseRound ∷ Callers ∷ PublishFrom ∷ RequestFrom ∷
-    PublishKey ∷ RequestKey ∷ Reserved ∷ SessionsPerAddress ∷ TakeoverMs ∷ ResendPercent ∷ PublishPassphrase ∷ Pbkeylen ∷ Expect ∷ []
+    PublishKey ∷ RequestKey ∷ Reserved ∷ SessionsPerAddress ∷ TakeoverMs ∷ ResendPercent ∷ PublishPassphrase ∷ RequestPassphrase ∷ Pbkeylen ∷
+    Expect ∷ []
 
 -- a route that anyone may call, and that has the draft's rules
 abbrev pub terms_with : List ℕ → TheMode → Numbers → Terms

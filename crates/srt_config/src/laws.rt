@@ -31,7 +31,7 @@ pub fn defaults()
     ensures written { WrittenOutStays }
 {}
 
-/// A route has the passphrase and the length of keys that its table states, with its defaults, and none where its table has no such
+/// A route has the passphrases and the length of keys that its table states, with its defaults, and none where its table has no such
 /// key. A passphrase has 10 to 79 bytes, and only a route with a passphrase has a length of keys.
 pub fn encryption()
     ensures written { EncryptionIsWritten }

@@ -87,6 +87,7 @@ class Entry:
     takeover_ms: int | None = None
     resend_percent: int | None = None
     publish_passphrase: str | None = None
+    request_passphrase: str | None = None
     pbkeylen: int | None = None
     expect: bool = False
 
@@ -126,9 +127,9 @@ NUMBERS = {
 TOP_KEYS = frozenset({"secret", "bind", "workers", "status", "route"})
 ADDED_KEYS = (
     "callers", "publish_from", "request_from", "publish_key", "request_key", "reserved", "sessions_per_address", "takeover_ms",
-    "resend_percent", "publish_passphrase", "pbkeylen", "expect",
+    "resend_percent", "publish_passphrase", "request_passphrase", "pbkeylen", "expect",
 )
-PASSPHRASES = frozenset({"publish_passphrase"})
+PASSPHRASES = frozenset({"publish_passphrase", "request_passphrase"})
 KEY_LENGTHS = (16, 24, 32)
 ROUTE_KEYS = frozenset({"name", "mode", *NUMBERS, "open_round", "close_round", *ADDED_KEYS})
 
@@ -316,6 +317,7 @@ def added(table: Table, sessions: int) -> Table:
         "takeover_ms": lambda key, value: number(key, value, 100, 5000),
         "resend_percent": lambda key, value: number(key, value, 5, 1000),
         "publish_passphrase": passphrase,
+        "request_passphrase": passphrase,
         "pbkeylen": lambda key, value: key_length(key, value, not PASSPHRASES.isdisjoint(table)),
         "expect": truth,
     }

@@ -1,4 +1,4 @@
-//! The encryption of a route: the passphrase and the length of keys in its table.
+//! The encryption of a route: the passphrases and the length of keys in its table.
 
 ghost use Rattle.std.specs.Prelude.{◌≡◌, option_map, string_bytes, true};
 ghost use Rattle.toml.specs.View.{view, table_view};
@@ -21,6 +21,8 @@ use toml::{Table, Value};
 pub(crate) struct Encryption {
     /// The passphrase of publishers; None if their sessions aren't encrypted.
     pub(crate) publish: Option<String>,
+    /// The passphrase of subscribers; None if their sessions aren't encrypted.
+    pub(crate) request: Option<String>,
     /// The length of the keys that callers have to bring; None if they choose it.
     pub(crate) key_length: Option<KeyLength>,
 }
@@ -114,11 +116,12 @@ pub(crate) fn key_length_at(allowed: bool, table: &Table) -> Result<Option<KeyLe
     }
 }
 
-/// Whether a table has a passphrase, right or wrong.
+/// Whether a table has a passphrase of a role, right or wrong.
 pub(crate) fn has_passphrase(table: &Table) -> bool
     ensures { result ≡ has_passphrase (table_view table.now) }
 {
     found_at(table, Key::PublishPassphrase).is_some()
+        || found_at(table, Key::RequestPassphrase).is_some()
 }
 
 /// Returns the encryption in a table, with a length of keys where one is allowed.
@@ -127,22 +130,25 @@ fn encryption_in(alloc: Global, allowed: bool, table: &Table) -> Result<Encrypti
     ensures { Gives encryption_seen result (encryption_in allowed (table_view table.now)) }
 {
     let publish = passphrase_at(alloc, table, Key::PublishPassphrase)?;
+    let request = passphrase_at(alloc, table, Key::RequestPassphrase)?;
     let key_length = key_length_at(allowed, table)?;
     Ok(Encryption {
         publish,
+        request,
         key_length,
     })
 }
 
 /// Returns the encryption of the route of a table, whose length of keys means nothing without a passphrase. Allocates the
-/// passphrase.
+/// passphrases.
 pub(crate) fn encryption_at(alloc: Global, table: &Table) -> Result<Encryption, ConfigFault>
     ensures { Gives encryption_seen result (encryption_at (table_view table.now)) }
 {
     encryption_in(alloc, has_passphrase(table), table)
 }
 
-/// Returns the encryption in the table of defaults, whose routes may have the passphrase themselves. Allocates the passphrase.
+/// Returns the encryption in the table of defaults, whose routes may have a passphrase themselves. Allocates the
+/// passphrases.
 pub(crate) fn default_encryption_at(alloc: Global, table: &Table) -> Result<Encryption, ConfigFault>
     ensures { Gives encryption_seen result (default_encryption_at (table_view table.now)) }
 {
@@ -154,13 +160,18 @@ pub(crate) fn encrypted(access: Access, encryption: Encryption) -> Access
     ensures { access_of result ≡ with_encryption (encryption_seen encryption) (access_of access) }
 {
     let publish = access.publish;
+    let request = access.request;
     Access {
         publish: RoleAccess {
             from: publish.from,
             key: publish.key,
             passphrase: encryption.publish,
         },
-        request: access.request,
+        request: RoleAccess {
+            from: request.from,
+            key: request.key,
+            passphrase: encryption.request,
+        },
         key_length: encryption.key_length,
     }
 }

@@ -45,7 +45,7 @@ pub const TOP_KEYS: [Key; 6] = [
 ];
 
 /// The keys of a route.
-pub const ROUTE_KEYS: [Key; 21] = [
+pub const ROUTE_KEYS: [Key; 22] = [
     Key::Name,
     Key::Mode,
     Key::LatencyMs,
@@ -65,12 +65,13 @@ pub const ROUTE_KEYS: [Key; 21] = [
     Key::TakeoverMs,
     Key::ResendPercent,
     Key::PublishPassphrase,
+    Key::RequestPassphrase,
     Key::Pbkeylen,
     Key::Expect,
 ];
 
 /// The keys of the table of defaults: those of a route but its name.
-pub const DEFAULT_KEYS: [Key; 20] = [
+pub const DEFAULT_KEYS: [Key; 21] = [
     Key::Mode,
     Key::LatencyMs,
     Key::Buffer,
@@ -89,6 +90,7 @@ pub const DEFAULT_KEYS: [Key; 20] = [
     Key::TakeoverMs,
     Key::ResendPercent,
     Key::PublishPassphrase,
+    Key::RequestPassphrase,
     Key::Pbkeylen,
     Key::Expect,
 ];
@@ -151,6 +153,8 @@ pub enum Key {
     /// `publish_passphrase`: the passphrase of publishers, whose sessions are then encrypted, 10 to 79 bytes; none if it is
     /// missing.
     PublishPassphrase,
+    /// `request_passphrase`: the same of subscribers.
+    RequestPassphrase,
     /// `pbkeylen`: the length of the keys that callers with a passphrase have to bring, 16, 24 or 32 bytes; any of these if it is
     /// missing. Only a route with a passphrase may have it.
     Pbkeylen,
@@ -224,6 +228,7 @@ impl Key {
             Key::TakeoverMs => "takeover_ms",
             Key::ResendPercent => "resend_percent",
             Key::PublishPassphrase => "publish_passphrase",
+            Key::RequestPassphrase => "request_passphrase",
             Key::Pbkeylen => "pbkeylen",
             Key::Expect => "expect",
         }
@@ -242,7 +247,8 @@ impl Key {
             | Key::Callers
             | Key::PublishKey
             | Key::RequestKey
-            | Key::PublishPassphrase => ValueKind::Text,
+            | Key::PublishPassphrase
+            | Key::RequestPassphrase => ValueKind::Text,
             Key::Workers
             | Key::LatencyMs
             | Key::Buffer
@@ -286,7 +292,7 @@ impl Key {
             Key::Reserved => (0, MAX_RESERVED),
             Key::TakeoverMs => (MIN_TAKEOVER_MS, MAX_TAKEOVER_MS),
             Key::ResendPercent => (MIN_RESEND_PERCENT, MAX_RESEND_PERCENT),
-            Key::PublishPassphrase => (MIN_PASSPHRASE, MAX_PASSPHRASE),
+            Key::PublishPassphrase | Key::RequestPassphrase => (MIN_PASSPHRASE, MAX_PASSPHRASE),
             Key::Pbkeylen => (MIN_KEY_BYTES, MAX_KEY_BYTES),
             Key::Bind | Key::Status | Key::Defaults | Key::Mode | Key::Callers | Key::Expect => (
                 0,
@@ -320,7 +326,8 @@ impl Key {
     {
         match self {
             Key::Secret | Key::Defaults => true,
-            Key::PublishKey | Key::RequestKey | Key::PublishPassphrase => true,
+            Key::PublishKey | Key::RequestKey => true,
+            Key::PublishPassphrase | Key::RequestPassphrase => true,
             _ => false,
         }
     }

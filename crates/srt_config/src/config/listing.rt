@@ -131,6 +131,7 @@ fn default_fault(alloc: Global, table: &Table, key: Key) -> Result<Option<Config
         Key::PublishKey => fault_of(key_at(alloc, table, Key::PublishKey)),
         Key::RequestKey => fault_of(key_at(alloc, table, Key::RequestKey)),
         Key::PublishPassphrase => fault_of(passphrase_at(alloc, table, Key::PublishPassphrase)),
+        Key::RequestPassphrase => fault_of(passphrase_at(alloc, table, Key::RequestPassphrase)),
         Key::Pbkeylen => fault_of(key_length_at(true, table)),
         Key::Expect => fault_of(optional_flag_at(table, Key::Expect)),
         _ => fault_of(optional_number_at(table, key)),

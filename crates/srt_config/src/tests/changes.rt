@@ -143,6 +143,7 @@ fn lists_keys_and_rules_are_compared(rt: HostRuntime) -> Result<(), Fail> {
         "takeover_ms = 100\n",
         "resend_percent = 5\n",
         "publish_passphrase = \"correct horse battery\"\n",
+        "request_passphrase = \"hold the line please\"\n",
     ] {
         assert_second_reopens(&rt, line)?;
     }

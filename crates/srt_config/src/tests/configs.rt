@@ -299,34 +299,44 @@ fn a_route_may_have_rules_beyond_the_draft(rt: HostRuntime) -> Result<(), Fail> 
     Ok(())
 }
 
-/// What may follow the first route's outbox, and the publishers' passphrase and the length of keys of the route.
-type EncryptionRow = (&'static str, Option<&'static str>, Option<KeyLength>);
+/// What may follow the first route's outbox, and the passphrases of publishers and of subscribers and the length of keys of the route.
+type EncryptionRow = (
+    &'static str,
+    Option<&'static str>,
+    Option<&'static str>,
+    Option<KeyLength>,
+);
 
 const ENCRYPTIONS: [EncryptionRow; 6] = [
-    ("", None, None),
+    ("", None, None, None),
     (
         "publish_passphrase = \"correct horse battery\"\n",
         Some("correct horse battery"),
+        None,
         None,
     ),
     (
         "publish_passphrase = \"\\u00fc\\u00fc \\u5bc6\\u7801\"\npbkeylen = 16\n",
         Some("üü 密码"),
+        None,
         Some(KeyLength::Aes128),
     ),
     (
         "pbkeylen = 24\npublish_passphrase = '0 \"~\\ \tzzz'\n",
         Some("0 \"~\\ \tzzz"),
+        None,
         Some(KeyLength::Aes192),
     ),
     (
-        "pbkeylen = 0x20\npublish_passphrase = \"ppppppppppppppppppppppppppppppppppppppppppppppppppppppppppppppppppppppppppppppp\"\n",
+        "pbkeylen = 0x20\nrequest_passphrase = \"ppppppppppppppppppppppppppppppppppppppppppppppppppppppppppppppppppppppppppppppp\"\n",
+        None,
         Some("ppppppppppppppppppppppppppppppppppppppppppppppppppppppppppppppppppppppppppppppp"),
         Some(KeyLength::Aes256),
     ),
     (
-        "publish_passphrase = \"a passphrase\"\n",
-        Some("a passphrase"),
+        "request_passphrase = \"hold the line please\"\npublish_passphrase = \"correct horse battery\"\n",
+        Some("correct horse battery"),
+        Some("hold the line please"),
         None,
     ),
 ];
@@ -363,7 +373,7 @@ fn a_route_may_have_a_passphrase(rt: HostRuntime) -> Result<(), Fail> {
         let config = with_first_route(&rt, row.0)?;
         let entries = config.entries.as_slice();
         assert_eq!(rt; entries.len(), 2);
-        assert_is_encrypted(&rt, entries.first(), row.1, None, row.2);
+        assert_is_encrypted(&rt, entries.first(), row.1, row.2, row.3);
         assert_is_encrypted(&rt, entries.last(), None, None, None);
     }
     Ok(())
@@ -427,6 +437,7 @@ sessions_per_address = 17
 takeover_ms = 5000
 resend_percent = 1000
 publish_passphrase = \"ppppppppppppppppppppppppppppppppppppppppppppppppppppppppppppppppppppppppppppppp\"
+request_passphrase = \"ppppppppppppppppppppppppppppppppppppppppppppppppppppppppppppppppppppppppppppppp\"
 pbkeylen = 32
 expect = false
 ";
