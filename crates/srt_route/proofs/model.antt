@@ -15,10 +15,12 @@ pub mod Acknowledged
 pub mod Numbered
 pub mod Ending
 pub mod Counts
+pub mod Places
 pub mod Limited
 pub mod Activity
 pub mod Queues
 pub mod Following
+pub mod KeyLengths
 pub mod Secured
 pub mod Renewals
 pub mod Decrypting

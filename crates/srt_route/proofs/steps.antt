@@ -16,6 +16,7 @@ pub mod Besides
 pub mod Saying
 pub mod Encrypting
 pub mod Serving
+pub mod Transmitting
 pub mod Refreshing
 pub mod Securing
 pub mod Stepping

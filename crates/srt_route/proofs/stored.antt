@@ -4,6 +4,7 @@ pub mod Parts
 pub mod Counting
 pub mod Seats
 pub mod Kept
+pub mod KeptInOrder
 pub mod Stored
 pub mod Publishers
 pub mod HeldKeys

@@ -73,20 +73,20 @@ abbrev pub has_few : Subscribing → Bool
 has_few m = nat_lt (length m.sending.queue) (2 ^ 61)
 
 -- whether the next key is announced at the end of an event
-abbrev pub announced_if : (few : Bool) → Keys → (clock : ℕ) → Subscribing → Bool
-announced_if true keys clock m = is_due keys (length m.sending.queue) clock
-announced_if false keys clock m = false
+abbrev pub announced_if : (few : Bool) → Keys → (time : ℕ) → Subscribing → Bool
+announced_if true keys time m = is_due keys (length m.sending.queue) time
+announced_if false keys time m = false
 
-abbrev pub is_announced : Keys → (clock : ℕ) → Subscribing → Bool
-is_announced keys clock m = announced_if (has_few m) keys clock m
+abbrev pub is_announced : Keys → (time : ℕ) → Subscribing → Bool
+is_announced keys time m = announced_if (has_few m) keys time m
 
--- the session's keys after it
-abbrev pub keys_with : (announced : Bool) → (clock : ℕ) → Keys → Keys
-keys_with true clock keys = with_announcement clock keys
-keys_with false clock keys = keys
+-- the session's keys after it; times of announcements count from the session's opening, as all its times do
+abbrev pub keys_with : (announced : Bool) → (time : ℕ) → Keys → Keys
+keys_with true time keys = with_announcement time keys
+keys_with false time keys = keys
 
-abbrev pub keys_reported : (clock : ℕ) → Subscribing → Keys → Keys
-keys_reported clock m keys = keys_with (is_announced keys clock m) clock keys
+abbrev pub keys_reported : (time : ℕ) → Subscribing → Keys → Keys
+keys_reported time m keys = keys_with (is_announced keys time m) time keys
 
 -- the session after it; what isn't confirmed was held meanwhile
 abbrev pub reported_if : (few : Bool) → Keys → Terms → (time : ℕ) → (recent : Bool) → Subscribing → Subscribing
@@ -103,6 +103,6 @@ outputs_if true announced keys terms caller initial time recent m =
     all_said_with keys caller initial time (announcement_if announced keys caller time) (reports terms time recent (held terms (payloads_confirmed keys) m))
 outputs_if false announced keys terms caller initial time recent m = []
 
-abbrev pub outputs_with : Keys → Terms → (clock caller initial time : ℕ) → (recent : Bool) → Subscribing → List KeyedOutput
-outputs_with keys terms clock caller initial time recent m =
-    outputs_if (has_few m) (is_announced keys clock m) (keys_reported clock m keys) terms caller initial time recent m
+abbrev pub outputs_with : Keys → Terms → (caller initial time : ℕ) → (recent : Bool) → Subscribing → List KeyedOutput
+outputs_with keys terms caller initial time recent m =
+    outputs_if (has_few m) (is_announced keys time m) (keys_reported time m keys) terms caller initial time recent m

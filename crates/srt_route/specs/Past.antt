@@ -12,6 +12,8 @@ use Rattle.srt_pub.specs.Says as publisher_text
 use Rattle.srt_sub.specs.Heard as to_subscriber
 use Rattle.srt_sub.specs.Subscribing as subscriber
 use Rattle.srt_sub.specs.Says as subscriber_text
+use Rattle.srt_session_keys.specs.Subscriber.{Subscriber as Keys}
+use Rattle.srt_route.specs.EncryptedOutput.{KeyedOutput, outputs_with, reported_with}
 
 -- everything that a publisher or a subscriber received and was sent
 pub data Past : Type 0 where
@@ -118,6 +120,16 @@ abbrev pub reported_if : (draining : Bool) → publisher.Terms → (time : ℕ) 
 reported_if true terms time p = p
 reported_if false terms time p = publisher.reported terms time p
 
-abbrev pub reported_past : (draining : Bool) → Agreed → (time : ℕ) → (recent : Bool) → Past → Past
-reported_past draining terms time recent (Publishes p) = Publishes (reported_if draining terms.publisher time p)
-reported_past draining terms time recent (Subscribes s) = Subscribes (subscriber.reported terms.subscriber time recent s)
+-- a subscriber's session after the end of an event; one with keys of its own holds what they aren't confirmed for
+abbrev pub reported_under : (keys : Option Keys) → subscriber.Terms → (time : ℕ) → (recent : Bool) → subscriber.Subscribing → subscriber.Subscribing
+reported_under None terms time recent s = subscriber.reported terms time recent s
+reported_under (Some keys) terms time recent s = reported_with keys terms time recent s
+
+abbrev pub reported_past : (keys : Option Keys) → (draining : Bool) → Agreed → (time : ℕ) → (recent : Bool) → Past → Past
+reported_past keys draining terms time recent (Publishes p) = Publishes (reported_if draining terms.publisher time p)
+reported_past keys draining terms time recent (Subscribes s) = Subscribes (reported_under keys terms.subscriber time recent s)
+
+-- what a session with keys of its own sends to the socket with ID `caller` at the end of an event
+abbrev pub outputs_of : Keys → Agreed → (caller initial time : ℕ) → (recent : Bool) → Past → List KeyedOutput
+outputs_of keys terms caller initial time recent (Publishes p) = []
+outputs_of keys terms caller initial time recent (Subscribes s) = outputs_with keys terms.subscriber caller initial time recent s

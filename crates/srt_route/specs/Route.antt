@@ -9,11 +9,13 @@ use Rattle.srt_types.specs.declared.shared.Mode.TheVariants.{Live, Buffer}
 use Rattle.srt_types.specs.declared.shared.Callers.{Callers}
 use Rattle.srt_types.specs.declared.shared.Callers.TheVariants.{Draft, Libsrt}
 use Rattle.srt_types.specs.declared.shared.Role.{Role}
+use Rattle.srt_types.specs.declared.shared.Role.TheVariants.{Request}
 use Rattle.srt_types.specs.Terms.{Terms}
 use Rattle.srt_types.specs.Items.{Datagram, Item, Received, Tick, Close, moment_of}
 use Rattle.srt_packet.specs.KeyPacket.{key_packet_text}
 use Rattle.srt_packet.specs.declared.key_packet.KeyPacketKind.TheVariants as messages
 use Rattle.srt_session_keys.specs.Publisher.{response_to}
+use Rattle.srt_session_keys.specs.Subscriber.{Subscriber as Keys}
 use Rattle.srt_session_keys.specs.declared.publisher.KeyAnswer.{KeyAnswer}
 use Rattle.srt_packet.specs.declared.reading.PacketFault.{PacketFault}
 use Rattle.srt_packet.specs.declared.writing.Body.TheVariants as out
@@ -33,17 +35,17 @@ use Rattle.srt_route.specs.declared.slot_keys.KeyOpening.{KeyOpening}
 use Rattle.srt_route.specs.declared.slot_keys.KeyVerdict.{KeyVerdict}
 use Rattle.srt_route.specs.declared.slot_keys.KeyVerdict.TheVariants.{TooMany, WrongSecret, Opened}
 use Rattle.srt_route.specs.RouteKeys.{Brought, KeysOpened, RouteKeys, SlotKeys, Clear, brought_in, cookie_in, first_keys, has_secured_role, opening}
-use Rattle.srt_route.specs.RouteKeys.{with_slot}
-use Rattle.srt_route.specs.RouteKeys.{passphrase_of}
-use Rattle.srt_route.specs.RouteKeys.{request_of}
+use Rattle.srt_route.specs.RouteKeys.{OfPublisher, OfSubscriber, own_in, passphrase_of, request_of, secures, with_slot}
 use Rattle.srt_route.specs.Decryption.{clear_bytes}
+use Rattle.srt_route.specs.EncryptedOutput.{KeyedOutput, keyed_text, keys_reported}
 use Rattle.srt_route.specs.KeyRefresh.{answer_by, refreshed, request_in}
 use Rattle.srt_route.specs.KeyRefresh.{Confirmation, confirmation_in, confirmed_by}
+use Rattle.srt_route.specs.Past.{Past, Publishes, Subscribes}
 use Rattle.srt_route.specs.Past.{Report, report_text, past_of, least_with, loses_window, publisher_end, has_all, has_left, is_shutdown}
 use Rattle.srt_route.specs.Sessions.{Session, is_open_in, is_same_peer, id_of, session_id, answer_of, publishes, is_subscriber, open_publishers}
 use Rattle.srt_route.specs.Sessions.{active, is_active, by_slot, free_slot, free_slots, sessions_from, generation_of, time_in, is_idle, terms_of}
 use Rattle.srt_route.specs.Sessions.{advanced, took, answered_at_once, payloads}
-use Rattle.srt_route.specs.Sessions.{of_libsrt, with_end, passed, reports_at, reported, is_draining, settled, speaks}
+use Rattle.srt_route.specs.Sessions.{of_libsrt, with_end, passed, outputs_at, reports_at, reported, is_draining, settled, speaks}
 
 -- a route's state: the clock in microseconds, every session that was ever opened, whether the route was closed, and
 -- what it has for its secured roles
@@ -57,14 +59,15 @@ abbrev pub opened : Route
 opened = record { clock = 0; sessions = []; is_closed = false; keys = first_keys }
 
 -- what is sent to the socket with ID `caller`: the answer to its handshake, the same with the contents of a KMREQ block,
--- a report of a session with this initial number, the SHUTDOWN that ends a session, or a KMRSP with these contents; `time`
--- is in microseconds since the session's opening
+-- a report of a session with this initial number, the SHUTDOWN that ends a session, a KMRSP with these contents, or what a
+-- subscriber's session with keys of its own sends; `time` is in microseconds since the session's opening
 pub data Output : Type 0 where
   Answers : (caller : ℕ) (answer : HsAnswer) → Output
   AnswersWithKeys : (caller : ℕ) (request : List ℕ) (answer : HsAnswer) → Output
   Says : (caller initial time : ℕ) (report : Report) → Output
   Ends : (caller time : ℕ) → Output
   Responds : (caller time : ℕ) (contents : List ℕ) → Output
+  SaysWithKeys : (output : KeyedOutput) → Output
 
 pub record Reply : Type 0 where
   pub peer : Peer
@@ -79,6 +82,7 @@ output_text (Says caller initial time report) = report_text caller initial time 
 output_text (Ends caller time) = text (record { stamp = time % 2 ^ 32; dest = caller; body = out.Shutdown })
 output_text (Responds caller time contents) =
     key_packet_text (record { stamp = time % 2 ^ 32; dest = caller; kind = messages.Response; info = contents })
+output_text (SaysWithKeys output) = keyed_text output
 
 abbrev pub sent : Reply → Datagram
 sent r = record { peer = r.peer; bytes = output_text r.packet }
@@ -458,6 +462,7 @@ output_with request (AnswersWithKeys caller other answer) = AnswersWithKeys call
 output_with request (Says caller initial time report) = Says caller initial time report
 output_with request (Ends caller time) = Ends caller time
 output_with request (Responds caller time contents) = Responds caller time contents
+output_with request (SaysWithKeys output) = SaysWithKeys output
 
 abbrev pub reply_with : (request : List ℕ) → Reply → Reply
 reply_with request r = record { peer = r.peer; packet = output_with request r.packet }
@@ -545,22 +550,54 @@ is_file_over e sessions = sends_files e.rules.callers e.mode && open_publishers 
 abbrev pub has_whole_file : (over : Bool) → Session → Bool
 has_whole_file over s = over && is_subscriber s && s.file_ended && has_all s.past
 
--- the packets of a session in step 6: a subscriber that has the whole file is sent a SHUTDOWN in place of a KEEPALIVE,
--- since nothing else is due; the others are sent their packets
-abbrev pub served_at : (whole : Bool) → Terms → (clock : ℕ) → Session → List Reply
-served_at true e clock s = shutdown_to clock s ∷ []
-served_at false e clock s = packets_at e (is_subscriber s) clock s
+-- the reply with what a session with keys of its own sends
+abbrev pub keyed_by : Session → KeyedOutput → Reply
+keyed_by s output = record { peer = s.peer; packet = SaysWithKeys output }
 
-abbrev pub served : Terms → (clock : ℕ) → (over : Bool) → List Session → List Reply
-served e clock over sessions = flat_map (λ s. served_at (has_whole_file over s) e clock s) (by_slot e sessions)
+abbrev pub keyed_packets_at : Keys → Terms → (here : Bool) → (clock : ℕ) → Session → List Reply
+keyed_packets_at keys e here clock s = map (keyed_by s) (outputs_at keys e here clock s)
+
+-- the packets of a session in step 6: a subscriber that has the whole file is sent a SHUTDOWN in place of a KEEPALIVE,
+-- since nothing else is due; the others are sent their packets, under keys of their own if they have some
+abbrev pub served_at : (whole : Bool) → (keys : Option Keys) → Terms → (clock : ℕ) → Session → List Reply
+served_at true keys e clock s = shutdown_to clock s ∷ []
+served_at false None e clock s = packets_at e (is_subscriber s) clock s
+served_at false (Some keys) e clock s = keyed_packets_at keys e (is_subscriber s) clock s
+
+abbrev pub served : (own : ℕ → Option Keys) → Terms → (clock : ℕ) → (over : Bool) → List Session → List Reply
+served own e clock over sessions = flat_map (λ s. served_at (has_whole_file over s) (own s.slot) e clock s) (by_slot e sessions)
 
 -- a session after step 6: one that has the whole file ends
-abbrev pub finished_at : (whole : Bool) → Terms → (clock : ℕ) → Session → Session
-finished_at true e clock s = ended s
-finished_at false e clock s = reported e clock s
+abbrev pub finished_at : (whole : Bool) → (keys : Option Keys) → Terms → (clock : ℕ) → Session → Session
+finished_at true keys e clock s = ended s
+finished_at false keys e clock s = reported keys e clock s
 
-abbrev pub finished : Terms → (clock : ℕ) → (over : Bool) → Session → Session
-finished e clock over s = finished_at (has_whole_file over s) e clock s
+abbrev pub finished : (own : ℕ → Option Keys) → Terms → (clock : ℕ) → (over : Bool) → Session → Session
+finished own e clock over s = finished_at (has_whole_file over s) (own s.slot) e clock s
+
+-- a session's keys after step 6: the next one of a subscriber's own is announced, if that is due
+abbrev pub keys_said : (time : ℕ) → Past → SlotKeys → SlotKeys
+keys_said time (Publishes p) keys = keys
+keys_said time (Subscribes s) Clear = Clear
+keys_said time (Subscribes s) (OfPublisher request keys) = OfPublisher request keys
+keys_said time (Subscribes s) (OfSubscriber request keys) = OfSubscriber request (keys_reported time s keys)
+
+abbrev pub keys_served : (whole : Bool) → (clock : ℕ) → Session → SlotKeys → SlotKeys
+keys_served true clock s keys = keys
+keys_served false clock s keys = keys_said (time_in s clock) s.past keys
+
+abbrev pub keys_in_slot : (clock : ℕ) → (over : Bool) → Option Session → SlotKeys → SlotKeys
+keys_in_slot clock over None keys = keys
+keys_in_slot clock over (Some s) keys = keys_served (has_whole_file over s) clock s keys
+
+-- a route's keys after step 6; the same if subscribers' sessions aren't encrypted
+abbrev pub keys_finished_if : (secured : Bool) → (clock : ℕ) → (over : Bool) → List Session → RouteKeys → RouteKeys
+keys_finished_if true clock over sessions keys =
+    record keys { held = λ slot. keys_in_slot clock over (find (is_open_in slot) sessions) (keys.held slot) }
+keys_finished_if false clock over sessions keys = keys
+
+abbrev pub keys_finished : Terms → (clock : ℕ) → (over : Bool) → List Session → RouteKeys → RouteKeys
+keys_finished e clock over sessions keys = keys_finished_if (secures e Request) clock over sessions keys
 
 -- the result of an item, on a route that wasn't closed: first the clock and the sessions' time advance, then the item
 -- is processed as the route's keys have it (our choice)
@@ -575,6 +612,10 @@ taken_by e index item route =
     let clock = clock_after item route in
     taken_as (judgement e index item route).verdict (taken e index clock (heard_by e index item route) (advanced e clock route.sessions))
 
+-- the keys of their own under which an event's end finds the sessions of the slots
+abbrev pub own_by : Terms → (index : ℕ) → Item → Route → (slot : ℕ) → Option Keys
+own_by e index item route slot = own_in e (judgement e index item route).keys slot
+
 -- the sessions after the publishers' deliveries
 abbrev pub passed_by : Terms → (index : ℕ) → Item → Route → List Session
 passed_by e index item route = after_delivery e (clock_after item route) (taken_by e index item route).sessions
@@ -587,7 +628,7 @@ replies_at false e index item route =
     let clock = clock_after item route in
     let sessions = passed_by e index item route in
     idle_notified e clock route.sessions ++ (taken_by e index item route).answers ++ packets_where e clock speaks sessions
-    ++ served e clock (is_file_over e sessions) sessions
+    ++ served (own_by e index item route) e clock (is_file_over e sessions) sessions
 
 abbrev pub replies_to : Terms → (index : ℕ) → Item → Route → List Reply
 replies_to e index item route = replies_at route.is_closed e index item route
@@ -597,11 +638,13 @@ abbrev pub sessions_at : (is_closed : Bool) → Terms → (index : ℕ) → Item
 sessions_at true e index item route = route.sessions
 sessions_at false e index item route =
     let sessions = passed_by e index item route in
-    map (finished e (clock_after item route) (is_file_over e sessions)) sessions
+    map (finished (own_by e index item route) e (clock_after item route) (is_file_over e sessions)) sessions
 
 abbrev pub keys_at : (is_closed : Bool) → Terms → (index : ℕ) → Item → Route → RouteKeys
 keys_at true e index item route = route.keys
-keys_at false e index item route = (judgement e index item route).keys
+keys_at false e index item route =
+    let sessions = passed_by e index item route in
+    keys_finished e (clock_after item route) (is_file_over e sessions) sessions (judgement e index item route).keys
 
 abbrev pub closes : Item → Bool
 closes (Received datagram moment) = false

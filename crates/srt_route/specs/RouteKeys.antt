@@ -51,6 +51,20 @@ request_of Clear = None
 request_of (OfPublisher request keys) = Some request
 request_of (OfSubscriber request keys) = Some request
 
+-- the keys of its own that a session has: only a subscriber's
+abbrev pub own_keys : SlotKeys → Option Subscriber
+own_keys Clear = None
+own_keys (OfPublisher request keys) = None
+own_keys (OfSubscriber request keys) = Some keys
+
+-- the same of each slot's session; none if subscribers' sessions aren't encrypted
+abbrev pub own_if : (secured : Bool) → (held : ℕ → SlotKeys) → (slot : ℕ) → Option Subscriber
+own_if true held slot = own_keys (held slot)
+own_if false held slot = None
+
+abbrev pub own_in : Terms → RouteKeys → (slot : ℕ) → Option Subscriber
+own_in e keys slot = own_if (secures e Request) keys.held slot
+
 -- the keys that a conclusion brings: the contents of its only KMREQ block, and the message in it
 pub record Brought : Type 0 where
   pub contents : List ℕ

@@ -1,13 +1,20 @@
 -- Each reply is the encoding of a packet that can be sent, and decodes to that packet.
-use Rattle.std.specs.Prelude.{◌≡◌, ◌⊎◌, ℕ, false, List, [], All, Some, Ok}
+use Rattle.std.specs.Prelude.{◌≡◌, ◌⊎◌, ℕ, ◌<◌, Bool, false, List, [], All, Some, Ok}
 use Rattle.srt_types.specs.Terms.{Terms}
 use Rattle.srt_types.specs.Items.{Item}
+use Rattle.srt_types.specs.Window.{word_of}
+use Rattle.srt_types.specs.declared.numbers.Seq31.{Seq31}
+use Rattle.srt_types.specs.declared.numbers.Msg26.{Msg26}
+use Rattle.srt_types.specs.declared.shared.PayloadRef.{PayloadRef}
+use Rattle.srt_aes.specs.Counter.{counter_mode}
+use Rattle.srt_packet.specs.Encryption.{encrypted, media}
+use Rattle.srt_packet.specs.Grammar.{Data}
 use Rattle.srt_packet.specs.declared.writing.Packet.{Packet}
 use Rattle.srt_packet.specs.Text.{text}
 use Rattle.srt_packet.specs.Sent.{CanBeSent, sent}
 use Rattle.srt_packet.specs.Reading.{packet_in}
 use Rattle.srt_packet.specs.KeyPacket.{CanBeSentWithKeys, KeyPacket, key_packet_in, key_packet_text}
-use Rattle.srt_packet.specs.declared.key_packet.KeyPacketKind.TheVariants.{Response}
+use Rattle.srt_packet.specs.declared.key_packet.KeyPacketKind.TheVariants.{Request, Response}
 use Rattle.srt_hs.specs.KeyMessage.{KeyMessage, message_in}
 use Rattle.srt_session_keys.specs.Publisher.{response_to}
 use Rattle.srt_session_keys.specs.declared.publisher.KeyAnswer.TheVariants.{NoSecret, BadSecret}
@@ -43,9 +50,36 @@ pub record IsSendableResponse (bytes : List ℕ) : Type 0 where
   pub text_is : bytes ≡ key_packet_text packet
   pub read_is : key_packet_in bytes ≡ Some packet
 
--- these bytes are of either kind
+-- the same of a KMREQ, whose contents are a message that reads
+pub record IsSendableRequest (bytes : List ℕ) : Type 0 where
+  pub packet : KeyPacket
+  pub kind_is : packet.kind ≡ Request
+  pub contents : IsMessage packet.info
+  pub can_be_sent : CanBeSentWithKeys packet
+  pub text_is : bytes ≡ key_packet_text packet
+  pub read_is : key_packet_in bytes ≡ Some packet
+
+-- these bytes are a data packet that can be sent, under an even or an odd key, and read as that packet with the field KK and
+-- with the payload under the key
+pub record IsSendableUnder (bytes : List ℕ) : Type 0 where
+  pub field : ℕ
+  pub key : List ℕ
+  pub salt : List ℕ
+  pub stamp : ℕ
+  pub dest : ℕ
+  pub number : Seq31
+  pub message : Msg26
+  pub again : Bool
+  pub payload : PayloadRef
+  pub named : (0 < field) × (field < 3)
+  pub can_be_sent : CanBeSent (media stamp dest number message again payload)
+  pub text_is : bytes ≡ encrypted field key salt (text (media stamp dest number message again payload))
+  pub read_is : packet_in bytes
+      ≡ Ok (record { stamp = stamp; dest = dest; body = Data (word_of number) field (counter_mode key salt (word_of number) payload.bytes.now) })
+
+-- these bytes are of one of these kinds
 abbrev pub IsSendable : (bytes : List ℕ) → Type 0
-IsSendable bytes = IsSendablePacket bytes ⊎ IsSendableResponse bytes
+IsSendable bytes = IsSendablePacket bytes ⊎ (IsSendableResponse bytes ⊎ (IsSendableRequest bytes ⊎ IsSendableUnder bytes))
 
 -- the same for each kind of output
 abbrev pub PublishersSendPackets : Type 0

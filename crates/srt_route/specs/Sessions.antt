@@ -20,9 +20,11 @@ use Rattle.srt_hs.specs.declared.writing.HsAnswer.{HsAnswer}
 use Rattle.srt_hs.specs.declared.writing.AnswerKind.TheVariants as answers
 use Rattle.srt_sub.specs.declared.resend_all.Resending.{Resending}
 use Rattle.srt_sub.specs.declared.resend_all.Resending.TheVariants.{AtEachTimeout, Once, BackingOff}
+use Rattle.srt_session_keys.specs.Subscriber.{Subscriber as Keys}
 use Rattle.srt_route.specs.declared.conclusion_reading.Conclusion.{Conclusion}
+use Rattle.srt_route.specs.EncryptedOutput.{KeyedOutput}
 use Rattle.srt_route.specs.Past.{Past, Agreed, Report, expired_past, took_past, ends_with, answers_to, payloads_of, passed_past, reports_of}
-use Rattle.srt_route.specs.Past.{has_left, reported_past, silence_of}
+use Rattle.srt_route.specs.Past.{has_left, outputs_of, reported_past, silence_of}
 
 pub record Session : Type 0 where
   pub slot : ℕ
@@ -349,9 +351,16 @@ speaks s = is_publisher s && not (is_draining s)
 abbrev pub reports_at : Terms → (here : Bool) → (clock : ℕ) → Session → List Report
 reports_at e here clock s = if here then reports_of (terms_of e s) (time_in s clock) (is_recent s clock) s.past else []
 
-abbrev pub reported_at : Terms → (here : Bool) → (clock : ℕ) → Session → Session
-reported_at e here clock s =
-    if here then record s { past = reported_past (is_draining s) (terms_of e s) (time_in s clock) (is_recent s clock) s.past } else s
+-- the same of a subscriber's session with keys of its own
+abbrev pub outputs_at : Keys → Terms → (here : Bool) → (clock : ℕ) → Session → List KeyedOutput
+outputs_at keys e here clock s =
+    if here
+    then outputs_of keys (terms_of e s) s.conclusion.caller s.conclusion.initial (time_in s clock) (is_recent s clock) s.past
+    else []
 
-abbrev pub reported : Terms → (clock : ℕ) → Session → Session
-reported e clock s = reported_at e s.is_open clock s
+abbrev pub reported_at : (keys : Option Keys) → Terms → (here : Bool) → (clock : ℕ) → Session → Session
+reported_at keys e here clock s =
+    if here then record s { past = reported_past keys (is_draining s) (terms_of e s) (time_in s clock) (is_recent s clock) s.past } else s
+
+abbrev pub reported : (keys : Option Keys) → Terms → (clock : ℕ) → Session → Session
+reported keys e clock s = reported_at keys e s.is_open clock s

@@ -164,7 +164,7 @@ pub(crate) fn transmit_encrypted(
     if queued >= MAX_QUEUED {
         return;
     }
-    let announced = keys.announce(queued, to.clock);
+    let announced = keys.announce(queued, to.time);
     let window = subscriber.hold(confirmed_payloads(keys));
     emit_encrypted(subscriber, keys, to, announced, scratch, waiting);
     subscriber.release(window);

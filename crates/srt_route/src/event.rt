@@ -11,8 +11,9 @@ use crate::reply_queue::{ReplyQueue, ScratchBoxes};
 use crate::route_keys::RouteKeys;
 use crate::secured::dispatch_secured;
 use crate::silence::advance;
+use crate::subscriber_transmit::transmit_subscribers;
 use crate::table::Table;
-use crate::transmit::{transmit_publishers, transmit_subscribers};
+use crate::transmit::transmit_publishers;
 use srt_types::Item;
 
 /// An item that comes to a route.
@@ -52,5 +53,5 @@ pub fn process(
     // 5: the publishers' packets.
     transmit_publishers(table, clock, scratch, waiting);
     // 6: the subscribers' packets, or the end of a session whose subscriber has the whole file.
-    transmit_subscribers(table, ledger, clock, &mut scratch.reply, waiting);
+    transmit_subscribers(table, keys, ledger, clock, scratch, waiting);
 }

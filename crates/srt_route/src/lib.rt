@@ -73,6 +73,7 @@ mod socket_ids;
 mod stage;
 mod standby;
 mod start;
+mod subscriber_transmit;
 mod table;
 mod totals;
 mod transmit;
@@ -89,6 +90,8 @@ pub use view::{SessionView, Traffic};
 mod clock_tests;
 #[cfg(test)]
 mod closing_tests;
+#[cfg(test)]
+mod encrypted_tests;
 #[cfg(test)]
 mod key_tests;
 #[cfg(test)]

@@ -10,7 +10,7 @@ use std::process::Abort;
 use std::test::Fail;
 
 /// The KMREQ block of a publisher that knows the passphrase, with a key of 16 bytes.
-const KEYS: [&str; 1] = [
+pub(crate) const KEYS: [&str; 1] = [
     "0003000e1220290100000000020002000000040400112233445566778899aabbccddeeff097ad2a296802dd03b3cad778b2ef5ec61782692f95549e2",
 ];
 
@@ -25,20 +25,20 @@ const OTHER_CIPHER: [&str; 1] = [
 ];
 
 /// The KMREQ block of a subscriber that knows the passphrase, with a key of 24 bytes.
-const LONG_KEYS: [&str; 2] = [
+pub(crate) const LONG_KEYS: [&str; 2] = [
     "0003001012202901000000000200020000000406ffeeddccbbaa9988776655443322110055d5c0a04098090aa97287b4eba8443d46d8ba88121ed8187cffdf8e77",
     "0d9860",
 ];
 
 /// The answer to the publisher, whose session opens in slot 0.
-const PUBLISHER_ANSWER: [&str; 3] = [
+pub(crate) const PUBLISHER_ANSWER: [&str; 3] = [
     "80000000000000000000000000000001000000050002000300000005000005dc00000400ffffffff00100000000000000000000000000000000000000000000000",
     "020003000105000000003f007800780004000e1220290100000000020002000000040400112233445566778899aabbccddeeff097ad2a296802dd03b3cad778b2e",
     "f5ec61782692f95549e2",
 ];
 
 /// The answer to the subscriber, whose session opens in slot 1.
-const SUBSCRIBER_ANSWER: [&str; 3] = [
+pub(crate) const SUBSCRIBER_ANSWER: [&str; 3] = [
     "80000000000000000000000000000002000000050003000300000009000005dc00000400ffffffff00100001000000000000000000000000000000000000000000",
     "020003000105000000003f007800780004001012202901000000000200020000000406ffeeddccbbaa9988776655443322110055d5c0a04098090aa97287b4eba8",
     "443d46d8ba88121ed8187cffdf8e770d9860",
@@ -66,6 +66,20 @@ const SUBSCRIBER_ANSWER_AGAIN: [&str; 3] = [
     "80000000000000000000000000000002000000050003000300000009000005dc00000400ffffffff00100101000000000000000000000000000000000000000000",
     "020003000105000000003f007800780004001012202901000000000200020000000406ffeeddccbbaa9988776655443322110055d5c0a04098090aa97287b4eba8",
     "443d46d8ba88121ed8187cffdf8e770d9860",
+];
+
+/// The KMREQ of the subscriber's first key, behind its answer.
+pub(crate) const KEY_REQUEST: [&str; 3] = [
+    "ffff0003000000000000000000000002",
+    "12202902000000000200020000000406ffeeddccbbaa99887766554433221100",
+    "dc889372e3baf5b1c57af328352736cf9be89aa4fe2442e42f2997e9fb2a84c5",
+];
+
+/// That of the session that it opens again.
+const NEXT_KEY_REQUEST: [&str; 3] = [
+    "ffff0003000000000000000000000002",
+    "12202902000000000200020000000406ffeeddccbbaa99887766554433221100",
+    "a27600475b0623a41cfb111dcfcdfbb5716f43e4cfea2828abc51598a57453c0",
 ];
 
 /// The SHUTDOWN to the first session of slot 1.
@@ -106,8 +120,21 @@ const BAD_SECRET: [&str; 1] = ["ffff000400000000000007d00000000104000000"];
 
 const NO_SECRET: [&str; 1] = ["ffff000400000000000007d00000000103000000"];
 
+/// A subscriber with a cookie of its own.
+pub(crate) const READER: Caller = Caller {
+    id: 2,
+    initial: 9,
+    mtu: 1500,
+    window: 8192,
+    cookie: 0x6e46_80bd,
+};
+
 /// A live route whose publishers and subscribers have these passphrases.
-fn secured(alloc: Global, publish: Option<&str>, request: Option<&str>) -> Result<Route, Fail> {
+pub(crate) fn secured(
+    alloc: Global,
+    publish: Option<&str>,
+    request: Option<&str>,
+) -> Result<Route, Fail> {
     let mut studio = entry(alloc, "studio", Mode::Live)?;
     if let Some(passphrase) = publish {
         studio.access.publish.passphrase = Some(String::from_str(alloc, passphrase)?);
@@ -121,9 +148,9 @@ fn secured(alloc: Global, publish: Option<&str>, request: Option<&str>) -> Resul
     }
 }
 
-const HORSE: Option<&str> = Some("correct horse battery");
+pub(crate) const HORSE: Option<&str> = Some("correct horse battery");
 
-const LINE: Option<&str> = Some("hold the line please");
+pub(crate) const LINE: Option<&str> = Some("hold the line please");
 
 /// Adds these bytes in hexadecimal digits.
 fn push_hex(alloc: Global, bytes: &mut Vec<u8>, text: &[&str]) -> Result<(), Fail> {
@@ -134,7 +161,7 @@ fn push_hex(alloc: Global, bytes: &mut Vec<u8>, text: &[&str]) -> Result<(), Fai
 }
 
 /// A conclusion with these blocks, and with these in hexadecimal digits behind them.
-fn keyed(
+pub(crate) fn keyed(
     alloc: Global,
     caller: Caller,
     blocks: &[Block<'static>; 2],
@@ -146,7 +173,7 @@ fn keyed(
 }
 
 /// Asserts the bytes of the route's only reply to a datagram at this time, none if there is no reply.
-fn assert_replied(
+pub(crate) fn assert_replied(
     rt: &(impl AllocGlobal + Abort),
     route: &mut Route,
     from: Peer,
@@ -247,7 +274,7 @@ fn a_subscriber_has_its_own_passphrase(rt: HostRuntime) -> Result<(), Fail> {
     let alloc = rt.alloc();
     let mut route = secured(alloc, HORSE, LINE)?;
     let first = keyed(alloc, FIRST, &PUBLISHES, &KEYS)?;
-    let second = keyed(alloc, SECOND, &REQUESTS, &LONG_KEYS)?;
+    let second = keyed(alloc, READER, &REQUESTS, &LONG_KEYS)?;
     assert_replied(
         &rt,
         &mut route,
@@ -256,14 +283,11 @@ fn a_subscriber_has_its_own_passphrase(rt: HostRuntime) -> Result<(), Fail> {
         &first,
         &PUBLISHER_ANSWER,
     )?;
-    assert_replied(
-        &rt,
-        &mut route,
-        peer(5001),
-        1_000_001,
-        &second,
-        &SUBSCRIBER_ANSWER,
-    )
+    offer(&rt, &mut route, peer(5001), 1_000_001, &second)?;
+    assert_next(&rt, &mut route, peer(5001), &SUBSCRIBER_ANSWER)?;
+    assert_next(&rt, &mut route, peer(5001), &KEY_REQUEST)?;
+    assert!(rt; !route.waits());
+    Ok(())
 }
 
 #[test]
@@ -333,28 +357,21 @@ fn a_subscriber_that_opens_again_is_another_session(rt: HostRuntime) -> Result<(
     let alloc = rt.alloc();
     let mut route = secured(alloc, HORSE, LINE)?;
     let first = keyed(alloc, FIRST, &PUBLISHES, &KEYS)?;
-    let second = keyed(alloc, SECOND, &REQUESTS, &LONG_KEYS)?;
+    let second = keyed(alloc, READER, &REQUESTS, &LONG_KEYS)?;
     let mut end = Vec::new(alloc);
     push_hex(alloc, &mut end, &SHUTDOWN)?;
     let now = 1_000_000;
     assert_replied(&rt, &mut route, peer(5000), now, &first, &PUBLISHER_ANSWER)?;
-    assert_replied(
-        &rt,
-        &mut route,
-        peer(5001),
-        now,
-        &second,
-        &SUBSCRIBER_ANSWER,
-    )?;
+    offer(&rt, &mut route, peer(5001), now, &second)?;
+    assert_next(&rt, &mut route, peer(5001), &SUBSCRIBER_ANSWER)?;
+    assert_next(&rt, &mut route, peer(5001), &KEY_REQUEST)?;
     assert_replied(&rt, &mut route, peer(5001), now, &end, &[])?;
-    assert_replied(
-        &rt,
-        &mut route,
-        peer(5001),
-        now,
-        &second,
-        &SUBSCRIBER_ANSWER_AGAIN,
-    )
+    // Its first key is another, though passphrase, salt, cookie and port are those of before.
+    offer(&rt, &mut route, peer(5001), now, &second)?;
+    assert_next(&rt, &mut route, peer(5001), &SUBSCRIBER_ANSWER_AGAIN)?;
+    assert_next(&rt, &mut route, peer(5001), &NEXT_KEY_REQUEST)?;
+    assert!(rt; !route.waits());
+    Ok(())
 }
 
 #[test]
@@ -378,7 +395,7 @@ fn a_role_without_a_passphrase_is_as_on_a_route_without_keys(rt: HostRuntime) ->
 }
 
 /// Gives the route a datagram of these bytes.
-fn offer(
+pub(crate) fn offer(
     rt: &(impl AllocGlobal + Abort),
     route: &mut Route,
     from: Peer,
@@ -401,7 +418,7 @@ fn offer(
 }
 
 /// Asserts the peer and the bytes of the reply that waits first.
-fn assert_next(
+pub(crate) fn assert_next(
     rt: &(impl AllocGlobal + Abort),
     route: &mut Route,
     to: Peer,
@@ -419,7 +436,7 @@ fn assert_next(
 }
 
 /// Bytes in hexadecimal digits.
-fn bytes_of(alloc: Global, text: &[&str]) -> Result<Vec<u8>, Fail> {
+pub(crate) fn bytes_of(alloc: Global, text: &[&str]) -> Result<Vec<u8>, Fail> {
     let mut bytes = Vec::new(alloc);
     push_hex(alloc, &mut bytes, text)?;
     Ok(bytes)

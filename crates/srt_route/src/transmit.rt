@@ -9,7 +9,7 @@ ghost use Rattle.srt_route.specs.inside.Delivery.{changed, after_publisher, afte
 ghost use Rattle.srt_route.specs.inside.Reports.{Queues};
 ghost use Rattle.srt_route.specs.inside.OneSession.{PublisherReported, PublisherSaid, SeatSaid, SubscriberReported, SubscriberSaid};
 ghost use Rattle.srt_route.specs.inside.Calls.{TableBecomes, Transmits};
-ghost use Rattle.srt_route.specs.inside.Files.{EndsFiles, FinishesSubscribers, SeatEnds, SeatServed, ServesSubscribers};
+ghost use Rattle.srt_route.specs.inside.Files.{EndsFiles, FinishesInClear, SeatEnds, SeatServed, ServesInClear};
 ghost use Rattle.srt_route.specs.Ledgers.{CountsStay};
 ghost use Rattle.srt_route.specs.Totals.{SumsGrow};
 
@@ -33,7 +33,7 @@ const RECENT_US: u64 = 1_000_000;
 
 impl Seat {
     /// Whether the session's peer was heard less than a second ago; false if none is open here.
-    fn hears_recently(&self, clock: u64) -> bool
+    pub(crate) fn hears_recently(&self, clock: u64) -> bool
         ensures { result ≡ hears_recently clock self.now }
     {
         match &self.session {
@@ -113,7 +113,7 @@ pub fn transmit_publishers(
 
 /// Queues a subscriber's drop request, data packets and KEEPALIVE: at most 65. `recent` is whether its peer was heard
 /// less than a second ago.
-fn transmit_subscriber(
+pub(crate) fn transmit_subscriber(
     subscriber: &mut Subscriber,
     peer: Peer,
     clock: u64,
@@ -179,9 +179,9 @@ fn serve_seat(
     transmit_seat(seat, clock, hand, waiting);
 }
 
-/// Step 6: queues the packets of the open subscribers, in ascending order of slots. If a file is complete, the sessions
-/// of the subscribers that have all of it end, with a SHUTDOWN.
-pub fn transmit_subscribers(
+/// Step 6 without keys: queues the packets of the open subscribers, in ascending order of slots. If a file is complete, the
+/// sessions of the subscribers that have all of it end, with a SHUTDOWN.
+pub fn transmit_in_clear(
     table: &mut Table,
     ledger: &mut Ledger,
     clock: u64,
@@ -189,8 +189,8 @@ pub fn transmit_subscribers(
     waiting: &mut ReplyQueue,
 )
     requires { clock < 2 ^ 62 }
-    ensures table { FinishesSubscribers clock table.old table.new }
-    ensures said { ServesSubscribers clock table.old waiting.old waiting.new }
+    ensures table { FinishesInClear clock table.old table.new }
+    ensures said { ServesInClear clock table.old waiting.old waiting.new }
     ensures ends { EndsFiles clock table.old ledger.old ledger.new }
     ensures counts { CountsStay ledger.old ledger.new }
     ensures sums { SumsGrow ledger.old.totals ledger.new.totals }

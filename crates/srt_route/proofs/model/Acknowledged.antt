@@ -23,6 +23,8 @@ use Rattle.srt_pub.specs.Heard.{heard_from}
 use Rattle.srt_pub.specs.Publishing as publisher
 use Rattle.srt_pub.specs.Stands as lists
 use Rattle.srt_sub.specs.Subscribing as subscriber
+use Rattle.srt_session_keys.specs.Subscriber.{Subscriber as Keys}
+use Rattle.srt_route.specs.Route.{own_by}
 use Rattle.srt_route.specs.Queues.{payload_in}
 use Rattle.srt_route.specs.declared.conclusion_reading.Conclusion.{Conclusion}
 use Rattle.srt_route.specs.declared.refusals.RefusalCause.{RefusalCause}
@@ -62,11 +64,11 @@ past_passed : (terms : Agreed) (time : ℕ) (room : Option ℕ) (fed : List (Lis
 past_passed terms time room fed (Publishes p) mode h = (kept_delivered terms.publisher time room p mode h).kept
 past_passed terms time room fed (Subscribes m) mode h = tt
 
-past_reported : (draining : Bool) (terms : Agreed) (time : ℕ) (recent : Bool) (past : Past)
-    → KeptIn terms.publisher.width past → KeptIn terms.publisher.width (reported_past draining terms time recent past)
-past_reported true terms time recent (Publishes p) h = h
-past_reported false terms time recent (Publishes p) h = kept_reported terms.publisher time p h
-past_reported draining terms time recent (Subscribes m) h = tt
+past_reported : (keys : Option Keys) (draining : Bool) (terms : Agreed) (time : ℕ) (recent : Bool) (past : Past)
+    → KeptIn terms.publisher.width past → KeptIn terms.publisher.width (reported_past keys draining terms time recent past)
+past_reported keys true terms time recent (Publishes p) h = h
+past_reported keys false terms time recent (Publishes p) h = kept_reported terms.publisher time p h
+past_reported keys draining terms time recent (Subscribes m) h = tt
 
 past_first : (width : ℕ) (role : Role) → KeptIn width (past_of role)
 past_first width Publish = kept_first width
@@ -187,21 +189,22 @@ delivery_keep : (e : Terms) (clock : ℕ) (ss : List Session) → e.mode ≡ Buf
 delivery_keep e clock ss mode h =
     settled_keep e.rules.callers e clock (gives_some e clock ss) (delivered e clock ss) (delivered_keep e clock ss mode h)
 
-reported_keeps : (e : Terms) (here : Bool) (clock : ℕ) (s : Session) → Kept e s → Kept e (reported_at e here clock s)
-reported_keeps e true clock s h = past_reported (is_draining s) (terms_of e s) (time_in s clock) (is_recent s clock) s.past h
-reported_keeps e false clock s h = h
+reported_keeps : (keys : Option Keys) (e : Terms) (here : Bool) (clock : ℕ) (s : Session) → Kept e s → Kept e (reported_at keys e here clock s)
+reported_keeps keys e true clock s h = past_reported keys (is_draining s) (terms_of e s) (time_in s clock) (is_recent s clock) s.past h
+reported_keeps keys e false clock s h = h
 
-finished_keeps : (whole : Bool) (e : Terms) (clock : ℕ) (s : Session) → Kept e s → Kept e (finished_at whole e clock s)
-finished_keeps true e clock s h = h
-finished_keeps false e clock s h = reported_keeps e s.is_open clock s h
+finished_keeps : (whole : Bool) (keys : Option Keys) (e : Terms) (clock : ℕ) (s : Session) → Kept e s → Kept e (finished_at whole keys e clock s)
+finished_keeps true keys e clock s h = h
+finished_keeps false keys e clock s h = reported_keeps keys e s.is_open clock s h
 
 sessions_keep : (is_closed : Bool) (e : Terms) (index : ℕ) (item : Item) (m : Route)
     → e.mode ≡ Buffer → Each (Kept e) m.sessions → Each (Kept e) (sessions_at is_closed e index item m)
 sessions_keep true e index item m mode h = h
 sessions_keep false e index item m mode h =
     let clock = clock_after item m in
+    let own = own_by e index item m in
     let over = is_file_over e (passed_by e index item m) in
-    each_mapped (Kept e) (Kept e) (finished e clock over) (λ s k. finished_keeps (has_whole_file over s) e clock s k) (passed_by e index item m)
+    each_mapped (Kept e) (Kept e) (finished own e clock over) (λ s k. finished_keeps (has_whole_file over s) (own s.slot) e clock s k) (passed_by e index item m)
     (delivery_keep e clock (taken_by e index item m).sessions mode
     (taken_keep e index clock (heard_by e index item m) (advanced e clock m.sessions) mode (advanced_keep e clock m.sessions h)))
 

@@ -12,6 +12,7 @@ use Rattle.srt_types.specs.Items.{Item, Received, Tick, Close}
 use Rattle.srt_packet.specs.declared.reading.PacketFault.{PacketFault}
 use Rattle.srt_packet.specs.Grammar.{Packet}
 use Rattle.srt_packet.specs.Reading.{packet_in}
+use Rattle.srt_route.specs.Route.{own_by}
 use Rattle.srt_route.specs.declared.refusals.RefusalCause.{RefusalCause}
 use Rattle.srt_route.specs.declared.conclusion_reading.Conclusion.{Conclusion}
 use Rattle.srt_route.specs.Past.{passed_past}
@@ -139,7 +140,8 @@ sessions_alone false e index item m alone =
     let ss = (taken_by e index item m).sessions in
     let taken_are = taken_alone e index clock (heard_by e index item m) (advanced e clock m.sessions) (advanced_alone e clock m.sessions alone) in
     let over = is_file_over e (passed_by e index item m) in
-    alone_kept (finished e clock over) (finishes e clock over) e.sessions (passed_by e index item m) (after_delivery_alone e clock ss taken_are)
+    let own = own_by e index item m in
+    alone_kept (finished own e clock over) (finishes own e clock over) e.sessions (passed_by e index item m) (after_delivery_alone e clock ss taken_are)
 
 pub are_alone : (e : Terms) (index : ℕ) (items : List Item) → AreAlone e.sessions (after e index items).sessions
 are_alone e index [] = tt

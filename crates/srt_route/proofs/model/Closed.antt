@@ -5,6 +5,8 @@ use Rattle.srt_types.specs.declared.shared.Callers.{Callers}
 use Rattle.srt_types.specs.declared.shared.Callers.TheVariants.{Draft, Libsrt}
 use Rattle.srt_types.specs.Terms.{Terms}
 use Rattle.srt_types.specs.Items.{Item, Received, Tick, Close}
+use Rattle.srt_session_keys.specs.Subscriber.{Subscriber as Keys}
+use Rattle.srt_route.specs.Route.{own_by}
 use Rattle.srt_route.specs.Past.{has_left}
 use Rattle.srt_route.specs.Sessions.{Session, is_active, time_in, advanced, passed_at, passed, reported_at, terms_of}
 use Rattle.srt_route.specs.Sessions.{open_publishers, settled, settled_at, with_end}
@@ -31,13 +33,13 @@ passed_stays : (e : Terms) (here : Bool) (time : ℕ) (room : Option ℕ) (fed :
 passed_stays e true time room fed s = refl
 passed_stays e false time room fed s = refl
 
-reported_stays : (e : Terms) (here : Bool) (clock : ℕ) (s : Session) → (reported_at e here clock s).is_open ≡ s.is_open
-reported_stays e true clock s = refl
-reported_stays e false clock s = refl
+reported_stays : (keys : Option Keys) (e : Terms) (here : Bool) (clock : ℕ) (s : Session) → (reported_at keys e here clock s).is_open ≡ s.is_open
+reported_stays keys e true clock s = refl
+reported_stays keys e false clock s = refl
 
-finished_stays : (whole : Bool) (e : Terms) (clock : ℕ) (s : Session) → s.is_open ≡ false → (finished_at whole e clock s).is_open ≡ false
-finished_stays true e clock s h = refl
-finished_stays false e clock s h = reported_stays e s.is_open clock s ∙ h
+finished_stays : (whole : Bool) (keys : Option Keys) (e : Terms) (clock : ℕ) (s : Session) → s.is_open ≡ false → (finished_at whole keys e clock s).is_open ≡ false
+finished_stays true keys e clock s h = refl
+finished_stays false keys e clock s h = reported_stays keys e s.is_open clock s ∙ h
 
 -- if no session is open, a change that opens none leaves none open
 still_none : (f : Session → Session) → ((s : Session) → s.is_open ≡ false → (f s).is_open ≡ false) → (ss : List Session)
@@ -90,7 +92,8 @@ ends_all false e index (Close moment) m earlier h =
     let ss = (taken_by e index (Close moment) m).sessions in
     let later = after_delivery e clock ss in
     let over = is_file_over e later in
-    still_none (finished e clock over) (λ s none. finished_stays (has_whole_file over s) e clock s none) later
+    let own = own_by e index (Close moment) m in
+    still_none (finished own e clock over) (λ s none. finished_stays (has_whole_file over s) (own s.slot) e clock s none) later
     (after_delivery_none e clock ss
     (subst (λ (i : Item). none_open (taken e index clock i (advanced e clock m.sessions)).sessions ≡ false) (sym (closing_is_heard e index moment m))
     (each_ended (advanced e clock m.sessions))))

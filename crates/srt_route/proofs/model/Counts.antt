@@ -1,7 +1,7 @@
 -- The most replies to one item.
 use Rattle.srt_sub.proofs.Credits.{resends_few}
 use Rattle.std.proofs.Common.{◌≡◌, ℕ, zero, suc, ◌+◌, ◌-◌, ◌*◌, ◌≤◌, ◌==◌, ◌&&◌, not, Bool, true, false, cond, Option, None, Some, List, []}
-use Rattle.std.proofs.Common.{◌∷◌, ◌++◌, ◌||◌, map, length, find, Result, Ok, Err, refl, ap, ◌∙◌, arith}
+use Rattle.std.proofs.Common.{◌∷◌, ◌++◌, map, length, find, Result, Ok, Err, refl, ap, arith}
 use Rattle.std.specs.Prelude.{filter_map, slice_get, nat_le, min}
 use Rattle.std.specs.List.{flat_map, cons_option}
 use Rattle.std.proofs.lemmas.List.{length-map, length-append, length-take}
@@ -10,10 +10,15 @@ use Rattle.srt_types.specs.declared.shared.Callers.TheVariants.{Draft, Libsrt}
 use Rattle.srt_types.specs.declared.shared.Peer.{Peer}
 use Rattle.srt_types.specs.Runs.{Run, numbers_from}
 use Rattle.srt_types.specs.Terms.{Terms}
-use Rattle.srt_types.specs.Items.{Item, Received, Tick, Close, moment_of}
 use Rattle.srt_packet.specs.declared.reading.PacketFault.{PacketFault}
 use Rattle.srt_packet.specs.Grammar.{Packet, Body}
-use Rattle.srt_packet.specs.Reading.{packet_in}
+use Rattle.srt_session_keys.specs.Subscriber.{Subscriber as Keys, has_key}
+use Rattle.srt_sub.specs.Held.{held}
+use Rattle.srt_route.specs.EncryptedOutput.{KeyedOutput, PacketKey, all_said_with, announcement_if, has_few, is_announced, keys_reported, outputs_if}
+use Rattle.srt_route.specs.EncryptedOutput.{payload_key, payloads_confirmed, said_under_if, said_with}
+use Rattle.srt_route.specs.Past.{outputs_of}
+use Rattle.srt_route.specs.Sessions.{outputs_at}
+use Rattle.srt_route.specs.Route.{keyed_by, keyed_packets_at}
 use Rattle.srt_route.specs.declared.refusals.RefusalCause.{RefusalCause}
 use Rattle.srt_recvbuf.specs.Receiving.{Receiving}
 use Rattle.srt_sendbuf.specs.Sending.{Queued, lost, next, front}
@@ -22,17 +27,13 @@ use Rattle.srt_sub.specs.Subscribing as subscriber
 use Rattle.srt_sub.specs.Heard as to_subscriber
 use Rattle.srt_route.specs.declared.conclusion_reading.Conclusion.{Conclusion}
 use Rattle.srt_route.specs.Past.{Past, Publishes, Subscribes, Agreed, ToPublisher, ToSubscriber, loses_window, reports_of, answers_to}
-use Rattle.srt_route.specs.Sessions.{Session, is_draining, is_subscriber, is_open_in, is_idle, is_recent, by_slot, speaks, time_in, terms_of, advanced}
+use Rattle.srt_route.specs.Sessions.{Session, is_draining, is_subscriber, is_open_in, is_recent, by_slot, speaks, time_in, terms_of}
 use Rattle.srt_route.specs.Sessions.{publishes}
-use Rattle.srt_route.specs.Route.{Taken, Reply, sent, decision, considered, concluded, is_of, is_for, concludes, without_destination}
-use Rattle.srt_route.specs.Route.{arrived, answered_by, said_by, packet_taken, read_taken, taken, shutdown_to, Route, after, clock_after}
-use Rattle.srt_route.specs.Route.{taken_by, passed_by, replies_at, packets_at, packets_where, RepliesHavePlaces, Verdict, Passes, Ignored, Refused, Repeats}
-use Rattle.srt_route.specs.Route.{Answered, Decrypted}
-use Rattle.srt_route.specs.Route.{with_bytes}
-use Rattle.srt_route.specs.Route.{answers_as, heard_as, judgement, reply_with}
-use Rattle.srt_route.specs.Route.{after_delivery, ended, has_whole_file, idle_notified, is_file_over, lost_notified, served, served_at, notified_if}
+use Rattle.srt_route.specs.Route.{Taken, Reply, decision, considered, concluded, is_of, is_for, concludes, without_destination}
+use Rattle.srt_route.specs.Route.{arrived, answered_by, said_by, packet_taken, read_taken}
+use Rattle.srt_route.specs.Route.{packets_at}
+use Rattle.srt_route.specs.Route.{has_whole_file, lost_notified, served_at, notified_if}
 use Rattle.srt_route.proofs.model.FileEnds.{whole_subscribes}
-use Rattle.srt_route.proofs.model.Closed.{after_delivery_none, each_ended, none_open}
 
 -- a publisher is sent at most an ACK and a NAK, and a KEEPALIVE only without them
 acks_few : (full light : Bool) (x y : publisher.Report) → length (publisher.ack_of full light x y) ≤ 1
@@ -83,7 +84,7 @@ media_few again (n ∷ ns) queue =
       length-append (subscriber.media_of again n (slice_get queue n)) (subscriber.media again ns queue),
     )
 
-many_numbers : (from count : ℕ) → length (numbers_from from count) ≡ count
+pub many_numbers : (from count : ℕ) → length (numbers_from from count) ≡ count
 many_numbers from zero = refl
 many_numbers from (suc count) = ap suc (many_numbers (from + 1) count)
 
@@ -148,7 +149,73 @@ said_few e true clock s =
     omega (arith, length-map (reports_of (terms_of e s) time recent s.past) (said_by time s), reports_few (terms_of e s) time recent s.past)
 said_few e false clock s = omega arith
 
-either : (is_open publishing draining : Bool) → cond (is_open && publishing && not draining) 65 0 + cond (is_open && not publishing) 65 0 ≤ 65
+-- with keys of its own a session is sent a KMREQ as well
+all_with_few : (keys : Keys) (caller initial time : ℕ) (pending : List KeyedOutput) (rs : List subscriber.Report)
+    → length (all_said_with keys caller initial time pending rs) ≤ length pending + length rs
+all_with_few keys caller initial time pending [] = omega arith
+all_with_few keys caller initial time pending (r ∷ rs) =
+    by (subscriber.is_drop r) (all_with_few keys caller initial time pending rs) (all_with_few keys caller initial time [] rs)
+  where
+    one : List KeyedOutput
+    one = said_with keys caller initial time r
+
+    under_few : (b : Bool) (key : PacketKey) (x : subscriber.Report) → length (said_under_if b key caller initial time x) ≤ 1
+    under_few true key x = omega arith
+    under_few false key x = omega arith
+
+    one_few : (x : subscriber.Report) → length (said_with keys caller initial time x) ≤ 1
+    one_few (subscriber.Acked mark) = omega arith
+    one_few (subscriber.Dropped run) = omega arith
+    one_few (subscriber.Media number again origin payload) =
+        under_few (has_key keys number) (payload_key keys number) (subscriber.Media number again origin payload)
+    one_few subscriber.KeepAlive = omega arith
+
+    by : (b : Bool) → length (all_said_with keys caller initial time pending rs) ≤ length pending + length rs
+        → length (all_said_with keys caller initial time [] rs) ≤ 0 + length rs
+        → length (cond b (one ++ all_said_with keys caller initial time pending rs) (pending ++ one ++ all_said_with keys caller initial time [] rs))
+        ≤ length pending + suc (length rs)
+    by true later none = omega (arith, later, one_few r, length-append one (all_said_with keys caller initial time pending rs))
+    by false later none =
+        omega (
+          arith,
+          none,
+          one_few r,
+          length-append (pending ++ one) (all_said_with keys caller initial time [] rs),
+          length-append pending one,
+        )
+
+announced_few : (announced : Bool) (keys : Keys) (caller time : ℕ) → length (announcement_if announced keys caller time) ≤ 1
+announced_few true keys caller time = omega arith
+announced_few false keys caller time = omega arith
+
+outputs_few : (few announced : Bool) (keys : Keys) (terms : subscriber.Terms) (caller initial time : ℕ) (recent : Bool) (m : subscriber.Subscribing)
+    → length (outputs_if few announced keys terms caller initial time recent m) ≤ 66
+outputs_few true announced keys terms caller initial time recent m =
+    let n = held terms (payloads_confirmed keys) m in
+    omega (
+      arith,
+      all_with_few keys caller initial time (announcement_if announced keys caller time) (subscriber.reports terms time recent n),
+      announced_few announced keys caller time,
+      subscriber_few terms time recent n,
+    )
+outputs_few false announced keys terms caller initial time recent m = omega arith
+
+past_outputs_few : (keys : Keys) (terms : Agreed) (caller initial time : ℕ) (recent : Bool) (past : Past)
+    → length (outputs_of keys terms caller initial time recent past) ≤ 66
+past_outputs_few keys terms caller initial time recent (Publishes p) = omega arith
+past_outputs_few keys terms caller initial time recent (Subscribes m) =
+    outputs_few (has_few m) (is_announced keys time m) (keys_reported time m keys) terms.subscriber caller initial time recent m
+
+keyed_few : (keys : Keys) (e : Terms) (here : Bool) (clock : ℕ) (s : Session) → length (keyed_packets_at keys e here clock s) ≤ cond here 66 0
+keyed_few keys e true clock s =
+    omega (
+      arith,
+      length-map (outputs_at keys e true clock s) (keyed_by s),
+      past_outputs_few keys (terms_of e s) s.conclusion.caller s.conclusion.initial (time_in s clock) (is_recent s clock) s.past,
+    )
+keyed_few keys e false clock s = omega arith
+
+either : (is_open publishing draining : Bool) → cond (is_open && publishing && not draining) 65 0 + cond (is_open && not publishing) 66 0 ≤ 66
 either true true true = omega arith
 either true true false = omega arith
 either true false true = omega arith
@@ -157,40 +224,46 @@ either false true draining = omega arith
 either false false draining = omega arith
 
 -- a session that has the whole file is sent a SHUTDOWN instead
-served_few : (e : Terms) (clock : ℕ) (over : Bool) (s : Session) → length (served_at (has_whole_file over s) e clock s) ≤ cond (is_subscriber s) 65 0
-served_few e clock over s = by (has_whole_file over s) refl
+served_few : (keys : Option Keys) (e : Terms) (clock : ℕ) (over : Bool) (s : Session)
+    → length (served_at (has_whole_file over s) keys e clock s) ≤ cond (is_subscriber s) 66 0
+served_few keys e clock over s = by (has_whole_file over s) refl keys
   where
-    one : (b : Bool) → b ≡ true → 1 ≤ cond b 65 0
+    one : (b : Bool) → b ≡ true → 1 ≤ cond b 66 0
     one true is = omega arith
     one false is = absurd (let bad : false ≡ true = is in cc)
 
-    by : (b : Bool) → has_whole_file over s ≡ b → length (served_at b e clock s) ≤ cond (is_subscriber s) 65 0
-    by true is = one (is_subscriber s) (whole_subscribes over s is)
-    by false is = said_few e (is_subscriber s) clock s
+    more : (b : Bool) → length (packets_at e b clock s) ≤ cond b 65 0 → length (packets_at e b clock s) ≤ cond b 66 0
+    more true few = omega (arith, few)
+    more false few = few
+
+    by : (b : Bool) → has_whole_file over s ≡ b → (k : Option Keys) → length (served_at b k e clock s) ≤ cond (is_subscriber s) 66 0
+    by true is k = one (is_subscriber s) (whole_subscribes over s is)
+    by false is None = more (is_subscriber s) (said_few e (is_subscriber s) clock s)
+    by false is (Some k) = keyed_few k e (is_subscriber s) clock s
 
 abbrev packets : Terms → (clock : ℕ) → (Session → Bool) → Session → List Reply
 packets e clock test s = packets_at e (test s) clock s
 
-abbrev serving : Terms → (clock : ℕ) → (over : Bool) → Session → List Reply
-serving e clock over s = served_at (has_whole_file over s) e clock s
+abbrev serving : (own : ℕ → Option Keys) → Terms → (clock : ℕ) → (over : Bool) → Session → List Reply
+serving own e clock over s = served_at (has_whole_file over s) (own s.slot) e clock s
 
-all_said : (e : Terms) (clock : ℕ) (over : Bool) (ss : List Session)
-    → length (flat_map (packets e clock speaks) ss) + length (flat_map (serving e clock over) ss) ≤ 65 * length ss
-all_said e clock over [] = omega arith
-all_said e clock over (s ∷ ss) =
+pub all_said : (own : ℕ → Option Keys) (e : Terms) (clock : ℕ) (over : Bool) (ss : List Session)
+    → length (flat_map (packets e clock speaks) ss) + length (flat_map (serving own e clock over) ss) ≤ 66 * length ss
+all_said own e clock over [] = omega arith
+all_said own e clock over (s ∷ ss) =
     let few = said_few e (speaks s) clock s in
-    let few_too = served_few e clock over s in
+    let few_too = served_few (own s.slot) e clock over s in
     let one = either s.is_open (publishes s.conclusion.role) (is_draining s) in
     let first = packets e clock speaks s in
-    let second = serving e clock over s in
+    let second = serving own e clock over s in
     omega (
       arith,
       few,
       few_too,
       one,
-      all_said e clock over ss,
+      all_said own e clock over ss,
       length-append first (flat_map (packets e clock speaks) ss),
-      length-append second (flat_map (serving e clock over) ss),
+      length-append second (flat_map (serving own e clock over) ss),
     )
 
 picked_few : {A B : Type 0} → (f : A → Option B) (xs : List A) → length (filter_map f xs) ≤ length xs
@@ -201,11 +274,11 @@ picked_few {A} {B} f (x ∷ xs) = with_one (f x) (picked_few f xs)
     with_one None few = omega (arith, few)
     with_one (Some y) few = omega (arith, few)
 
-few_by_slot : (e : Terms) (ss : List Session) → length (by_slot e ss) ≤ e.sessions
+pub few_by_slot : (e : Terms) (ss : List Session) → length (by_slot e ss) ≤ e.sessions
 few_by_slot e ss = omega (arith, picked_few (λ slot. find (is_open_in slot) ss) (numbers_from 0 e.sessions), many_numbers 0 e.sessions)
 
 -- a datagram is answered at most once
-abbrev IsBrief : Taken → Type 0
+abbrev pub IsBrief : Taken → Type 0
 IsBrief t = length t.answers ≤ 1
 
 acked_brief : (mark : ℕ) → length (subscriber.ack_reports mark) ≤ 1
@@ -231,12 +304,12 @@ answers_brief initial body (Subscribes s) =
     )
 
 -- a session that ends is sent at most one SHUTDOWN, and a publisher's nothing else
-notified_few : (callers : Callers) (ends : Bool) (clock : ℕ) (s : Session) → length (notified_if callers ends clock s) ≤ 1
+pub notified_few : (callers : Callers) (ends : Bool) (clock : ℕ) (s : Session) → length (notified_if callers ends clock s) ≤ 1
 notified_few Draft ends clock s = omega arith
 notified_few Libsrt true clock s = omega arith
 notified_few Libsrt false clock s = omega arith
 
-none_lost : (callers : Callers) (clock : ℕ) (s : Session) → length (notified_if callers false clock s) ≡ 0
+pub none_lost : (callers : Callers) (clock : ℕ) (s : Session) → length (notified_if callers false clock s) ≡ 0
 none_lost Draft clock s = refl
 none_lost Libsrt clock s = refl
 
@@ -284,100 +357,7 @@ packet_brief e index clock peer packet ss = by_dest (packet.dest == 0)
     by_dest true = conclusion_brief e index clock peer packet.stamp ss (concludes packet.body)
     by_dest false = answered_brief e clock packet.body (find (is_for index peer packet.dest) ss)
 
-read_brief : (e : Terms) (index clock : ℕ) (peer : Peer) (packet : Result Packet PacketFault) (ss : List Session)
+pub read_brief : (e : Terms) (index clock : ℕ) (peer : Peer) (packet : Result Packet PacketFault) (ss : List Session)
     → IsBrief (read_taken e index clock peer packet ss)
 read_brief e index clock peer (Ok packet) ss = packet_brief e index clock peer packet ss
 read_brief e index clock peer (Err fault) ss = omega arith
-
--- each session that ends as time advances is sent at most one SHUTDOWN
-idle_few : (e : Terms) (clock : ℕ) (ss : List Session) → length (flat_map (λ s. notified_if e.rules.callers (is_idle s clock) clock s) ss) ≤ length ss
-idle_few e clock [] = omega arith
-idle_few e clock (s ∷ ss) =
-    let one = notified_if e.rules.callers (is_idle s clock) clock s in
-    omega (
-      arith,
-      notified_few e.rules.callers (is_idle s clock) clock s,
-      idle_few e clock ss,
-      length-append one (flat_map (λ s. notified_if e.rules.callers (is_idle s clock) clock s) ss),
-    )
-
--- if the route is closed, each open session is sent a SHUTDOWN
-abbrev packets_after : Terms → (clock : ℕ) → List Session → ℕ
-packets_after e clock ss = length (packets_where e clock speaks ss) + length (served e clock (is_file_over e ss) ss)
-
-vacant : (ss : List Session) (at : ℕ) → none_open ss ≡ false → find (is_open_in at) ss ≡ None
-vacant [] at h = refl
-vacant (s ∷ ss) at h = by (λ k. vacant ss at k) s.is_open h
-  where
-    by : (none_open ss ≡ false → find (is_open_in at) ss ≡ None) → (b : Bool) → (b || none_open ss) ≡ false
-        → cond (b && s.slot == at) (Some s) (find (is_open_in at) ss) ≡ None
-    by rest true k = absurd (let bad : true ≡ false = k in cc)
-    by rest false k = rest k
-
-none_picked : (ss : List Session) (places : List ℕ) → none_open ss ≡ false → length (filter_map (λ slot. find (is_open_in slot) ss) places) ≡ 0
-none_picked ss [] h = refl
-none_picked ss (at ∷ places) h =
-    ap (λ (o : Option Session). length (cons_option o (filter_map (λ slot. find (is_open_in slot) ss) places))) (vacant ss at h)
-    ∙ none_picked ss places h
-
--- the answers to an item, and the packets after it
-taken_few : (e : Terms) (index clock : ℕ) (item : Item) (ss : List Session)
-    → length (taken e index clock item ss).answers + packets_after e clock (after_delivery e clock (taken e index clock item ss).sessions)
-    ≤ 1 + 65 * e.sessions
-taken_few e index clock (Received d moment) ss =
-    let ts = after_delivery e clock (read_taken e index clock d.peer (packet_in d.bytes) ss).sessions in
-    omega (arith, read_brief e index clock d.peer (packet_in d.bytes) ss, all_said e clock (is_file_over e ts) (by_slot e ts), few_by_slot e ts)
-taken_few e index clock (Tick moment) ss =
-    let ts = after_delivery e clock ss in
-    omega (arith, all_said e clock (is_file_over e ts) (by_slot e ts), few_by_slot e ts)
-taken_few e index clock (Close moment) ss =
-    let ts = after_delivery e clock (map ended ss) in
-    omega (
-      arith,
-      length-map (by_slot e ss) (shutdown_to clock),
-      few_by_slot e ss,
-      all_said e clock (is_file_over e ts) (by_slot e ts),
-      none_picked ts (numbers_from 0 e.sessions) (after_delivery_none e clock (map ended ss) (each_ended ss)),
-    )
-
--- the same of the answers as keys have them: a refusal is one where the sessions have none
-answers_few : (v : Verdict) (e : Terms) (index clock : ℕ) (item : Item) (ss : List Session)
-    → length (answers_as v (taken e index clock (heard_as v item) ss).answers)
-    + packets_after e clock (after_delivery e clock (taken e index clock (heard_as v item) ss).sessions)
-    ≤ 1 + 65 * e.sessions
-answers_few Passes e index clock item ss = taken_few e index clock item ss
-answers_few Ignored e index clock item ss = taken_few e index clock (Tick (moment_of item)) ss
-answers_few (Refused peer c) e index clock item ss =
-    let ts = after_delivery e clock ss in omega (arith, all_said e clock (is_file_over e ts) (by_slot e ts), few_by_slot e ts)
-answers_few (Repeats None) e index clock item ss = taken_few e index clock item ss
-answers_few (Decrypted bytes) e index clock item ss = taken_few e index clock (with_bytes bytes item) ss
-answers_few (Answered answer) e index clock item ss =
-    let ts = after_delivery e clock (taken e index clock item ss).sessions in
-    omega (arith, all_said e clock (is_file_over e ts) (by_slot e ts), few_by_slot e ts)
-answers_few (Repeats (Some request)) e index clock item ss =
-    omega (arith, length-map (taken e index clock item ss).answers (reply_with request), taken_few e index clock item ss)
-
-replies_few : (is_closed : Bool) (e : Terms) (index : ℕ) (item : Item) (m : Route)
-    → length (map sent (replies_at is_closed e index item m)) ≤ 4 + 66 * e.sessions
-replies_few true e index item m = omega arith
-replies_few false e index item m =
-    let clock = clock_after item m in
-    let ss = passed_by e index item m in
-    let idle = idle_notified e clock m.sessions in
-    let answers = (taken_by e index item m).answers in
-    let first = packets_where e clock speaks ss in
-    let second = served e clock (is_file_over e ss) ss in
-    omega (
-      arith,
-      length-map (replies_at false e index item m) sent,
-      length-append (idle ++ answers ++ first) second,
-      length-append (idle ++ answers) first,
-      length-append idle answers,
-      idle_few e clock (by_slot e m.sessions),
-      few_by_slot e m.sessions,
-      answers_few (judgement e index item m).verdict e index clock item (advanced e clock m.sessions),
-    )
-
-pub replies_have_places : RepliesHavePlaces
-replies_have_places e index [] = omega arith
-replies_have_places e index (item ∷ items) = let m = after e index items in replies_few m.is_closed e index item m

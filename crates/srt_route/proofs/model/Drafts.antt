@@ -10,6 +10,8 @@ use Rattle.srt_types.specs.Items.{Item, Received, Tick, Close}
 use Rattle.srt_packet.specs.declared.reading.PacketFault.{PacketFault}
 use Rattle.srt_packet.specs.Grammar.{Body, Packet}
 use Rattle.srt_packet.specs.Reading.{packet_in}
+use Rattle.srt_session_keys.specs.Subscriber.{Subscriber as Keys}
+use Rattle.srt_route.specs.Route.{own_by}
 use Rattle.srt_route.specs.declared.conclusion_reading.Conclusion.{Conclusion}
 use Rattle.srt_route.specs.declared.refusals.RefusalCause.{RefusalCause}
 use Rattle.srt_route.specs.Past.{has_left, is_shutdown}
@@ -130,13 +132,13 @@ delivery_stay e clock ss draft h =
     settled_stay e.rules.callers e clock (gives_some e clock ss) (delivered e clock ss) draft
     (each_mapped Stays Stays _ (λ s k. passed_stays e s.is_open (time_in s clock) (room_if (is_active ss s) room) fed s k) ss h)
 
-reported_stays : (e : Terms) (here : Bool) (clock : ℕ) (s : Session) → Stays s → Stays (reported_at e here clock s)
-reported_stays e true clock s h = h
-reported_stays e false clock s h = h
+reported_stays : (keys : Option Keys) (e : Terms) (here : Bool) (clock : ℕ) (s : Session) → Stays s → Stays (reported_at keys e here clock s)
+reported_stays keys e true clock s h = h
+reported_stays keys e false clock s h = h
 
-finished_stays : (whole : Bool) (e : Terms) (clock : ℕ) (s : Session) → Stays s → Stays (finished_at whole e clock s)
-finished_stays true e clock s h = h
-finished_stays false e clock s h = reported_stays e s.is_open clock s h
+finished_stays : (whole : Bool) (keys : Option Keys) (e : Terms) (clock : ℕ) (s : Session) → Stays s → Stays (finished_at whole keys e clock s)
+finished_stays true keys e clock s h = h
+finished_stays false keys e clock s h = reported_stays keys e s.is_open clock s h
 
 sessions_stay : (is_closed : Bool) (e : Terms) (index : ℕ) (item : Item) (m : Route)
     → e.rules.callers ≡ Draft → Each Stays m.sessions → Each Stays (sessions_at is_closed e index item m)
@@ -144,7 +146,8 @@ sessions_stay true e index item m draft h = h
 sessions_stay false e index item m draft h =
     let clock = clock_after item m in
     let over = is_file_over e (passed_by e index item m) in
-    each_mapped Stays Stays (finished e clock over) (λ s k. finished_stays (has_whole_file over s) e clock s k) (passed_by e index item m)
+    let own = own_by e index item m in
+    each_mapped Stays Stays (finished own e clock over) (λ s k. finished_stays (has_whole_file over s) (own s.slot) e clock s k) (passed_by e index item m)
     (delivery_stay e clock (taken_by e index item m).sessions draft
     (taken_stay e index clock (heard_by e index item m) (advanced e clock m.sessions) draft (advanced_stay e clock m.sessions h)))
 

@@ -7,6 +7,8 @@ use Rattle.srt_types.specs.declared.shared.Callers.TheVariants.{Draft, Libsrt}
 use Rattle.srt_types.specs.Terms.{Terms}
 use Rattle.srt_types.specs.Items.{Datagram, Item, Received, Tick, Close}
 use Rattle.srt_pub.specs.declared.session.Publisher.{Publisher}
+use Rattle.srt_session_keys.specs.Subscriber.{Subscriber as Keys}
+use Rattle.srt_route.specs.Route.{own_by}
 use Rattle.srt_route.specs.declared.replies.Reply.{Reply}
 use Rattle.srt_route.specs.declared.seat.Session.{Session as TheSession}
 use Rattle.srt_route.specs.declared.seat.Seat.{Seat}
@@ -130,13 +132,13 @@ passed_ended : (e : Terms) (here : Bool) (time : ℕ) (room : Option ℕ) (deliv
 passed_ended e true time room delivery s h = h
 passed_ended e false time room delivery s h = h
 
-reported_ended : (e : Terms) (here : Bool) (clock : ℕ) (s : Session) → HasEnded s → HasEnded (reported_at e here clock s)
-reported_ended e true clock s h = h
-reported_ended e false clock s h = h
+reported_ended : (keys : Option Keys) (e : Terms) (here : Bool) (clock : ℕ) (s : Session) → HasEnded s → HasEnded (reported_at keys e here clock s)
+reported_ended keys e true clock s h = h
+reported_ended keys e false clock s h = h
 
-finished_ended : (whole : Bool) (e : Terms) (clock : ℕ) (s : Session) → HasEnded s → HasEnded (finished_at whole e clock s)
-finished_ended true e clock s h = refl
-finished_ended false e clock s h = reported_ended e s.is_open clock s h
+finished_ended : (whole : Bool) (keys : Option Keys) (e : Terms) (clock : ℕ) (s : Session) → HasEnded s → HasEnded (finished_at whole keys e clock s)
+finished_ended true keys e clock s h = refl
+finished_ended false keys e clock s h = reported_ended keys e s.is_open clock s h
 
 all_end : (ss : List Session) → Each HasEnded (map ended ss)
 all_end [] = tt
@@ -182,7 +184,7 @@ more_ended : (e : Terms) (index : ℕ) (item : Item) (m : Route) (was : Bool)
 more_ended e index item m true before h = before refl
 more_ended e index item m false before h =
     let over = is_file_over e (passed_by e index item m) in
-    each_mapped HasEnded HasEnded _ (λ s k. finished_ended (has_whole_file over s) e (clock_after item m) s k) (passed_by e index item m)
+    each_mapped HasEnded HasEnded _ (λ s k. finished_ended (has_whole_file over s) (own_by e index item m s.slot) e (clock_after item m) s k) (passed_by e index item m)
     (after_delivery_ended e (clock_after item m) (taken_by e index item m).sessions (taken_ended e index item m h))
 
 pub closed_ended : (e : Terms) (index : ℕ) (items : List Item) → (after e index items).is_closed ≡ true → Each HasEnded (after e index items).sessions

@@ -4,6 +4,7 @@ use Rattle.std.proofs.lemmas.Bool.{and_parts}
 use Rattle.srt_types.specs.declared.shared.Peer.{Peer}
 use Rattle.srt_types.specs.Terms.{Terms}
 use Rattle.srt_packet.specs.Grammar.{Packet}
+use Rattle.srt_session_keys.specs.Subscriber.{Subscriber as Keys}
 use Rattle.srt_route.specs.Past.{Past, Publishes, Subscribes, Agreed, has_all, has_left, reported_past}
 use Rattle.srt_route.specs.Sessions.{Session, is_draining, is_publisher, is_recent, is_subscriber, reported, reported_at, settled, settled_at, terms_of}
 use Rattle.srt_route.specs.Sessions.{time_in, with_end}
@@ -76,11 +77,11 @@ settles_marks e given clock s = by s.drains
     by (Some until) = refl
 
 -- the end of an event
-pub reports : (e : Terms) (clock : ℕ) → Keeps (reported e clock)
-reports e clock = keeps_changed (λ s. reported_past (is_draining s) (terms_of e s) (time_in s clock) (is_recent s clock) s.past)
+pub reports : (keys : Option Keys) (e : Terms) (clock : ℕ) → Keeps (reported keys e clock)
+reports keys e clock = keeps_changed (λ s. reported_past keys (is_draining s) (terms_of e s) (time_in s clock) (is_recent s clock) s.past)
 
-pub finishes : (e : Terms) (clock : ℕ) (over : Bool) → Keeps (finished e clock over)
-finishes e clock over =
+pub finishes : (own : ℕ → Option Keys) (e : Terms) (clock : ℕ) (over : Bool) → Keeps (finished own e clock over)
+finishes own e clock over =
     record {
       slot = λ s. slot_of s (has_whole_file over s);
       peer = λ s. peer_of s (has_whole_file over s);
@@ -89,34 +90,34 @@ finishes e clock over =
       drains_on = λ s. drains_of s (has_whole_file over s);
     }
   where
-    slot_of : (s : Session) (b : Bool) → (finished_at b e clock s).slot ≡ s.slot
+    slot_of : (s : Session) (b : Bool) → (finished_at b (own s.slot) e clock s).slot ≡ s.slot
     slot_of s true = refl
-    slot_of s false = (reports e clock).slot s
+    slot_of s false = (reports (own s.slot) e clock).slot s
 
-    peer_of : (s : Session) (b : Bool) → (finished_at b e clock s).peer ≡ s.peer
+    peer_of : (s : Session) (b : Bool) → (finished_at b (own s.slot) e clock s).peer ≡ s.peer
     peer_of s true = refl
-    peer_of s false = (reports e clock).peer s
+    peer_of s false = (reports (own s.slot) e clock).peer s
 
-    conclusion_of : (s : Session) (b : Bool) → (finished_at b e clock s).conclusion ≡ s.conclusion
+    conclusion_of : (s : Session) (b : Bool) → (finished_at b (own s.slot) e clock s).conclusion ≡ s.conclusion
     conclusion_of s true = refl
-    conclusion_of s false = (reports e clock).conclusion s
+    conclusion_of s false = (reports (own s.slot) e clock).conclusion s
 
-    drains_of : (s : Session) (b : Bool) → is_draining (finished_at b e clock s) ≡ false → is_draining s ≡ false
+    drains_of : (s : Session) (b : Bool) → is_draining (finished_at b (own s.slot) e clock s) ≡ false → is_draining s ≡ false
     drains_of s true h = h
-    drains_of s false h = (reports e clock).drains_on s h
+    drains_of s false h = (reports (own s.slot) e clock).drains_on s h
 
-    opens_of : (s : Session) (b : Bool) → (finished_at b e clock s).is_open ≡ true → s.is_open ≡ true
+    opens_of : (s : Session) (b : Bool) → (finished_at b (own s.slot) e clock s).is_open ≡ true → s.is_open ≡ true
     opens_of s true h = absurd (let bad : false ≡ true = h in cc)
-    opens_of s false h = (reports e clock).opens_none s h
+    opens_of s false h = (reports (own s.slot) e clock).opens_none s h
 
-pub finishes_marks : (e : Terms) (clock : ℕ) (over : Bool) → KeepsMarks (finished e clock over)
-finishes_marks e clock over s = by (has_whole_file over s)
+pub finishes_marks : (own : ℕ → Option Keys) (e : Terms) (clock : ℕ) (over : Bool) → KeepsMarks (finished own e clock over)
+finishes_marks own e clock over s = by (has_whole_file over s)
   where
-    mark_of : (b : Bool) → (reported_at e b clock s).took_over ≡ s.took_over
+    mark_of : (b : Bool) → (reported_at (own s.slot) e b clock s).took_over ≡ s.took_over
     mark_of true = refl
     mark_of false = refl
 
-    by : (b : Bool) → (finished_at b e clock s).took_over ≡ s.took_over
+    by : (b : Bool) → (finished_at b (own s.slot) e clock s).took_over ≡ s.took_over
     by true = refl
     by false = mark_of s.is_open
 

@@ -11,6 +11,8 @@ use Rattle.srt_types.specs.Items.{Item, Received, Tick, Close}
 use Rattle.srt_packet.specs.declared.reading.PacketFault.{PacketFault}
 use Rattle.srt_packet.specs.Grammar.{Packet}
 use Rattle.srt_packet.specs.Reading.{packet_in}
+use Rattle.srt_session_keys.specs.Subscriber.{Subscriber as Keys}
+use Rattle.srt_route.specs.Route.{own_by}
 use Rattle.srt_route.specs.declared.refusals.RefusalCause.{RefusalCause}
 use Rattle.srt_route.specs.declared.conclusion_reading.Conclusion.{Conclusion}
 use Rattle.srt_route.specs.Activity.{ActiveGoesOn}
@@ -37,10 +39,10 @@ use Rattle.srt_route.proofs.stored.Kept.{no_opening}
 use Rattle.srt_route.proofs.steps.Aging.{ages, ages_marks}
 
 -- a change that keeps the sessions and their marks
-record Calm (f : Session → Session) : Type 0 where
-  keeps : Keeps f
-  marks : KeepsMarks f
-  generation : (s : Session) → (f s).generation ≡ s.generation
+pub record Calm (f : Session → Session) : Type 0 where
+  pub keeps : Keeps f
+  pub marks : KeepsMarks f
+  pub generation : (s : Session) → (f s).generation ≡ s.generation
 
 -- the generation of a session is the number of older sessions of its slot
 abbrev AreNumbered : List Session → Type 0
@@ -74,18 +76,18 @@ earlier (t ∷ ts) at s h found = by (λ k. earlier ts at s h.1 k) (is_open_in a
     by rest false is k false there = rest k
 
 -- an item changes the sessions by a calm change, or opens one more
-record Opened (ss new : List Session) : Type 0 where
-  session : Session
-  new_is : new ≡ session ∷ ss
-  unmarked : session.took_over ≡ false
-  numbered : session.generation ≡ generation_of ss session.slot
+pub record Opened (ss new : List Session) : Type 0 where
+  pub session : Session
+  pub new_is : new ≡ session ∷ ss
+  pub unmarked : session.took_over ≡ false
+  pub numbered : session.generation ≡ generation_of ss session.slot
 
-record Changed (ss new : List Session) : Type 0 where
-  by : Session → Session
-  calm : Calm by
-  new_is : new ≡ map by ss
+pub record Changed (ss new : List Session) : Type 0 where
+  pub by : Session → Session
+  pub calm : Calm by
+  pub new_is : new ≡ map by ss
 
-abbrev TakesOn : (ss new : List Session) → Type 0
+abbrev pub TakesOn : (ss new : List Session) → Type 0
 TakesOn ss new = Changed ss new ⊎ Opened ss new
 
 same : (ss : List Session) → ss ≡ map (λ s. s) ss
@@ -160,7 +162,7 @@ read_is : (e : Terms) (index clock : ℕ) (peer : Peer) (read : Result Packet Pa
 read_is e index clock peer (Ok packet) ss = packet_is e index clock peer packet ss
 read_is e index clock peer (Err fault) ss = nothing ss
 
-taken_is : (e : Terms) (index clock : ℕ) (item : Item) (ss : List Session) → TakesOn ss (taken e index clock item ss).sessions
+pub taken_is : (e : Terms) (index clock : ℕ) (item : Item) (ss : List Session) → TakesOn ss (taken e index clock item ss).sessions
 taken_is e index clock (Received d moment) ss = read_is e index clock d.peer (packet_in d.bytes) ss
 taken_is e index clock (Tick moment) ss = nothing ss
 taken_is e index clock (Close moment) ss =
@@ -215,9 +217,9 @@ settling_is : (c : Callers) (e : Terms) (given : Bool) (clock : ℕ) (ss : List 
 settling_is Draft e given clock ss = same ss
 settling_is Libsrt e given clock ss = map_twice (settled e given clock) (with_end (end_in e given clock ss)) ss
 
-finishes_calmly : (e : Terms) (clock : ℕ) (over : Bool) → Calm (finished e clock over)
-finishes_calmly e clock over =
-    record { keeps = finishes e clock over; marks = finishes_marks e clock over; generation = (finishes_queues e clock over).generation }
+finishes_calmly : (own : ℕ → Option Keys) (e : Terms) (clock : ℕ) (over : Bool) → Calm (finished own e clock over)
+finishes_calmly own e clock over =
+    record { keeps = finishes own e clock over; marks = finishes_marks own e clock over; generation = (finishes_queues own e clock over).generation }
 
 -- time, without a take-over
 abbrev timed : (end : Option Bool) → Terms → (clock : ℕ) → Session → Session
@@ -353,7 +355,8 @@ numbered_event false e index item m h =
     let given = gives_some e clock ss in
     let fed = delivered e clock ss in
     let settling_calmly = settles_calmly e.rules.callers (end_in e given clock fed) e given clock in
-    numbered_on (finished e clock over) (finishes e clock over) (finishes_queues e clock over).generation (passed_by e index item m)
+    let own = own_by e index item m in
+    numbered_on (finished own e clock over) (finishes own e clock over) (finishes_queues own e clock over).generation (passed_by e index item m)
     (subst AreNumbered (sym (settling_is e.rules.callers e given clock fed))
     (numbered_on (settling e.rules.callers (end_in e given clock fed) e given clock) settling_calmly.keeps settling_calmly.generation fed
     (numbered_on (λ s. passed e clock (room_if (is_active ss s) (least_room e ss)) (delivery e clock (least_room e ss) ss) s) passing.keeps
@@ -369,7 +372,7 @@ over_event : (e : Terms) (index : ℕ) (item : Item) (m : Route) (s t : Session)
     → find (is_open_in s.slot) (sessions_at false e index item m) ≡ Some t → t.generation ≡ s.generation
     → active (sessions_at false e index item m) ≡ Some t
 over_event e index item m s t alone numbered is none found generation =
-    forth (finished e clock over) (finishes_calmly e clock over) (passed_by e index item m) last.session t
+    forth (finished own e clock over) (finishes_calmly own e clock over) (passed_by e index item m) last.session t
     (subst (λ (ts : List Session). active ts ≡ Some last.session) (sym passed_is)
     (forth settle (settles_calmly e.rules.callers (end_in e given clock fed) e given clock) fed next.session last.session
     (forth pass (passes_calmly e clock ss) ss middle.session next.session
@@ -386,6 +389,9 @@ over_event e index item m s t alone numbered is none found generation =
 
     over : Bool
     over = is_file_over e (passed_by e index item m)
+
+    own : ℕ → Option Keys
+    own = own_by e index item m
 
     end : Option Bool
     end = time_end e m.sessions (map (aged e clock) m.sessions)
@@ -417,9 +423,9 @@ over_event e index item m s t alone numbered is none found generation =
     taken_are : AreAlone e.sessions ss
     taken_are = taken_alone e index clock (heard_by e index item m) early early_alone
 
-    last : Before (finished e clock over) (passed_by e index item m) s.slot t
+    last : Before (finished own e clock over) (passed_by e index item m) s.slot t
     last =
-        back (finished e clock over) (finishes_calmly e clock over) e.sessions s.slot (passed_by e index item m) t
+        back (finished own e clock over) (finishes_calmly own e clock over) e.sessions s.slot (passed_by e index item m) t
         (after_delivery_alone e clock ss taken_are) found
 
     next : Before settle fed s.slot last.session

@@ -16,6 +16,7 @@ use Rattle.srt_types.specs.Items.{Item, Received, Tick, Close}
 use Rattle.srt_packet.specs.declared.reading.PacketFault.{PacketFault}
 use Rattle.srt_packet.specs.Grammar.{Packet}
 use Rattle.srt_packet.specs.Reading.{packet_in}
+use Rattle.srt_route.specs.Route.{own_by}
 use Rattle.srt_route.specs.declared.refusals.RefusalCause.{RefusalCause}
 use Rattle.srt_route.specs.declared.refusals.RefusalCause.TheVariants as causes
 use Rattle.srt_route.specs.declared.conclusion_reading.Conclusion.{Conclusion}
@@ -136,7 +137,8 @@ module _ (e : Terms) (test : Session → Bool) (bound : ℕ) (stays : Stays test
       taken_within index clock (heard_by e index item m) (advanced e clock m.sessions) (advanced_alone e clock m.sessions alone)
       (advanced_within clock m.sessions few) in
       let over = is_file_over e (passed_by e index item m) in
-      kept (finished e clock over) (finishes e clock over) (passed_by e index item m)
+      let own = own_by e index item m in
+      kept (finished own e clock over) (finishes own e clock over) (passed_by e index item m)
       (settled_within e.rules.callers clock (gives_some e clock ss) (delivered e clock ss)
       (kept (λ s. passed e clock (room_if (is_active ss s) (least_room e ss)) (delivery e clock (least_room e ss) ss) s)
       (passes e clock ss) ss taken_few))

@@ -19,6 +19,8 @@ use Rattle.srt_packet.specs.Grammar.{Body, Packet}
 use Rattle.srt_packet.specs.Reading.{packet_in}
 use Rattle.srt_pub.specs.Heard.{heard_from}
 use Rattle.srt_pub.specs.Publishing as publisher
+use Rattle.srt_session_keys.specs.Subscriber.{Subscriber as Keys}
+use Rattle.srt_route.specs.Route.{own_by}
 use Rattle.srt_route.specs.Sessions.{generation_of, passed, Session, advanced, aged, aged_at, is_active, is_draining, is_over, is_publisher, marked}
 use Rattle.srt_route.specs.Sessions.{marked_if, passed_at, reported_at, settled, settled_at, stamp_in, takes_over, terms_of, time_end, time_in, took}
 use Rattle.srt_route.specs.Sessions.{is_recent, with_end, open_publishers}
@@ -105,12 +107,12 @@ past_took numbers terms initial time stamp b (Publishes p) mode h =
     h ∙ ap (λ (n : ℕ). numbers_from 0 n) (sym (fronts_stay terms.publisher time stamp (heard_from initial b) p mode))
 past_took numbers terms initial time stamp b (Subscribes m) mode h = h
 
-past_reported : (numbers : List ℕ) (draining : Bool) (terms : Agreed) (time : ℕ) (recent : Bool) (past : Past)
-    → AreAllBelow numbers past → AreAllBelow numbers (reported_past draining terms time recent past)
-past_reported numbers true terms time recent (Publishes p) h = h
-past_reported numbers false terms time recent (Publishes p) h = h
-past_reported numbers true terms time recent (Subscribes m) h = h
-past_reported numbers false terms time recent (Subscribes m) h = h
+past_reported : (numbers : List ℕ) (keys : Option Keys) (draining : Bool) (terms : Agreed) (time : ℕ) (recent : Bool) (past : Past)
+    → AreAllBelow numbers past → AreAllBelow numbers (reported_past keys draining terms time recent past)
+past_reported numbers keys true terms time recent (Publishes p) h = h
+past_reported numbers keys false terms time recent (Publishes p) h = h
+past_reported numbers keys true terms time recent (Subscribes m) h = h
+past_reported numbers keys false terms time recent (Subscribes m) h = h
 
 numbers_both : (from a b : ℕ) → numbers_from from a ++ numbers_from (from + a) b ≡ numbers_from from (a + b)
 numbers_both from zero b =
@@ -242,15 +244,15 @@ settled_keep numbers place Libsrt e clock given ss h =
     at_mapped numbers place (with_end end) (λ s k. end_keeps numbers place e end s k) later
     (at_mapped numbers place (settled e given clock) (λ s k. settled_keeps numbers place s.drains e given clock s k) ss h)
 
-reported_keeps : (numbers : List ℕ) (place : ℕ) (e : Terms) (here : Bool) (clock : ℕ) (s : Session)
-    → Story numbers s → Story numbers (reported_at e here clock s)
-reported_keeps numbers place e true clock s h = past_reported numbers (is_draining s) (terms_of e s) (time_in s clock) (is_recent s clock) s.past h
-reported_keeps numbers place e false clock s h = h
+reported_keeps : (numbers : List ℕ) (place : ℕ) (keys : Option Keys) (e : Terms) (here : Bool) (clock : ℕ) (s : Session)
+    → Story numbers s → Story numbers (reported_at keys e here clock s)
+reported_keeps numbers place keys e true clock s h = past_reported numbers keys (is_draining s) (terms_of e s) (time_in s clock) (is_recent s clock) s.past h
+reported_keeps numbers place keys e false clock s h = h
 
-finished_keeps : (numbers : List ℕ) (place : ℕ) (whole : Bool) (e : Terms) (clock : ℕ) (s : Session)
-    → Story numbers s → Story numbers (finished_at whole e clock s)
-finished_keeps numbers place true e clock s h = h
-finished_keeps numbers place false e clock s h = reported_keeps numbers place e s.is_open clock s h
+finished_keeps : (numbers : List ℕ) (place : ℕ) (whole : Bool) (keys : Option Keys) (e : Terms) (clock : ℕ) (s : Session)
+    → Story numbers s → Story numbers (finished_at whole keys e clock s)
+finished_keeps numbers place true keys e clock s h = h
+finished_keeps numbers place false keys e clock s h = reported_keeps numbers place keys e s.is_open clock s h
 
 -- an event delivers
 given_to : (numbers : List ℕ) (e : Terms) (clock : ℕ) (fed : List (List ℕ)) (ss : List Session) (s : Session) (here : Bool)
@@ -297,7 +299,8 @@ sessions_keep numbers place false e index item m mode kept h =
     let ss = (taken_by e index item m).sessions in
     let more = numbers ++ numbers_of e clock ss (opened_as place ss) in
     let over = is_file_over e (passed_by e index item m) in
-    at_mapped more place (finished e clock over) (λ s k. finished_keeps more place (has_whole_file over s) e clock s k) (passed_by e index item m)
+    let own = own_by e index item m in
+    at_mapped more place (finished own e clock over) (λ s k. finished_keeps more place (has_whole_file over s) (own s.slot) e clock s k) (passed_by e index item m)
     (settled_keep more place e.rules.callers e clock (gives_some e clock ss) (delivered e clock ss)
     (delivered_keep numbers place e clock ss mode kept
     (taken_keep numbers place e index clock (heard_by e index item m) (advanced e clock m.sessions) mode (advanced_keep numbers place e clock m.sessions h))))

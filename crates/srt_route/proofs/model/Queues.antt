@@ -15,6 +15,10 @@ use Rattle.srt_packet.specs.Reading.{packet_in}
 use Rattle.srt_sendbuf.specs.Sending.{Queued, Sending, all_lost, sent}
 use Rattle.srt_sub.specs.Heard as to_subscriber
 use Rattle.srt_sub.specs.Subscribing as subscriber
+use Rattle.srt_session_keys.specs.Subscriber.{Subscriber as Keys}
+use Rattle.srt_sub.specs.Held.{held}
+use Rattle.srt_route.specs.EncryptedOutput.{has_few, payloads_confirmed, reported_if}
+use Rattle.srt_route.specs.Route.{own_by}
 use Rattle.srt_route.specs.declared.refusals.RefusalCause.{RefusalCause}
 use Rattle.srt_route.specs.declared.conclusion_reading.Conclusion.{Conclusion}
 use Rattle.srt_route.specs.Past.{Past, Publishes, Subscribes, Agreed, expired_past, took_past, passed_past, reported_past}
@@ -254,53 +258,64 @@ presumed_queue terms time recent m = by (subscriber.resend_due terms time recent
     by true = refl
     by false = refl
 
-past_reported : (draining : Bool) (terms : Agreed) (time : ℕ) (recent : Bool) (past : Past)
-    → queue_in (reported_past draining terms time recent past) ≡ queue_in past
-past_reported draining terms time recent (Publishes p) = refl
-past_reported draining terms time recent (Subscribes m) =
-    let t = subscriber.prepared terms.subscriber time recent m in
-    let count = subscriber.resends terms.subscriber.resend_percent subscriber.most t.notes in
+reported_queue : (terms : subscriber.Terms) (time : ℕ) (recent : Bool) (m : subscriber.Subscribing)
+    → (subscriber.reported terms time recent m).sending.queue ≡ m.sending.queue
+reported_queue terms time recent m =
+    let t = subscriber.prepared terms time recent m in
+    let count = subscriber.resends terms.resend_percent subscriber.most t.notes in
     sent_queue
     (subscriber.again_of count t.sending
-    ++ subscriber.new_of subscriber.most count (subscriber.flow_window terms.subscriber.window t.notes) t.sending)
+    ++ subscriber.new_of subscriber.most count (subscriber.flow_window terms.window t.notes) t.sending)
     t.sending
-    ∙ presumed_queue terms.subscriber time recent (subscriber.renewed terms.subscriber time m)
+    ∙ presumed_queue terms time recent (subscriber.renewed terms time m)
 
-pub reports_queues : (e : Terms) (clock : ℕ) → KeepsQueues (reported e clock)
-reports_queues e clock =
+-- with keys of its own a session is held, and that changes no queue
+keyed_queue : (few : Bool) (keys : Keys) (terms : subscriber.Terms) (time : ℕ) (recent : Bool) (m : subscriber.Subscribing)
+    → (reported_if few keys terms time recent m).sending.queue ≡ m.sending.queue
+keyed_queue true keys terms time recent m = reported_queue terms time recent (held terms (payloads_confirmed keys) m)
+keyed_queue false keys terms time recent m = refl
+
+past_reported : (keys : Option Keys) (draining : Bool) (terms : Agreed) (time : ℕ) (recent : Bool) (past : Past)
+    → queue_in (reported_past keys draining terms time recent past) ≡ queue_in past
+past_reported keys draining terms time recent (Publishes p) = refl
+past_reported None draining terms time recent (Subscribes m) = reported_queue terms.subscriber time recent m
+past_reported (Some keys) draining terms time recent (Subscribes m) = keyed_queue (has_few m) keys terms.subscriber time recent m
+
+pub reports_queues : (keys : Option Keys) (e : Terms) (clock : ℕ) → KeepsQueues (reported keys e clock)
+reports_queues keys e clock =
     record { slot = λ s. slot_of s s.is_open; generation = λ s. generation_is s s.is_open; queue = λ s. queue_of s s.is_open }
   where
-    slot_of : (s : Session) (b : Bool) → (reported_at e b clock s).slot ≡ s.slot
+    slot_of : (s : Session) (b : Bool) → (reported_at keys e b clock s).slot ≡ s.slot
     slot_of s true = refl
     slot_of s false = refl
 
-    generation_is : (s : Session) (b : Bool) → (reported_at e b clock s).generation ≡ s.generation
+    generation_is : (s : Session) (b : Bool) → (reported_at keys e b clock s).generation ≡ s.generation
     generation_is s true = refl
     generation_is s false = refl
 
-    queue_of : (s : Session) (b : Bool) → queue_in (reported_at e b clock s).past ≡ queue_in s.past
-    queue_of s true = past_reported (is_draining s) (terms_of e s) (time_in s clock) (is_recent s clock) s.past
+    queue_of : (s : Session) (b : Bool) → queue_in (reported_at keys e b clock s).past ≡ queue_in s.past
+    queue_of s true = past_reported keys (is_draining s) (terms_of e s) (time_in s clock) (is_recent s clock) s.past
     queue_of s false = refl
 
-pub finishes_queues : (e : Terms) (clock : ℕ) (over : Bool) → KeepsQueues (finished e clock over)
-finishes_queues e clock over =
+pub finishes_queues : (own : ℕ → Option Keys) (e : Terms) (clock : ℕ) (over : Bool) → KeepsQueues (finished own e clock over)
+finishes_queues own e clock over =
     record {
       slot = λ s. slot_of s (has_whole_file over s);
       generation = λ s. generation_is s (has_whole_file over s);
       queue = λ s. queue_of s (has_whole_file over s);
     }
   where
-    slot_of : (s : Session) (b : Bool) → (finished_at b e clock s).slot ≡ s.slot
+    slot_of : (s : Session) (b : Bool) → (finished_at b (own s.slot) e clock s).slot ≡ s.slot
     slot_of s true = refl
-    slot_of s false = (reports_queues e clock).slot s
+    slot_of s false = (reports_queues (own s.slot) e clock).slot s
 
-    generation_is : (s : Session) (b : Bool) → (finished_at b e clock s).generation ≡ s.generation
+    generation_is : (s : Session) (b : Bool) → (finished_at b (own s.slot) e clock s).generation ≡ s.generation
     generation_is s true = refl
-    generation_is s false = (reports_queues e clock).generation s
+    generation_is s false = (reports_queues (own s.slot) e clock).generation s
 
-    queue_of : (s : Session) (b : Bool) → queue_in (finished_at b e clock s).past ≡ queue_in s.past
+    queue_of : (s : Session) (b : Bool) → queue_in (finished_at b (own s.slot) e clock s).past ≡ queue_in s.past
     queue_of s true = refl
-    queue_of s false = (reports_queues e clock).queue s
+    queue_of s false = (reports_queues (own s.slot) e clock).queue s
 
 pub settles_queues : (e : Terms) (given : Bool) (clock : ℕ) → KeepsQueues (settled e given clock)
 settles_queues e given clock =
@@ -439,10 +454,11 @@ sessions_on false e index item m =
     let given = delivery_by e index item m in
     let end = time_end e m.sessions later in
     let over = is_file_over e (passed_by e index item m) in
+    let own = own_by e index item m in
     go_before given (aged e clock) (ages_queues e clock) m.sessions (sessions_at false e index item m)
     (marked_on given (takes_over e clock later) later (sessions_at false e index item m)
     (go_before given (with_end end) (end_queues end) (marked_if (takes_over e clock later) later) (sessions_at false e index item m)
-    (go_behind given (finished e clock over) (finishes_queues e clock over) (advanced e clock m.sessions) (passed_by e index item m)
+    (go_behind given (finished own e clock over) (finishes_queues own e clock over) (advanced e clock m.sessions) (passed_by e index item m)
     (settled_on given e.rules.callers e clock (gives_some e clock (taken_by e index item m).sessions) (advanced e clock m.sessions)
     (delivered e clock (taken_by e index item m).sessions)
     (fed_on e clock (advanced e clock m.sessions) (taken_by e index item m).sessions

@@ -1,6 +1,6 @@
 -- The contents of KMREQ blocks that a route repeats are short, and a route without a secured role is as one without keys.
 use Rattle.std.proofs.Common.{◌≡◌, ℕ, ◌≤◌, Bool, true, false, cond, Option, None, Some, List, [], ◌∷◌, length, Result, Ok, Err, find}
-use Rattle.std.proofs.Common.{refl, ap, inl, inr, arith}
+use Rattle.std.proofs.Common.{◌+◌, refl, sym, ap, subst, inl, inr, arith}
 use Rattle.std.specs.Prelude.{⊤, ◌==◌, option_map}
 use Rattle.srt_types.specs.declared.shared.Peer.{Peer}
 use Rattle.srt_types.specs.declared.shared.Role.{Role}
@@ -11,7 +11,7 @@ use Rattle.srt_packet.specs.declared.reading.PacketFault.{PacketFault}
 use Rattle.srt_packet.specs.Grammar.{Packet}
 use Rattle.srt_session_keys.specs.Publisher.{response_to}
 use Rattle.srt_session_keys.specs.declared.publisher.KeyAnswer.{KeyAnswer}
-use Rattle.srt_session_keys.specs.declared.publisher.KeyAnswer.TheVariants.{Taken, NoSecret, BadSecret}
+use Rattle.srt_session_keys.specs.declared.publisher.KeyAnswer.TheVariants.{NoSecret}
 use Rattle.srt_packet.specs.Reading.{packet_in}
 use Rattle.srt_hs.specs.declared.key_message.KeyFault.{KeyFault}
 use Rattle.srt_hs.specs.KeyMessage.{KeyMessage, message_in}
@@ -27,16 +27,22 @@ use Rattle.srt_route.specs.declared.refusals.RefusalCause.{RefusalCause}
 use Rattle.srt_route.specs.declared.slot_keys.KeyOpening.{KeyOpening}
 use Rattle.srt_route.specs.RouteKeys.{Brought, RouteKeys, SlotKeys, Clear, OfPublisher, OfSubscriber, brought_as, brought_by, brought_in, cookie_in}
 use Rattle.srt_route.specs.RouteKeys.{has_secured_role, kek_for, keys_opened, opened_with, opening_if, passphrase_of, request_of, subscriber_by}
-use Rattle.srt_route.specs.RouteKeys.{derivation_of}
-use Rattle.srt_route.specs.Sessions.{Session, advanced, generation_of, is_open_in}
+use Rattle.srt_hs.specs.KeyMessage.{IsKeyLength}
+use Rattle.srt_session_keys.specs.Subscriber.{Subscriber as Keys, confirms, with_response}
+use Rattle.srt_route.specs.EncryptedOutput.{is_announced, keys_with}
+use Rattle.srt_route.specs.Past.{Past, Publishes, Subscribes}
+use Rattle.srt_route.specs.RouteKeys.{derivation_of, own_if, own_keys, secures}
+use Rattle.srt_route.specs.Sessions.{Session, advanced, generation_of, is_open_in, time_in}
 use Rattle.srt_route.specs.KeyRefresh.{answer_by, refreshed, request_in}
 use Rattle.srt_route.specs.KeyRefresh.{Confirmation, confirmation_in, confirmed_by}
 use Rattle.srt_route.specs.Sendable.{IsResponse}
-use Rattle.srt_route.specs.Route.{Decrypted, Answered, Output, Answers, AnswersWithKeys, Says, Ends, Responds, answered_judged}
+use Rattle.srt_route.specs.Route.{Decrypted, Answered, Output, Answers, AnswersWithKeys, Says, Ends, Responds, SaysWithKeys, answered_judged}
 use Rattle.srt_route.specs.Route.{Judged, Route, Verdict, Passes, Ignored, Refused, Repeats, is_for, session_judged, after, asked, clock_after}
 use Rattle.srt_route.specs.Route.{concludes, conclusion_judged, decision}
 use Rattle.srt_route.specs.Route.{heard_as, heard_by, info_judged, info_of, is_of, item_judged, judged_by, judged_if, judgement, kept_at, key_opening}
 use Rattle.srt_route.specs.Route.{keys_at, keys_kept}
+use Rattle.srt_route.specs.Route.{has_whole_file, is_file_over, keys_finished_if, keys_in_slot, keys_said, keys_served, own_by, passed_by}
+use Rattle.srt_route.proofs.model.KeyLengths.{IsWholeMessage, IsWholeSource, kek_long, message_whole}
 use Rattle.srt_route.specs.Route.{confirmed_at, confirmed_for, keys_confirmed}
 use Rattle.srt_route.specs.Route.{read_judged, taken, taken_as, taken_by}
 
@@ -44,8 +50,17 @@ abbrev pub IsShort : Option (List ℕ) → Type 0
 IsShort None = ⊤
 IsShort (Some request) = length request ≤ 104
 
+-- a slot's contents of a KMREQ block are short, and its own keys are made of a valid key and salt
+abbrev pub IsWholeOwn : Option Keys → Type 0
+IsWholeOwn None = ⊤
+IsWholeOwn (Some k) = IsWholeSource k.source
+
+record IsShortSlot (k : SlotKeys) : Type 0 where
+  request : IsShort (request_of k)
+  own : IsWholeOwn (own_keys k)
+
 abbrev AreShort : RouteKeys → Type 0
-AreShort keys = (slot : ℕ) → IsShort (request_of (keys.held slot))
+AreShort keys = (slot : ℕ) → IsShortSlot (keys.held slot)
 
 -- a KMRSP with a message or with a word that states why there is none
 abbrev pub IsResponseOutput : Output → Type 0
@@ -54,6 +69,7 @@ IsResponseOutput (AnswersWithKeys caller request answer) = ⊥
 IsResponseOutput (Says caller initial time report) = ⊥
 IsResponseOutput (Ends caller time) = ⊥
 IsResponseOutput (Responds caller time contents) = IsResponse contents
+IsResponseOutput (SaysWithKeys output) = ⊥
 
 abbrev pub IsShortVerdict : Verdict → Type 0
 IsShortVerdict Passes = ⊤
@@ -67,15 +83,19 @@ record IsShortJudged (j : Judged) : Type 0 where
   verdict : IsShortVerdict j.verdict
   keys : AreShort j.keys
 
+record IsShortMessage (b : Brought) : Type 0 where
+  short : length b.contents ≤ 104
+  whole : IsWholeMessage b.message
+
 abbrev IsShortBrought : Option Brought → Type 0
 IsShortBrought None = ⊤
-IsShortBrought (Some b) = length b.contents ≤ 104
+IsShortBrought (Some b) = IsShortMessage b
 
 message_short : (contents : List ℕ) (m : KeyMessage) → message_in contents ≡ Ok m → length contents ≤ 104
 message_short contents m is = (messages_are_answered.length contents m ((key_reading_is_spelling contents m).0 is)).1
 
 read_short : (contents : List ℕ) (read : Result KeyMessage KeyFault) → message_in contents ≡ read → IsShortBrought (brought_as contents read)
-read_short contents (Ok m) is = message_short contents m is
+read_short contents (Ok m) is = record { short = message_short contents m is; whole = message_whole contents m is }
 read_short contents (Err fault) is = tt
 
 asked_short : (a : Asked) → IsShortBrought (brought_by a)
@@ -86,41 +106,44 @@ asked_short several = tt
 -- an opening
 abbrev IsShortKeys : Option SlotKeys → Type 0
 IsShortKeys None = ⊤
-IsShortKeys (Some k) = IsShort (request_of k)
+IsShortKeys (Some k) = IsShortSlot k
 
-publisher_short : (b : Brought) (o : Option Publisher) → length b.contents ≤ 104 → IsShortKeys (option_map (λ p. OfPublisher b.contents p) o)
+publisher_short : (b : Brought) (o : Option Publisher) → IsShortMessage b → IsShortKeys (option_map (λ p. OfPublisher b.contents p) o)
 publisher_short b None h = tt
-publisher_short b (Some p) h = h
+publisher_short b (Some p) h = record { request = h.short; own = tt }
 
-subscriber_short : (brought : Option StreamKeys) (kek : List ℕ) (b : Brought) (o : KeyOpening) (keys : RouteKeys) → length b.contents ≤ 104
+subscriber_short : (brought : Option StreamKeys) (kek : List ℕ) (b : Brought) (o : KeyOpening) (keys : RouteKeys) → IsShortMessage b
+    → length kek ≡ b.message.key_length
     → IsShortKeys (subscriber_by brought kek b.contents b.message o keys.pool)
-subscriber_short None kek b o keys h = tt
-subscriber_short (Some brought) kek b o keys h = h
+subscriber_short None kek b o keys h long = tt
+subscriber_short (Some brought) kek b o keys h long =
+    record { request = h.short; own = record { long = subst IsKeyLength (sym long) h.whole.long; salt = h.whole.salt } }
 
-opened_short : (role : Role) (kek : List ℕ) (b : Brought) (o : KeyOpening) (keys : RouteKeys) → length b.contents ≤ 104
+opened_short : (role : Role) (kek : List ℕ) (b : Brought) (o : KeyOpening) (keys : RouteKeys) → IsShortMessage b
+    → length kek ≡ b.message.key_length
     → IsShortKeys (keys_opened role kek b o keys.pool)
-opened_short Publish kek b o keys h = publisher_short b (opened_by kek b.message.salt b.message) h
-opened_short Request kek b o keys h = subscriber_short (brings kek b.message) kek b o keys h
+opened_short Publish kek b o keys h long = publisher_short b (opened_by kek b.message.salt b.message) h
+opened_short Request kek b o keys h long = subscriber_short (brings kek b.message) kek b o keys h long
 
-held_short : (same : Bool) (new old : SlotKeys) → IsShort (request_of new) → IsShort (request_of old) → IsShort (request_of (cond same new old))
+held_short : (same : Bool) (new old : SlotKeys) → IsShortSlot new → IsShortSlot old → IsShortSlot (cond same new old)
 held_short true new old h k = h
 held_short false new old h k = k
 
-with_short : (peer : Peer) (c : Conclusion) (b : Brought) (o : KeyOpening) (keys : RouteKeys) (new : Option SlotKeys) → length b.contents ≤ 104
+with_short : (peer : Peer) (c : Conclusion) (b : Brought) (o : KeyOpening) (keys : RouteKeys) (new : Option SlotKeys) → IsShortMessage b
     → AreShort keys → IsShortKeys new → IsShortJudged (judged_by peer c b (opened_with o keys new))
 with_short peer c b o keys None few short is = record { verdict = tt; keys = short }
 with_short peer c b o keys (Some new) few short is =
-    record { verdict = few; keys = λ slot. held_short (slot == o.slot) new (keys.held slot) is (short slot) }
+    record { verdict = few.short; keys = λ slot. held_short (slot == o.slot) new (keys.held slot) is (short slot) }
 
 opening_short : (admitted : Bool) (passphrase : List ℕ) (peer : Peer) (c : Conclusion) (b : Brought) (o : KeyOpening) (keys : RouteKeys)
-    → length b.contents ≤ 104 → AreShort keys → IsShortJudged (judged_by peer c b (opening_if admitted passphrase b o keys))
+    → IsShortMessage b → AreShort keys → IsShortJudged (judged_by peer c b (opening_if admitted passphrase b o keys))
 opening_short true passphrase peer c b o keys few short =
     with_short peer c b o _ (keys_opened o.role (kek_for passphrase b.message) b o keys.pool) few short
-    (opened_short o.role (kek_for passphrase b.message) b o keys few)
+    (opened_short o.role (kek_for passphrase b.message) b o keys few (kek_long passphrase b.message.salt b.message.key_length few.whole.long))
 opening_short false passphrase peer c b o keys few short = record { verdict = tt; keys = short }
 
 decided_short : (d : Result ℕ RefusalCause) (passphrase : List ℕ) (b : Brought) (index clock : ℕ) (peer : Peer) (cookie : ℕ) (c : Conclusion)
-    (ss : List Session) (keys : RouteKeys) → length b.contents ≤ 104 → AreShort keys
+    (ss : List Session) (keys : RouteKeys) → IsShortMessage b → AreShort keys
     → IsShortJudged (asked passphrase b index clock peer cookie c ss keys d)
 decided_short (Err cause) passphrase b index clock peer cookie c ss keys few short = record { verdict = tt; keys = short }
 decided_short (Ok slot) passphrase b index clock peer cookie c ss keys few short =
@@ -132,10 +155,10 @@ conclusion_short : (passphrase : Option (List ℕ)) (b : Option Brought) (o : Op
     (cookie : ℕ) (c : Conclusion) (ss : List Session) (keys : RouteKeys) → IsShortBrought b → AreShort keys
     → IsShortJudged (conclusion_judged passphrase b e index clock peer cookie c ss keys o)
 conclusion_short (Some p) None o e index clock peer cookie c ss keys few short = record { verdict = tt; keys = short }
-conclusion_short (Some p) (Some b) (Some s) e index clock peer cookie c ss keys few short = record { verdict = short s.slot; keys = short }
+conclusion_short (Some p) (Some b) (Some s) e index clock peer cookie c ss keys few short = record { verdict = (short s.slot).request; keys = short }
 conclusion_short (Some p) (Some b) None e index clock peer cookie c ss keys few short =
     decided_short (decision e peer c ss) p b index clock peer cookie c ss keys few short
-conclusion_short None b (Some s) e index clock peer cookie c ss keys few short = record { verdict = short s.slot; keys = short }
+conclusion_short None b (Some s) e index clock peer cookie c ss keys few short = record { verdict = (short s.slot).request; keys = short }
 conclusion_short None b None e index clock peer cookie c ss keys few short = record { verdict = tt; keys = short }
 
 info_short : (o : Option Conclusion) (e : Terms) (index clock : ℕ) (peer : Peer) (info : List ℕ) (ss : List Session) (keys : RouteKeys)
@@ -146,9 +169,9 @@ info_short (Some c) e index clock peer info ss keys short =
     (asked_short (key_request_in info)) short
 
 -- a KMREQ
-refreshed_short : (contents : List ℕ) (k : SlotKeys) → IsShort (request_of k) → IsShort (request_of (refreshed contents k))
+refreshed_short : (contents : List ℕ) (k : SlotKeys) → IsShortSlot k → IsShortSlot (refreshed contents k)
 refreshed_short contents Clear h = h
-refreshed_short contents (OfPublisher request keys) h = h
+refreshed_short contents (OfPublisher request keys) h = record { request = h.request; own = tt }
 refreshed_short contents (OfSubscriber request keys) h = h
 
 pub response_fits : (contents : List ℕ) → IsResponse contents → length contents ≤ 1456
@@ -215,15 +238,22 @@ item_short e index clock (Received d moment) ss keys short = packet_read_short (
 item_short e index clock (Tick moment) ss keys short = record { verdict = tt; keys = short }
 item_short e index clock (Close moment) ss keys short = record { verdict = tt; keys = short }
 
-kept_short : (o : Option Session) (k : SlotKeys) → IsShort (request_of k) → IsShort (request_of (kept_at o k))
-kept_short None k h = tt
+kept_short : (o : Option Session) (k : SlotKeys) → IsShortSlot k → IsShortSlot (kept_at o k)
+kept_short None k h = record { request = tt; own = tt }
 kept_short (Some s) k h = h
 
 -- a KMRSP
-confirmed_short : (contents : List ℕ) (k : SlotKeys) → IsShort (request_of k) → IsShort (request_of (confirmed_by contents k))
+response_whole : (contents : List ℕ) (keys : Keys) → IsWholeSource keys.source → IsWholeSource (with_response contents keys).source
+response_whole contents keys h = by (confirms contents keys)
+  where
+    by : (b : Bool) → IsWholeSource (cond b (record { source = keys.source; confirmed = keys.confirmed + 1; announced = None }) keys).source
+    by true = h
+    by false = h
+
+confirmed_short : (contents : List ℕ) (k : SlotKeys) → IsShortSlot k → IsShortSlot (confirmed_by contents k)
 confirmed_short contents Clear h = h
 confirmed_short contents (OfPublisher request keys) h = h
-confirmed_short contents (OfSubscriber request keys) h = h
+confirmed_short contents (OfSubscriber request keys) h = record { request = h.request; own = response_whole contents keys h.own }
 
 session_confirmed_short : (contents : List ℕ) (o : Option Session) (keys : RouteKeys) → AreShort keys → AreShort (confirmed_at contents o keys)
 session_confirmed_short contents None keys short = short
@@ -252,17 +282,53 @@ judgement_short : (e : Terms) (index : ℕ) (item : Item) (m : Route) → AreSho
 judgement_short e index item m short =
     judged_short (has_secured_role e) e index (clock_after item m) item (advanced e (clock_after item m) m.sessions) m.keys short
 
+-- the end of an event
+announced_whole : (announced : Bool) (time : ℕ) (keys : Keys) → IsWholeSource keys.source → IsWholeSource (keys_with announced time keys).source
+announced_whole true time keys h = h
+announced_whole false time keys h = h
+
+said_short : (time : ℕ) (past : Past) (k : SlotKeys) → IsShortSlot k → IsShortSlot (keys_said time past k)
+said_short time (Publishes p) k h = h
+said_short time (Subscribes s) Clear h = h
+said_short time (Subscribes s) (OfPublisher request keys) h = h
+said_short time (Subscribes s) (OfSubscriber request keys) h =
+    record { request = h.request; own = announced_whole (is_announced keys time s) time keys h.own }
+
+served_short : (whole : Bool) (clock : ℕ) (s : Session) (k : SlotKeys) → IsShortSlot k → IsShortSlot (keys_served whole clock s k)
+served_short true clock s k h = h
+served_short false clock s k h = said_short (time_in s clock) s.past k h
+
+in_slot_short : (clock : ℕ) (over : Bool) (o : Option Session) (k : SlotKeys) → IsShortSlot k → IsShortSlot (keys_in_slot clock over o k)
+in_slot_short clock over None k h = h
+in_slot_short clock over (Some s) k h = served_short (has_whole_file over s) clock s k h
+
+finished_short : (secured : Bool) (clock : ℕ) (over : Bool) (ss : List Session) (keys : RouteKeys) → AreShort keys
+    → AreShort (keys_finished_if secured clock over ss keys)
+finished_short true clock over ss keys short =
+    λ slot. in_slot_short clock over (find (is_open_in slot) ss) (keys.held slot) (short slot)
+finished_short false clock over ss keys short = short
+
 keys_short : (is_closed : Bool) (e : Terms) (index : ℕ) (item : Item) (m : Route) → AreShort m.keys → AreShort (keys_at is_closed e index item m)
 keys_short true e index item m short = short
-keys_short false e index item m short = (judgement_short e index item m short).keys
+keys_short false e index item m short =
+    let ss = passed_by e index item m in
+    finished_short (secures e Request) (clock_after item m) (is_file_over e ss) ss (judgement e index item m).keys (judgement_short e index item m short).keys
 
 all_short : (e : Terms) (index : ℕ) (items : List Item) → AreShort (after e index items).keys
-all_short e index [] = λ slot. tt
+all_short e index [] = λ slot. record { request = tt; own = tt }
 all_short e index (item ∷ items) =
     let m = after e index items in keys_short m.is_closed e index item m (all_short e index items)
 
 pub verdict_short : (e : Terms) (index : ℕ) (items : List Item) (item : Item) → IsShortVerdict (judgement e index item (after e index items)).verdict
 verdict_short e index items item = (judgement_short e index item (after e index items) (all_short e index items)).verdict
+
+-- the keys of their own under which the sessions of slots are sent payloads
+pub own_whole : (e : Terms) (index : ℕ) (items : List Item) (item : Item) (slot : ℕ) → IsWholeOwn (own_by e index item (after e index items) slot)
+own_whole e index items item slot = by (secures e Request)
+  where
+    by : (b : Bool) → IsWholeOwn (own_if b (judgement e index item (after e index items)).keys.held slot)
+    by true = ((judgement_short e index item (after e index items) (all_short e index items)).keys slot).own
+    by false = tt
 
 -- without a secured role an item is processed as it is
 pub clear_passes : (e : Terms) (index : ℕ) (item : Item) (m : Route) → has_secured_role e ≡ false → (judgement e index item m).verdict ≡ Passes

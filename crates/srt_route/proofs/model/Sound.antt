@@ -1,6 +1,6 @@
 -- Whatever its items are, all replies of a route can be sent and read: payloads have valid lengths, loss lists have
 -- runs, and congestion control blocks have few words.
-use Rattle.std.proofs.Common.{◌≡◌, ℕ, ◌-◌, ◌^◌, ◌<◌, ◌≤◌, ◌==◌, ◌&&◌, not, Bool, true, false, cond, Option, None, Some, List, [], ◌∷◌, ◌++◌}
+use Rattle.std.proofs.Common.{◌≡◌, ℕ, ◌-◌, ◌^◌, ◌%◌, ◌<◌, ◌≤◌, ◌==◌, ◌&&◌, ◌||◌, not, Bool, true, false, cond, Option, None, Some, List, [], ◌∷◌, ◌++◌}
 use Rattle.std.proofs.Common.{map, length, min, Result, Ok, Err, refl, sym, ap, subst, arith}
 use Rattle.std.specs.Prelude.{⊤, IfSome, IfOk, find, filter_map, take_while, slice_get, drop, int_le, pos, ℤ, nat_le, nat_lt}
 use Rattle.std.specs.List.{flat_map}
@@ -28,15 +28,24 @@ use Rattle.srt_pub.specs.Heard as to_publisher
 use Rattle.srt_pub.specs.Publishing as publisher
 use Rattle.srt_sub.specs.Heard as to_subscriber
 use Rattle.srt_sub.specs.Subscribing as subscriber
+use Rattle.srt_sub.specs.Held.{held}
+use Rattle.srt_hs.specs.KeyMessage.{field_of}
+use Rattle.srt_hs.specs.declared.key_message.SentKeys.TheVariants.{Even, Odd}
+use Rattle.srt_session_keys.specs.Subscriber.{Subscriber as Keys, has_key, index_of}
+use Rattle.srt_route.specs.EncryptedOutput as encrypted
+use Rattle.srt_route.specs.EncryptedOutput.{KeyedOutput, PacketKey, all_said_with, announcement_if, has_few, is_announced, keys_reported, keys_with}
+use Rattle.srt_route.specs.EncryptedOutput.{outputs_if, payload_key, payloads_confirmed, reported_if, said_under_if, said_with}
+use Rattle.srt_route.specs.Past.{outputs_of}
+use Rattle.srt_route.specs.Sessions.{outputs_at}
 use Rattle.srt_route.specs.declared.conclusion_reading.Conclusion.{Conclusion}
 use Rattle.srt_route.specs.Past.{Past, Publishes, Subscribes, Agreed, Report, ToPublisher, ToSubscriber, past_of, expired_past, took_past}
 use Rattle.srt_route.specs.Past.{answers_to, loses_window, payload_of, payloads_of, passed_past, reports_of, reported_past}
 use Rattle.srt_route.specs.Sessions.{Session, is_publisher, is_subscriber, active, is_active, is_open_in, by_slot}
 use Rattle.srt_route.specs.Sessions.{time_in, stamp_in, is_idle, is_over, terms_of, aged_at, aged, advanced, marked, marked_if, takes_over}
 use Rattle.srt_route.specs.Sessions.{is_recent, passed_at, passed, reported_at}
-use Rattle.srt_route.specs.RouteKeys.{has_secured_role}
+use Rattle.srt_route.specs.RouteKeys.{has_secured_role, own_if, secures}
 use Rattle.srt_route.specs.Route.{Verdict, Passes, Ignored, Refused, Repeats, Decrypted, Answered, answers_as, judgement, output_with, reply_with}
-use Rattle.srt_route.specs.Route.{Responds}
+use Rattle.srt_route.specs.Route.{Responds, SaysWithKeys, keyed_by, keyed_packets_at, own_by}
 use Rattle.srt_route.specs.Route.{Output, Answers, AnswersWithKeys, Says, Ends, Reply, Taken, closed, ended, shutdown_to, decision, is_of, heard_if, opens}
 use Rattle.srt_route.specs.Route.{finished, finished_at, has_whole_file, idle_notified, is_file_over, lost_notified, packet_end, served, served_at, notified_if}
 use Rattle.srt_route.specs.Route.{drain_end, drain_of, gives_some, settled_by, took_packet}
@@ -47,8 +56,9 @@ use Rattle.srt_route.specs.Route.{packets_where, clock_after, taken_by, passed_b
 use Rattle.srt_route.specs.ShiftLaws.{IsPublishersReport, IsSubscribersReport, HasFewWords, IsReadable}
 use Rattle.srt_packet.proofs.Agreement.{packet_found}
 use Rattle.srt_route.proofs.renumbering.ShiftedAnswers.{conclusions_have_few}
-use Rattle.srt_route.specs.Sendable.{IsResponse}
-use Rattle.srt_route.proofs.model.Secured.{IsResponseOutput, IsShortVerdict, clear_passes, verdict_short}
+use Rattle.srt_route.specs.Sendable.{IsMessage, IsResponse}
+use Rattle.srt_route.proofs.model.KeyLengths.{IsWholeSource, own_is_message}
+use Rattle.srt_route.proofs.model.Secured.{IsResponseOutput, IsShortVerdict, IsWholeOwn, clear_passes, own_whole, verdict_short}
 use Rattle.srt_route.proofs.model.Standbys.{each_active}
 use Rattle.srt_route.proofs.model.Lists.{Each, each_append, each_take, each_while, each_mapped, each_flat, each_found, each_picked, each_at}
 use Rattle.srt_route.proofs.renumbering.Relabelled.{all_replies}
@@ -81,9 +91,22 @@ IsSaid (AnswersWithKeys caller request answer) = ⊥
 IsSaid (Says caller initial time report) = IsSaidReport report
 IsSaid (Ends caller time) = ⊤
 IsSaid (Responds caller time contents) = ⊥
+IsSaid (SaysWithKeys output) = ⊥
 
 abbrev pub IsSaidReply : Reply → Type 0
 IsSaidReply x = IsSaid x.packet
+
+-- what is sent with keys of a session's own: a payload under a key with a name, and a KMREQ with a message
+abbrev pub IsUnder : PacketKey → subscriber.Report → Type 0
+IsUnder key (subscriber.Media number again origin payload) = IsPayload payload × (0 < key.field) × (key.field < 3)
+IsUnder key (subscriber.Acked mark) = ⊥
+IsUnder key (subscriber.Dropped run) = ⊥
+IsUnder key subscriber.KeepAlive = ⊥
+
+abbrev pub IsKeyed : KeyedOutput → Type 0
+IsKeyed (encrypted.Says caller initial time report) = IsSubscribersReport report
+IsKeyed (encrypted.SaysUnder key caller initial time report) = IsUnder key report
+IsKeyed (encrypted.Announces caller time contents) = IsMessage contents
 
 -- the same of what is sent with keys
 abbrev pub IsSent : Output → Type 0
@@ -92,6 +115,7 @@ IsSent (AnswersWithKeys caller request answer) = IsReadable answer.what × (leng
 IsSent (Says caller initial time report) = IsSaidReport report
 IsSent (Ends caller time) = ⊤
 IsSent (Responds caller time contents) = IsResponse contents
+IsSent (SaysWithKeys output) = IsKeyed output
 
 abbrev pub IsSentReply : Reply → Type 0
 IsSentReply x = IsSent x.packet
@@ -102,6 +126,7 @@ said_is_sent (AnswersWithKeys caller request answer) h = absurd h
 said_is_sent (Says caller initial time report) h = h
 said_is_sent (Ends caller time) h = tt
 said_is_sent (Responds caller time contents) h = absurd h
+said_is_sent (SaysWithKeys output) h = absurd h
 
 all_sent : (xs : List Reply) → Each IsSaidReply xs → Each IsSentReply xs
 all_sent [] h = tt
@@ -113,6 +138,7 @@ with_sent request (AnswersWithKeys caller other answer) short h = absurd h
 with_sent request (Says caller initial time report) short h = h
 with_sent request (Ends caller time) short h = tt
 with_sent request (Responds caller time contents) short h = absurd h
+with_sent request (SaysWithKeys output) short h = absurd h
 
 all_with_sent : (request : List ℕ) (xs : List Reply) → length request ≤ 104 → Each IsSaidReply xs → Each IsSentReply (map (reply_with request) xs)
 all_with_sent request [] short h = tt
@@ -124,6 +150,7 @@ response_sent (AnswersWithKeys caller request answer) h = absurd h
 response_sent (Says caller initial time report) h = absurd h
 response_sent (Ends caller time) h = absurd h
 response_sent (Responds caller time contents) h = h
+response_sent (SaysWithKeys output) h = absurd h
 
 answers_sent : (v : Verdict) (xs : List Reply) → IsShortVerdict v → Each IsSaidReply xs → Each IsSentReply (answers_as v xs)
 answers_sent Passes xs short h = all_sent xs h
@@ -385,17 +412,93 @@ sent_queue : (ns : List ℕ) (s : Sending) → Each KeepsPayload s.queue → Eac
 sent_queue [] s h = h
 sent_queue (n ∷ ns) s h = sent_queue ns (sent_one n s) h
 
-past_reported : (draining : Bool) (terms : Agreed) (time : ℕ) (recent : Bool) (past : Past)
-    → IsSoundPast past → IsSoundPast (reported_past draining terms time recent past)
-past_reported true terms time recent (Publishes p) h = h
-past_reported false terms time recent (Publishes p) h = h
-past_reported draining terms time recent (Subscribes s) h =
-    let t = subscriber.prepared terms.subscriber time recent s in
-    let count = subscriber.resends terms.subscriber.resend_percent subscriber.most t.notes in
+reported_queue : (terms : subscriber.Terms) (time : ℕ) (recent : Bool) (s : subscriber.Subscribing)
+    → Each KeepsPayload s.sending.queue → Each KeepsPayload (subscriber.reported terms time recent s).sending.queue
+reported_queue terms time recent s h =
+    let t = subscriber.prepared terms time recent s in
+    let count = subscriber.resends terms.resend_percent subscriber.most t.notes in
     sent_queue
     (subscriber.again_of count t.sending
-    ++ subscriber.new_of subscriber.most count (subscriber.flow_window terms.subscriber.window t.notes) t.sending)
-    t.sending (presumed_sound terms.subscriber time recent (subscriber.renewed terms.subscriber time s) h)
+    ++ subscriber.new_of subscriber.most count (subscriber.flow_window terms.window t.notes) t.sending)
+    t.sending (presumed_sound terms time recent (subscriber.renewed terms time s) h)
+
+keyed_queue : (few : Bool) (keys : Keys) (terms : subscriber.Terms) (time : ℕ) (recent : Bool) (s : subscriber.Subscribing)
+    → Each KeepsPayload s.sending.queue → Each KeepsPayload (reported_if few keys terms time recent s).sending.queue
+keyed_queue true keys terms time recent s h = reported_queue terms time recent (held terms (payloads_confirmed keys) s) h
+keyed_queue false keys terms time recent s h = h
+
+past_reported : (keys : Option Keys) (draining : Bool) (terms : Agreed) (time : ℕ) (recent : Bool) (past : Past)
+    → IsSoundPast past → IsSoundPast (reported_past keys draining terms time recent past)
+past_reported keys true terms time recent (Publishes p) h = h
+past_reported keys false terms time recent (Publishes p) h = h
+past_reported None draining terms time recent (Subscribes s) h = reported_queue terms.subscriber time recent s h
+past_reported (Some keys) draining terms time recent (Subscribes s) h = keyed_queue (has_few s) keys terms.subscriber time recent s h
+
+-- what a session with keys of its own sends
+own_name : (even : Bool) → (0 < field_of (cond even Odd Even)) × (field_of (cond even Odd Even) < 3)
+own_name true = (omega arith, omega arith)
+own_name false = (omega arith, omega arith)
+
+under_said : (stored : Bool) (keys : Keys) (caller initial time number : ℕ) (again : Bool) (origin : ℕ) (payload : List ℕ) → IsPayload payload
+    → Each IsKeyed (said_under_if stored (payload_key keys number) caller initial time (subscriber.Media number again origin payload))
+under_said true keys caller initial time number again origin payload h =
+    let named = own_name (index_of number % 2 == 0) in
+    ((h, named.0, named.1), tt)
+under_said false keys caller initial time number again origin payload h = tt
+
+one_keyed : (keys : Keys) (caller initial time : ℕ) (r : subscriber.Report) → IsSubscribersReport r → Each IsKeyed (said_with keys caller initial time r)
+one_keyed keys caller initial time (subscriber.Acked mark) h = (tt, tt)
+one_keyed keys caller initial time (subscriber.Dropped run) h = (tt, tt)
+one_keyed keys caller initial time (subscriber.Media number again origin payload) h =
+    under_said (has_key keys number) keys caller initial time number again origin payload h
+one_keyed keys caller initial time subscriber.KeepAlive h = (tt, tt)
+
+all_keyed : (keys : Keys) (caller initial time : ℕ) (pending : List KeyedOutput) (rs : List subscriber.Report) → Each IsKeyed pending
+    → Each IsSubscribersReport rs → Each IsKeyed (all_said_with keys caller initial time pending rs)
+all_keyed keys caller initial time pending [] first h = first
+all_keyed keys caller initial time pending (r ∷ rs) first h =
+    by (subscriber.is_drop r) (all_keyed keys caller initial time pending rs first h.1) (all_keyed keys caller initial time [] rs tt h.1)
+  where
+    one : List KeyedOutput
+    one = said_with keys caller initial time r
+
+    by : (b : Bool) → Each IsKeyed (all_said_with keys caller initial time pending rs) → Each IsKeyed (all_said_with keys caller initial time [] rs)
+        → Each IsKeyed (cond b (one ++ all_said_with keys caller initial time pending rs) (pending ++ one ++ all_said_with keys caller initial time [] rs))
+    by true later none = each_append IsKeyed one (all_said_with keys caller initial time pending rs) (one_keyed keys caller initial time r h.0) later
+    by false later none =
+        each_append IsKeyed (pending ++ one) (all_said_with keys caller initial time [] rs)
+        (each_append IsKeyed pending one first (one_keyed keys caller initial time r h.0)) none
+
+announced_keyed : (announced : Bool) (keys : Keys) (caller time : ℕ) → IsWholeSource keys.source → Each IsKeyed (announcement_if announced keys caller time)
+announced_keyed true keys caller time whole = (own_is_message keys.source keys.confirmed whole, tt)
+announced_keyed false keys caller time whole = tt
+
+outputs_keyed : (few announced : Bool) (keys : Keys) (terms : subscriber.Terms) (caller initial time : ℕ) (recent : Bool) (s : subscriber.Subscribing)
+    → IsWholeSource keys.source → Each KeepsPayload s.sending.queue
+    → Each IsKeyed (outputs_if few announced keys terms caller initial time recent s)
+outputs_keyed true announced keys terms caller initial time recent s whole h =
+    let n = held terms (payloads_confirmed keys) s in
+    all_keyed keys caller initial time (announcement_if announced keys caller time) (subscriber.reports terms time recent n)
+    (announced_keyed announced keys caller time whole) (subscriber_said terms time recent n h)
+outputs_keyed false announced keys terms caller initial time recent s whole h = tt
+
+source_stays : (announced : Bool) (time : ℕ) (keys : Keys) → IsWholeSource keys.source → IsWholeSource (keys_with announced time keys).source
+source_stays true time keys whole = whole
+source_stays false time keys whole = whole
+
+past_keyed : (keys : Keys) (terms : Agreed) (caller initial time : ℕ) (recent : Bool) (past : Past) → IsWholeSource keys.source → IsSoundPast past
+    → Each IsKeyed (outputs_of keys terms caller initial time recent past)
+past_keyed keys terms caller initial time recent (Publishes p) whole h = tt
+past_keyed keys terms caller initial time recent (Subscribes s) whole h =
+    outputs_keyed (has_few s) (is_announced keys time s) (keys_reported time s keys) terms.subscriber caller initial time recent s
+    (source_stays (is_announced keys time s) time keys whole) h
+
+session_keyed : (keys : Keys) (e : Terms) (here : Bool) (clock : ℕ) (s : Session) → IsWholeSource keys.source → IsSound s
+    → Each IsSentReply (keyed_packets_at keys e here clock s)
+session_keyed keys e true clock s whole h =
+    each_mapped IsKeyed IsSentReply (keyed_by s) (λ x one. one) (outputs_at keys e true clock s)
+    (past_keyed keys (terms_of e s) s.conclusion.caller s.conclusion.initial (time_in s clock) (is_recent s clock) s.past whole h.past)
+session_keyed keys e false clock s whole h = tt
 
 -- sessions
 aged_at_sound : (e : Terms) (lives : Bool) (time : ℕ) (s : Session) → IsSound s → IsSound (aged_at e lives time s)
@@ -427,14 +530,14 @@ passed_at_sound : (e : Terms) (here : Bool) (time : ℕ) (room : Option ℕ) (xs
 passed_at_sound e true time room xs s all h = record { past = past_passed (terms_of e s) time room xs s.past all h.past; answer = h.answer }
 passed_at_sound e false time room xs s all h = h
 
-reported_at_sound : (e : Terms) (here : Bool) (clock : ℕ) (s : Session) → IsSound s → IsSound (reported_at e here clock s)
-reported_at_sound e true clock s h =
-    record { past = past_reported (is_draining s) (terms_of e s) (time_in s clock) (is_recent s clock) s.past h.past; answer = h.answer }
-reported_at_sound e false clock s h = h
+reported_at_sound : (keys : Option Keys) (e : Terms) (here : Bool) (clock : ℕ) (s : Session) → IsSound s → IsSound (reported_at keys e here clock s)
+reported_at_sound keys e true clock s h =
+    record { past = past_reported keys (is_draining s) (terms_of e s) (time_in s clock) (is_recent s clock) s.past h.past; answer = h.answer }
+reported_at_sound keys e false clock s h = h
 
-finished_sound : (whole : Bool) (e : Terms) (clock : ℕ) (s : Session) → IsSound s → IsSound (finished_at whole e clock s)
-finished_sound true e clock s h = record { past = h.past; answer = h.answer }
-finished_sound false e clock s h = reported_at_sound e s.is_open clock s h
+finished_sound : (whole : Bool) (keys : Option Keys) (e : Terms) (clock : ℕ) (s : Session) → IsSound s → IsSound (finished_at whole keys e clock s)
+finished_sound true keys e clock s h = record { past = h.past; answer = h.answer }
+finished_sound false keys e clock s h = reported_at_sound keys e s.is_open clock s h
 
 said_by_session : (time : ℕ) (s : Session) (xs : List Report) → Each IsSaidReport xs → Each IsSaidReply (map (said_by time s) xs)
 said_by_session time s xs h = each_mapped IsSaidReport IsSaidReply (said_by time s) (λ x one. one) xs h
@@ -454,14 +557,30 @@ all_packets_said e clock test ss h =
     each_flat IsSound IsSaidReply (λ s. packets_at e (test s) clock s)
     (λ s one. packets_said e (test s) clock s one) (by_slot e ss) (sound_by_slot e ss h)
 
-served_said : (whole : Bool) (e : Terms) (clock : ℕ) (s : Session) → IsSound s → Each IsSaidReply (served_at whole e clock s)
+served_said : (whole : Bool) (e : Terms) (clock : ℕ) (s : Session) → IsSound s → Each IsSaidReply (served_at whole None e clock s)
 served_said true e clock s h = (tt, tt)
 served_said false e clock s h = packets_said e (is_subscriber s) clock s h
 
-all_served_said : (e : Terms) (clock : ℕ) (over : Bool) (ss : List Session) → Each IsSound ss → Each IsSaidReply (served e clock over ss)
+-- without keys, and with those of slots
+abbrev none_own : (slot : ℕ) → Option Keys
+none_own slot = None
+
+all_served_said : (e : Terms) (clock : ℕ) (over : Bool) (ss : List Session) → Each IsSound ss → Each IsSaidReply (served none_own e clock over ss)
 all_served_said e clock over ss h =
-    each_flat IsSound IsSaidReply (λ s. served_at (has_whole_file over s) e clock s)
+    each_flat IsSound IsSaidReply (λ s. served_at (has_whole_file over s) None e clock s)
     (λ s one. served_said (has_whole_file over s) e clock s one) (by_slot e ss) (sound_by_slot e ss h)
+
+served_sent : (whole : Bool) (keys : Option Keys) (e : Terms) (clock : ℕ) (s : Session) → IsWholeOwn keys → IsSound s
+    → Each IsSentReply (served_at whole keys e clock s)
+served_sent true keys e clock s are h = (tt, tt)
+served_sent false None e clock s are h = all_sent (packets_at e (is_subscriber s) clock s) (packets_said e (is_subscriber s) clock s h)
+served_sent false (Some k) e clock s are h = session_keyed k e (is_subscriber s) clock s are h
+
+all_served_sent : (own : ℕ → Option Keys) (e : Terms) (clock : ℕ) (over : Bool) (ss : List Session)
+    → ((slot : ℕ) → IsWholeOwn (own slot)) → Each IsSound ss → Each IsSentReply (served own e clock over ss)
+all_served_sent own e clock over ss are h =
+    each_flat IsSound IsSentReply (λ s. served_at (has_whole_file over s) (own s.slot) e clock s)
+    (λ s one. served_sent (has_whole_file over s) (own s.slot) e clock s (are s.slot) one) (by_slot e ss) (sound_by_slot e ss h)
 
 -- the datagram
 record IsSoundTaken (t : Taken) : Type 0 where
@@ -659,7 +778,8 @@ sessions_sound false e index items item h =
     let m = after e index items in
     let clock = clock_after item m in
     let over = is_file_over e (passed_by e index item m) in
-    each_mapped IsSound IsSound (finished e clock over) (λ s sound. finished_sound (has_whole_file over s) e clock s sound)
+    let own = own_by e index item (after e index items) in
+    each_mapped IsSound IsSound (finished own e clock over) (λ s sound. finished_sound (has_whole_file over s) (own s.slot) e clock s sound)
     (passed_by e index item m) (passed_by_sound e index items item h)
 
 after_sound : (e : Terms) (index : ℕ) (items : List Item) → Each IsSound (after e index items).sessions
@@ -668,9 +788,13 @@ after_sound e index (item ∷ items) = sessions_sound (after e index items).is_c
 
 -- the replies to an item, from the answers to it
 replies_at_are : (P : Reply → Type 0) → ((x : Reply) → IsSaidReply x → P x) → (is_closed : Bool) (e : Terms) (index : ℕ) (items : List Item) (item : Item)
-    → Each P (taken_by e index item (after e index items)).answers → Each P (replies_at is_closed e index item (after e index items))
-replies_at_are P so true e index items item answers = tt
-replies_at_are P so false e index items item answers =
+    → Each P (taken_by e index item (after e index items)).answers
+    → (let m = after e index items in
+    let ss = passed_by e index item m in
+    Each P (served (own_by e index item m) e (clock_after item m) (is_file_over e ss) ss))
+    → Each P (replies_at is_closed e index item (after e index items))
+replies_at_are P so true e index items item answers last = tt
+replies_at_are P so false e index items item answers last =
     let m = after e index items in
     let clock = clock_after item m in
     let ss = passed_by e index item m in
@@ -678,11 +802,11 @@ replies_at_are P so false e index items item answers =
     let idle = idle_notified e clock m.sessions in
     let first = (taken_by e index item m).answers in
     let second = packets_where e clock speaks ss in
-    let third = served e clock (is_file_over e ss) ss in
+    let third = served (own_by e index item m) e clock (is_file_over e ss) ss in
     each_append P (idle ++ first ++ second) third
     (each_append P (idle ++ first) second (each_append P idle first (each P so idle (silence_said e clock (by_slot e m.sessions))) answers)
     (each P so second (all_packets_said e clock speaks ss sound)))
-    (each P so third (all_served_said e clock (is_file_over e ss) ss sound))
+    last
   where
     each : (Q : Reply → Type 0) → ((x : Reply) → IsSaidReply x → Q x) → (xs : List Reply) → Each IsSaidReply xs → Each Q xs
     each Q f [] h = tt
@@ -696,8 +820,14 @@ replies_sent e index items item =
     replies_at_are IsSentReply (λ x h. said_is_sent x.packet h) m.is_closed e index items item
     (answers_sent (judgement e index item m).verdict (taken e index clock (heard_by e index item m) (advanced e clock m.sessions)).answers
     (verdict_short e index items item) (heard_item_sound e index items item (after_sound e index items)).answers)
+    (all_served_sent (own_by e index item m) e clock (is_file_over e (passed_by e index item m)) (passed_by e index item m)
+    (own_whole e index items item) (passed_by_sound e index items item (after_sound e index items)))
 
 -- of a route without a secured role, without keys
+clear_readers : (publish request : Bool) → (publish || request) ≡ false → request ≡ false
+clear_readers true request h = absurd (let bad : true ≡ false = h in cc)
+clear_readers false request h = h
+
 pub replies_said : (e : Terms) (index : ℕ) (items : List Item) (item : Item) → has_secured_role e ≡ false
     → Each (λ (x : Reply). IsSaid x.packet) (replies_to e index item (after e index items))
 replies_said e index items item clear =
@@ -706,6 +836,11 @@ replies_said e index items item clear =
     replies_at_are IsSaidReply (λ x h. h) m.is_closed e index items item
     (subst (λ (v : Verdict). Each IsSaidReply (answers_as v (taken e index clock (heard_by e index item m) (advanced e clock m.sessions)).answers))
     (sym (clear_passes e index item m clear)) (heard_item_sound e index items item (after_sound e index items)).answers)
+    (let ss = passed_by e index item m in
+    subst
+    (λ (b : Bool). Each IsSaidReply (served (λ slot. own_if b (judgement e index item m).keys.held slot) e clock (is_file_over e ss) ss))
+    (sym (clear_readers (secures e Publish) (secures e Request) clear))
+    (all_served_said e clock (is_file_over e ss) ss (passed_by_sound e index items item (after_sound e index items))))
 
 pub all_said : (e : Terms) (index : ℕ) (items : List Item) → has_secured_role e ≡ false → Each (λ (x : Reply). IsSaid x.packet) (all_replies e index items)
 all_said e index [] clear = tt

@@ -13,6 +13,8 @@ use Rattle.srt_types.specs.Items.{Item, Received, Tick, Close}
 use Rattle.srt_packet.specs.declared.reading.PacketFault.{PacketFault}
 use Rattle.srt_packet.specs.Grammar.{Packet}
 use Rattle.srt_packet.specs.Reading.{packet_in}
+use Rattle.srt_session_keys.specs.Subscriber.{Subscriber as Keys}
+use Rattle.srt_route.specs.Route.{own_by}
 use Rattle.srt_route.specs.declared.refusals.RefusalCause.{RefusalCause}
 use Rattle.srt_route.specs.declared.refusals.RefusalCause.TheVariants as causes
 use Rattle.srt_types.specs.Runs.{least_from, numbers_from}
@@ -527,18 +529,18 @@ pub passed_keeps : (e : Terms) (here : Bool) (time : ℕ) (room : Option ℕ) (f
 passed_keeps e true time room fed s = refl
 passed_keeps e false time room fed s = refl
 
-pub reported_keeps : (e : Terms) (here : Bool) (clock : ℕ) (s : Session) → is_publisher (reported_at e here clock s) ≡ is_publisher s
-reported_keeps e true clock s = refl
-reported_keeps e false clock s = refl
+pub reported_keeps : (keys : Option Keys) (e : Terms) (here : Bool) (clock : ℕ) (s : Session) → is_publisher (reported_at keys e here clock s) ≡ is_publisher s
+reported_keeps keys e true clock s = refl
+reported_keeps keys e false clock s = refl
 
 passed_marks : (e : Terms) (here : Bool) (time : ℕ) (room : Option ℕ) (fed : List (List ℕ)) (s : Session)
     → (passed_at e here time room fed s).took_over ≡ s.took_over
 passed_marks e true time room fed s = refl
 passed_marks e false time room fed s = refl
 
-reported_marks : (e : Terms) (here : Bool) (clock : ℕ) (s : Session) → (reported_at e here clock s).took_over ≡ s.took_over
-reported_marks e true clock s = refl
-reported_marks e false clock s = refl
+reported_marks : (keys : Option Keys) (e : Terms) (here : Bool) (clock : ℕ) (s : Session) → (reported_at keys e here clock s).took_over ≡ s.took_over
+reported_marks keys e true clock s = refl
+reported_marks keys e false clock s = refl
 
 -- a delivery and the end of an event change neither the number of open publishers nor which one is active
 pub active_delivered : (e : Terms) (clock : ℕ) (ss : List Session)
@@ -551,9 +553,11 @@ active_delivered e clock ss =
     (λ s. passed_keeps e s.is_open (time_in s clock) (room_if (is_active ss s) room) fed s)
     (λ s. passed_marks e s.is_open (time_in s clock) (room_if (is_active ss s) room) fed s) ss
 
-pub active_reported : (e : Terms) (clock : ℕ) (ss : List Session) → active (map (reported e clock) ss) ≡ option_map (reported e clock) (active ss)
-active_reported e clock ss =
-    active_through (reported e clock) (λ s. reported_keeps e s.is_open clock s) (λ s. reported_marks e s.is_open clock s) ss
+pub active_reported : (own : ℕ → Option Keys) (e : Terms) (clock : ℕ) (ss : List Session)
+    → active (map (λ s. reported (own s.slot) e clock s) ss) ≡ option_map (λ s. reported (own s.slot) e clock s) (active ss)
+active_reported own e clock ss =
+    active_through (λ s. reported (own s.slot) e clock s) (λ s. reported_keeps (own s.slot) e s.is_open clock s)
+    (λ s. reported_marks (own s.slot) e s.is_open clock s) ss
 
 -- a publisher opens only while at most one is open
 reason_left : (a b d : Bool) (x y z : RefusalCause) → cond a (Some x) (cond b (Some y) (cond d (Some z) None)) ≡ None → d ≡ false
@@ -703,22 +707,23 @@ settled_few Libsrt e clock given ss few =
 pub after_delivery_few : (e : Terms) (clock : ℕ) (ss : List Session) → AreFew ss → AreFew (after_delivery e clock ss)
 after_delivery_few e clock ss few = settled_few e.rules.callers e clock (gives_some e clock ss) (delivered e clock ss) (delivered_few e clock ss few)
 
-finished_opens_none : (e : Terms) (clock : ℕ) (over : Bool) → OpensNone (finished e clock over)
-finished_opens_none e clock over s h = by (has_whole_file over s) h
+finished_opens_none : (own : ℕ → Option Keys) (e : Terms) (clock : ℕ) (over : Bool) → OpensNone (finished own e clock over)
+finished_opens_none own e clock over s h = by (has_whole_file over s) h
   where
-    by : (b : Bool) → is_publisher (finished_at b e clock s) ≡ true → is_publisher s ≡ true
+    by : (b : Bool) → is_publisher (finished_at b (own s.slot) e clock s) ≡ true → is_publisher s ≡ true
     by true k = absurd (let bad : false ≡ true = k in cc)
-    by false k = sym (reported_keeps e s.is_open clock s) ∙ k
+    by false k = sym (reported_keeps (own s.slot) e s.is_open clock s) ∙ k
 
-finished_few : (e : Terms) (clock : ℕ) (over : Bool) (ss : List Session) → AreFew ss → AreFew (map (finished e clock over) ss)
-finished_few e clock over ss few = few_kept (finished e clock over) (finished_opens_none e clock over) ss few
+finished_few : (own : ℕ → Option Keys) (e : Terms) (clock : ℕ) (over : Bool) (ss : List Session)
+    → AreFew ss → AreFew (map (finished own e clock over) ss)
+finished_few own e clock over ss few = few_kept (finished own e clock over) (finished_opens_none own e clock over) ss few
 
 sessions_few : (is_closed : Bool) (e : Terms) (index : ℕ) (item : Item) (m : Route) → AreFew m.sessions → AreFew (sessions_at is_closed e index item m)
 sessions_few true e index item m few = few
 sessions_few false e index item m few =
     let clock = clock_after item m in
     let taken = taken_by e index item m in
-    finished_few e clock (is_file_over e (passed_by e index item m)) (passed_by e index item m)
+    finished_few (own_by e index item m) e clock (is_file_over e (passed_by e index item m)) (passed_by e index item m)
     (after_delivery_few e clock taken.sessions
     (taken_few e index clock (heard_by e index item m) (advanced e clock m.sessions) (advanced_few e clock m.sessions few)))
 

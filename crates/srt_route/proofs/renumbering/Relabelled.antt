@@ -44,6 +44,12 @@ use Rattle.srt_route.specs.Route.{decided, decision, idle_notified, is_crowded, 
 use Rattle.srt_route.specs.Route.{session_opened, with_session, opens, considered, refused, is_of, heard_if, concluded, is_for, took_if}
 use Rattle.srt_route.specs.Route.{said_by, answered_by, arrived, concludes, without_destination, packet_taken, read_taken, taken}
 use Rattle.srt_route.specs.Route.{least_room, delivery_of, delivery, room_if, delivered, packets_at, packets_where, taken_by, passed_by}
+use Rattle.srt_session_keys.specs.Subscriber.{Subscriber as Keys}
+use Rattle.srt_route.specs.EncryptedOutput.{KeyedOutput}
+use Rattle.srt_route.specs.Past.{outputs_of}
+use Rattle.srt_route.specs.Sessions.{outputs_at}
+use Rattle.srt_route.specs.RouteKeys.{own_if, own_keys, secures}
+use Rattle.srt_route.specs.Route.{SaysWithKeys, keyed_by, keyed_packets_at, keys_finished_if, keys_in_slot, keys_said, keys_served, own_by}
 use Rattle.srt_route.specs.Route.{replies_at, replies_to, sessions_at, with_input, after}
 use Rattle.srt_route.specs.Route.{finished, finished_at, has_whole_file, is_file_over, packet_end, sends_files, served, served_at, took_packet}
 use Rattle.srt_route.specs.Sessions.{drains_open, ends_unless, is_draining, is_over, is_over_at, is_recent, is_same_peer, is_silent_at}
@@ -106,6 +112,7 @@ changed_output r (AnswersWithKeys caller request answer) = AnswersWithKeys calle
 changed_output r (Says caller initial time report) = Says caller (r.initial initial) time report
 changed_output r (Ends caller time) = Ends caller time
 changed_output r (Responds caller time contents) = Responds caller time contents
+changed_output r (SaysWithKeys output) = SaysWithKeys output
 
 abbrev pub changed_reply : Change → Reply → Reply
 changed_reply r x = record { peer = x.peer; packet = changed_output r x.packet }
@@ -727,18 +734,19 @@ after_delivery_same e r clock ss =
     ∙ settled_by_same e.rules.callers e r clock (gives_some e clock ss) (delivered e clock ss)
 
 -- packets
-reported_here : (e : Terms) (r : Change) (here : Bool) (clock : ℕ) (s : Session)
-    → reported_at e here (clock + r.later) (changed_session r s) ≡ changed_session r (reported_at e here clock s)
-reported_here e r true clock s =
+reported_here : (keys : Option Keys) (e : Terms) (r : Change) (here : Bool) (clock : ℕ) (s : Session)
+    → reported_at keys e here (clock + r.later) (changed_session r s) ≡ changed_session r (reported_at keys e here clock s)
+reported_here keys e r true clock s =
     let t = changed_session r s in
     let later = clock + r.later in
-    ap (λ b. record t { past = reported_past b (terms_of e s) (time_in t later) (is_recent t later) s.past }) (draining_same r s)
-    ∙ ap (λ n. record t { past = reported_past (is_draining s) (terms_of e s) n (is_recent t later) s.past }) (own_time r clock s)
-    ∙ ap (λ b. record t { past = reported_past (is_draining s) (terms_of e s) (time_in s clock) b s.past }) (recent_same r clock s)
-reported_here e r false clock s = refl
+    ap (λ b. record t { past = reported_past keys b (terms_of e s) (time_in t later) (is_recent t later) s.past }) (draining_same r s)
+    ∙ ap (λ n. record t { past = reported_past keys (is_draining s) (terms_of e s) n (is_recent t later) s.past }) (own_time r clock s)
+    ∙ ap (λ b. record t { past = reported_past keys (is_draining s) (terms_of e s) (time_in s clock) b s.past }) (recent_same r clock s)
+reported_here keys e r false clock s = refl
 
-reported_same : (e : Terms) (r : Change) (clock : ℕ) (s : Session) → reported e (clock + r.later) (changed_session r s) ≡ changed_session r (reported e clock s)
-reported_same e r clock s = reported_here e r s.is_open clock s
+reported_same : (keys : Option Keys) (e : Terms) (r : Change) (clock : ℕ) (s : Session)
+    → reported keys e (clock + r.later) (changed_session r s) ≡ changed_session r (reported keys e clock s)
+reported_same keys e r clock s = reported_here keys e r s.is_open clock s
 
 reports_here : (e : Terms) (r : Change) (here : Bool) (clock : ℕ) (s : Session)
     → reports_at e here (clock + r.later) (changed_session r s) ≡ reports_at e here clock s
@@ -771,22 +779,50 @@ speaks_same r s = ap (λ b. is_publisher s && not b) (draining_same r s)
 over_same : (e : Terms) (r : Change) (ss : List Session) → is_file_over e (map (changed_session r) ss) ≡ is_file_over e ss
 over_same e r ss = ap (λ n. sends_files e.rules.callers e.mode && n == 0) (publishers_through (changed_session r) (λ s. refl) ss)
 
-served_here : (e : Terms) (r : Change) (clock : ℕ) (whole : Bool) (s : Session)
-    → served_at whole e (clock + r.later) (changed_session r s) ≡ map (changed_reply r) (served_at whole e clock s)
-served_here e r clock true s = ap (λ x. x ∷ []) (shutdown_same r clock s)
-served_here e r clock false s = packets_here e r (is_subscriber s) clock s
+-- under keys of a session's own; then no number changes
+same_keyed : (r : Change) (s : Session) (os : List KeyedOutput) → map (keyed_by s) os ≡ map (changed_reply r) (map (keyed_by s) os)
+same_keyed r s [] = refl
+same_keyed r s (o ∷ os) = ap (λ (xs : List Reply). keyed_by s o ∷ xs) (same_keyed r s os)
 
-served_same : (e : Terms) (r : Change) (clock : ℕ) (over : Bool) (ss : List Session)
-    → served e (clock + r.later) over (map (changed_session r) ss) ≡ map (changed_reply r) (served e clock over ss)
-served_same e r clock over ss =
-    ap (λ xs. flat_map (λ s. served_at (has_whole_file over s) e (clock + r.later) s) xs) (by_slot_same e r ss)
-    ∙ flat_through (changed_session r) (λ s. served_at (has_whole_file over s) e (clock + r.later) s)
-    (λ s. served_at (has_whole_file over s) e clock s) (changed_reply r) (λ s. served_here e r clock (has_whole_file over s) s) (by_slot e ss)
+outputs_here : (keys : Keys) (e : Terms) (r : Change) (here : Bool) (clock : ℕ) (s : Session) → r.secured ≡ true
+    → outputs_at keys e here (clock + r.later) (changed_session r s) ≡ outputs_at keys e here clock s
+outputs_here keys e r here clock s secured =
+    let t = changed_session r s in
+    let caller = s.conclusion.caller in
+    ap (λ n. cond here (outputs_of keys (terms_of e s) caller n (time_in t (clock + r.later)) (is_recent t (clock + r.later)) s.past) [])
+    (r.numbers_stay secured s.conclusion.initial)
+    ∙ ap (λ n. cond here (outputs_of keys (terms_of e s) caller s.conclusion.initial n (is_recent t (clock + r.later)) s.past) []) (own_time r clock s)
+    ∙ ap (λ b. cond here (outputs_of keys (terms_of e s) caller s.conclusion.initial (time_in s clock) b s.past) []) (recent_same r clock s)
 
-finished_here : (e : Terms) (r : Change) (clock : ℕ) (whole : Bool) (s : Session)
-    → finished_at whole e (clock + r.later) (changed_session r s) ≡ changed_session r (finished_at whole e clock s)
-finished_here e r clock true s = refl
-finished_here e r clock false s = reported_same e r clock s
+keyed_here : (keys : Keys) (e : Terms) (r : Change) (here : Bool) (clock : ℕ) (s : Session) → r.secured ≡ true
+    → keyed_packets_at keys e here (clock + r.later) (changed_session r s) ≡ map (changed_reply r) (keyed_packets_at keys e here clock s)
+keyed_here keys e r here clock s secured =
+    ap (λ (os : List KeyedOutput). map (keyed_by s) os) (outputs_here keys e r here clock s secured) ∙ same_keyed r s (outputs_at keys e here clock s)
+
+-- only a secured route has keys
+abbrev AreSecured : Change → (keys : Option Keys) → Type 0
+AreSecured r keys = is_some keys ≡ true → r.secured ≡ true
+
+served_here : (e : Terms) (r : Change) (clock : ℕ) (whole : Bool) (keys : Option Keys) (s : Session) → AreSecured r keys
+    → served_at whole keys e (clock + r.later) (changed_session r s) ≡ map (changed_reply r) (served_at whole keys e clock s)
+served_here e r clock true keys s secured = ap (λ x. x ∷ []) (shutdown_same r clock s)
+served_here e r clock false None s secured = packets_here e r (is_subscriber s) clock s
+served_here e r clock false (Some keys) s secured = keyed_here keys e r (is_subscriber s) clock s (secured refl)
+
+served_same : (other own : ℕ → Option Keys) (e : Terms) (r : Change) (clock : ℕ) (over : Bool) (ss : List Session)
+    → ((slot : ℕ) → other slot ≡ own slot) → ((slot : ℕ) → AreSecured r (own slot))
+    → served other e (clock + r.later) over (map (changed_session r) ss) ≡ map (changed_reply r) (served own e clock over ss)
+served_same other own e r clock over ss same secured =
+    ap (λ xs. flat_map (λ s. served_at (has_whole_file over s) (other s.slot) e (clock + r.later) s) xs) (by_slot_same e r ss)
+    ∙ flat_through (changed_session r) (λ s. served_at (has_whole_file over s) (other s.slot) e (clock + r.later) s)
+    (λ s. served_at (has_whole_file over s) (own s.slot) e clock s) (changed_reply r)
+    (λ s. ap (λ (keys : Option Keys). served_at (has_whole_file over s) keys e (clock + r.later) (changed_session r s)) (same s.slot)
+    ∙ served_here e r clock (has_whole_file over s) (own s.slot) s (secured s.slot)) (by_slot e ss)
+
+finished_here : (e : Terms) (r : Change) (clock : ℕ) (whole : Bool) (keys : Option Keys) (s : Session)
+    → finished_at whole keys e (clock + r.later) (changed_session r s) ≡ changed_session r (finished_at whole keys e clock s)
+finished_here e r clock true keys s = refl
+finished_here e r clock false keys s = reported_same keys e r clock s
 
 -- the packets sent as time advances
 idle_notified_same : (e : Terms) (r : Change) (clock : ℕ) (ss : List Session)
@@ -1210,6 +1246,7 @@ with_keys_same r request (AnswersWithKeys caller other answer) = refl
 with_keys_same r request (Says caller initial time report) = refl
 with_keys_same r request (Ends caller time) = refl
 with_keys_same r request (Responds caller time contents) = refl
+with_keys_same r request (SaysWithKeys output) = refl
 
 answers_with_same : (r : Change) (w v : Verdict) (xs : List Reply) → IsChangedVerdict r w v
     → answers_as w (map (changed_reply r) xs) ≡ map (changed_reply r) (answers_as v xs)
@@ -1290,6 +1327,24 @@ passed_by_same e index r fits j i n m h k =
 goes_on : (a b later moment : ℕ) → a ≡ b + later → max a (moment + later) ≡ max b moment + later
 goes_on a b later moment same = omega (arith, same)
 
+-- sessions have the same keys of their own
+own_same : (e : Terms) (index : ℕ) (r : Change) (fits : has_secured_role e ≡ true → r.secured ≡ true) (j i : Item) (n m : Route)
+    → IsChangedInput r j i → IsChangedRoute r n m → (slot : ℕ) → own_by e index j n slot ≡ own_by e index i m slot
+own_same e index r fits j i n m h k slot = by (secures e Request)
+  where
+    by : (b : Bool) → own_if b (judgement e index j n).keys.held slot ≡ own_if b (judgement e index i m).keys.held slot
+    by true = ap own_keys ((judgement_same e index r fits j i n m h k).keys_are.held_is slot)
+    by false = refl
+
+own_secured : (e : Terms) (index : ℕ) (r : Change) (fits : has_secured_role e ≡ true → r.secured ≡ true) (i : Item) (m : Route) (slot : ℕ)
+    → AreSecured r (own_by e index i m slot)
+own_secured e index r fits i m slot = by (secures e Publish) (secures e Request) fits
+  where
+    by : (a b : Bool) → ((a || b) ≡ true → r.secured ≡ true) → AreSecured r (own_if b (judgement e index i m).keys.held slot)
+    by true true h some = h refl
+    by false true h some = h refl
+    by a false h some = absurd (let bad : false ≡ true = some in cc)
+
 sessions_same : (is_closed : Bool) (e : Terms) (index : ℕ) (r : Change) (fits : has_secured_role e ≡ true → r.secured ≡ true) (j i : Item)
     (n m : Route) → IsChangedInput r j i
     → IsChangedRoute r n m
@@ -1300,17 +1355,58 @@ sessions_same false e index r fits j i n m h k =
     let others = passed_by e index j n in
     let ss = passed_by e index i m in
     let over = is_file_over e ss in
-    ap (λ t. map (finished e t (is_file_over e others)) others) (clock_same r j i n m h.item_is k)
-    ∙ ap (λ xs. map (finished e (clock + r.later) (is_file_over e xs)) xs) (passed_by_same e index r fits j i n m h k)
-    ∙ ap (λ b. map (finished e (clock + r.later) b) (map (changed_session r) ss)) (over_same e r ss)
-    ∙ map_through (changed_session r) (finished e (clock + r.later) over) (finished e clock over) (changed_session r)
-    (λ s. finished_here e r clock (has_whole_file over s) s) ss
+    let other = own_by e index j n in
+    let own = own_by e index i m in
+    ap (λ t. map (finished other e t (is_file_over e others)) others) (clock_same r j i n m h.item_is k)
+    ∙ ap (λ xs. map (finished other e (clock + r.later) (is_file_over e xs)) xs) (passed_by_same e index r fits j i n m h k)
+    ∙ ap (λ b. map (finished other e (clock + r.later) b) (map (changed_session r) ss)) (over_same e r ss)
+    ∙ map_through (changed_session r) (finished other e (clock + r.later) over) (finished own e clock over) (changed_session r)
+    (λ s. ap (λ (keys : Option Keys). finished_at (has_whole_file over s) keys e (clock + r.later) (changed_session r s))
+    (own_same e index r fits j i n m h k s.slot) ∙ finished_here e r clock (has_whole_file over s) (own s.slot) s) ss
+
+-- the keys after the end of an event
+same_served : (r : Change) (clock : ℕ) (whole : Bool) (s : Session) (n m : SlotKeys) → n ≡ m
+    → keys_served whole (clock + r.later) (changed_session r s) n ≡ keys_served whole clock s m
+same_served r clock true s n m same = same
+same_served r clock false s n m same =
+    ap (λ (t : ℕ). keys_said t s.past n) (own_time r clock s) ∙ ap (keys_said (time_in s clock) s.past) same
+
+same_in_slot : (r : Change) (clock : ℕ) (over : Bool) (o : Option Session) (n m : SlotKeys) → n ≡ m
+    → keys_in_slot (clock + r.later) over (option_map (changed_session r) o) n ≡ keys_in_slot clock over o m
+same_in_slot r clock over None n m same = same
+same_in_slot r clock over (Some s) n m same = same_served r clock (has_whole_file over s) s n m same
+
+keys_finished_same : (secured : Bool) (r : Change) (clock : ℕ) (over : Bool) (ss : List Session) (n m : RouteKeys) → AreChangedKeys r n m
+    → AreChangedKeys r (keys_finished_if secured (clock + r.later) over (map (changed_session r) ss) n) (keys_finished_if secured clock over ss m)
+keys_finished_same true r clock over ss n m h =
+    record {
+      moments_are = h.moments_are;
+      pool_is = h.pool_is;
+      held_is = λ slot.
+          ap (λ (o : Option Session). keys_in_slot (clock + r.later) over o (n.held slot))
+          (find_through (changed_session r) (is_open_in slot) (is_open_in slot) (λ s. refl) ss)
+          ∙ same_in_slot r clock over (find (is_open_in slot) ss) (n.held slot) (m.held slot) (h.held_is slot);
+    }
+keys_finished_same false r clock over ss n m h = h
 
 keys_same : (is_closed : Bool) (e : Terms) (index : ℕ) (r : Change) (fits : has_secured_role e ≡ true → r.secured ≡ true) (j i : Item)
     (n m : Route) → IsChangedInput r j i → IsChangedRoute r n m
     → AreChangedKeys r (keys_at is_closed e index j n) (keys_at is_closed e index i m)
 keys_same true e index r fits j i n m h k = k.keys_are
-keys_same false e index r fits j i n m h k = (judgement_same e index r fits j i n m h k).keys_are
+keys_same false e index r fits j i n m h k =
+    let clock = clock_after i m in
+    let others = passed_by e index j n in
+    let ss = passed_by e index i m in
+    let secured = secures e Request in
+    let later = (judgement e index j n).keys in
+    let earlier = keys_finished_if secured clock (is_file_over e ss) ss (judgement e index i m).keys in
+    subst (λ (t : ℕ). AreChangedKeys r (keys_finished_if secured t (is_file_over e others) others later) earlier) (sym (clock_same r j i n m h.item_is k))
+    (subst (λ (xs : List Session). AreChangedKeys r (keys_finished_if secured (clock + r.later) (is_file_over e xs) xs later) earlier)
+    (sym (passed_by_same e index r fits j i n m h k))
+    (subst (λ (b : Bool). AreChangedKeys r (keys_finished_if secured (clock + r.later) b (map (changed_session r) ss) later) earlier)
+    (sym (over_same e r ss))
+    (keys_finished_same secured r clock (is_file_over e ss) ss later (judgement e index i m).keys
+    (judgement_same e index r fits j i n m h k).keys_are)))
 
 notified_same : (e : Terms) (index : ℕ) (r : Change) (fits : has_secured_role e ≡ true → r.secured ≡ true) (j i : Item) (n m : Route)
     → IsChangedInput r j i → IsChangedRoute r n m → IsChangedRoute r (with_input e index j n) (with_input e index i m)
@@ -1333,45 +1429,47 @@ replies_at_same false e index r fits j i n m h k =
     let others = passed_by e index j n in
     let ss = passed_by e index i m in
     let over = is_file_over e ss in
+    let other = own_by e index j n in
+    let own = own_by e index i m in
     let idle = idle_notified e clock m.sessions in
     let first = (taken_by e index i m).answers in
     let second = packets_where e clock speaks ss in
-    let third = served e clock over ss in
+    let third = served own e clock over ss in
     ap
     (λ t.
-    idle_notified e t n.sessions ++ (taken_by e index j n).answers ++ packets_where e t speaks others ++ served e t (is_file_over e others) others)
+    idle_notified e t n.sessions ++ (taken_by e index j n).answers ++ packets_where e t speaks others ++ served other e t (is_file_over e others) others)
     (clock_same r j i n m h.item_is k)
     ∙ ap
     (λ xs.
     idle_notified e (clock + r.later) xs ++ (taken_by e index j n).answers ++ packets_where e (clock + r.later) speaks others
-    ++ served e (clock + r.later) (is_file_over e others) others)
+    ++ served other e (clock + r.later) (is_file_over e others) others)
     k.sessions_are
     ∙ ap
     (λ xs.
     xs ++ (taken_by e index j n).answers ++ packets_where e (clock + r.later) speaks others
-    ++ served e (clock + r.later) (is_file_over e others) others)
+    ++ served other e (clock + r.later) (is_file_over e others) others)
     (idle_notified_same e r clock m.sessions)
     ∙ ap
     (λ (t : Taken).
     map (changed_reply r) idle ++ t.answers ++ packets_where e (clock + r.later) speaks others
-    ++ served e (clock + r.later) (is_file_over e others) others)
+    ++ served other e (clock + r.later) (is_file_over e others) others)
     (taken_by_same e index r fits j i n m h k)
     ∙ ap
     (λ xs.
     map (changed_reply r) idle ++ map (changed_reply r) first ++ packets_where e (clock + r.later) speaks xs
-    ++ served e (clock + r.later) (is_file_over e xs) xs)
+    ++ served other e (clock + r.later) (is_file_over e xs) xs)
     (passed_by_same e index r fits j i n m h k)
     ∙ ap
     (λ x.
     map (changed_reply r) idle ++ map (changed_reply r) first ++ packets_where e (clock + r.later) speaks (map (changed_session r) ss)
-    ++ served e (clock + r.later) x (map (changed_session r) ss))
+    ++ served other e (clock + r.later) x (map (changed_session r) ss))
     (over_same e r ss)
     ∙ ap
     (λ xs.
-    map (changed_reply r) idle ++ map (changed_reply r) first ++ xs ++ served e (clock + r.later) over (map (changed_session r) ss))
+    map (changed_reply r) idle ++ map (changed_reply r) first ++ xs ++ served other e (clock + r.later) over (map (changed_session r) ss))
     (packets_same e r clock speaks (speaks_same r) ss)
     ∙ ap (λ xs. map (changed_reply r) idle ++ map (changed_reply r) first ++ map (changed_reply r) second ++ xs)
-    (served_same e r clock over ss)
+    (served_same other own e r clock over ss (own_same e index r fits j i n m h k) (own_secured e index r fits i m))
     ∙ ap (λ xs. xs ++ map (changed_reply r) second ++ map (changed_reply r) third) (sym (map-append (changed_reply r) idle first))
     ∙ ap (λ xs. xs ++ map (changed_reply r) third) (sym (map-append (changed_reply r) (idle ++ first) second))
     ∙ sym (map-append (changed_reply r) (idle ++ first ++ second) third)

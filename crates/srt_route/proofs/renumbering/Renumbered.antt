@@ -15,7 +15,7 @@ use Rattle.srt_route.specs.declared.conclusion_reading.Conclusion.{Conclusion}
 use Rattle.srt_route.specs.Past.{is_shutdown, ToPublisher, ToSubscriber}
 use Rattle.srt_route.specs.RouteKeys.{brought_in, cookie_in, has_secured_role}
 use Rattle.srt_route.specs.Route.{info_of}
-use Rattle.srt_route.specs.Route.{Output, Answers, AnswersWithKeys, Says, Ends, Responds, Reply, output_text, sent, concludes, after, replies_to, reply, solo}
+use Rattle.srt_route.specs.Route.{Output, Answers, AnswersWithKeys, Says, Ends, Responds, SaysWithKeys, Reply, output_text, sent, concludes, after, replies_to, reply, solo}
 use Rattle.srt_route.specs.Shifted.{shifted, shifted_body, shifted_reading, renumbered, renumbered_datagram, renumbered_item}
 use Rattle.srt_route.specs.Shifted.{restamped_datagram, restamped_item, moved_item}
 use Rattle.srt_route.specs.ShiftLaws.{restamped_reading}
@@ -266,6 +266,7 @@ same_output r numbers (AnswersWithKeys caller request a) = ap (λ n. AnswersWith
 same_output r numbers (Says caller initial time report) = ap (λ n. Says caller n time report) (numbers initial)
 same_output r numbers (Ends caller time) = refl
 same_output r numbers (Responds caller time contents) = refl
+same_output r numbers (SaysWithKeys output) = refl
 
 same_replies : (r : Change) → ((n : ℕ) → r.initial n ≡ n) → (xs : List Reply) → map (changed_reply r) xs ≡ xs
 same_replies r numbers [] = refl
@@ -301,6 +302,7 @@ output_shifts by (AnswersWithKeys caller request a) h = absurd h
 output_shifts by (Says caller initial time (ToPublisher report)) h = sym (publishers_say by caller initial time report h)
 output_shifts by (Says caller initial time (ToSubscriber report)) h = sym (subscribers_say by caller initial time report h)
 output_shifts by (Responds caller time contents) h = absurd h
+output_shifts by (SaysWithKeys output) h = absurd h
 output_shifts by (Ends caller time) h = sym (shutdown_says by (time % 2 ^ 32) caller)
 
 all_shift : (by : ℕ) (xs : List Reply) → Each (λ (x : Reply). IsSaid x.packet) xs

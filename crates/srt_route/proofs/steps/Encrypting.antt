@@ -1,12 +1,11 @@
 -- The packets of a subscriber's session with keys.
-use Rattle.std.proofs.Common.{◌≡◌, ℕ, ◌+◌, ◌-◌, ◌*◌, ◌^◌, ◌<◌, ◌≤◌, nat_lt, Bool, true, false, cond, min, Option, None, Some}
-use Rattle.std.proofs.Common.{List, [], ◌∷◌, ◌++◌, length, map, refl, sym, ap, subst, ◌∙◌, append_assoc, append-nil, arith}
+use Rattle.std.proofs.Common.{◌≡◌, ℕ, ◌+◌, ◌-◌, ◌^◌, ◌<◌, ◌≤◌, Bool, true, false, cond, Option, None, Some}
+use Rattle.std.proofs.Common.{List, [], ◌∷◌, ◌++◌, length, map, refl, sym, ap, subst, ◌∙◌, append_assoc, arith}
 use Rattle.std.specs.Prelude.{◌%◌, IfSome}
 use Rattle.std.specs.Option.{is_some}
 use Rattle.std.proofs.lemmas.Bool.Decides.{nat_tests}
 use Rattle.std.proofs.lemmas.List.{map-append}
 use Rattle.srt_types.specs.Capped.{capped}
-use Rattle.srt_types.specs.Items.{Datagram}
 use Rattle.srt_packet.specs.declared.encoded.EncodedPacket.{EncodedPacket}
 use Rattle.srt_packet.specs.Encoded.{bytes_of}
 use Rattle.srt_packet.specs.KeyPacket.{key_packet_text}
@@ -240,15 +239,14 @@ pub sends_nothing : (to : KeyReceiver) (keys : Keys) (terms : subscribing.Terms)
     → IsReportedWith to keys keys x queue queue terms initial opening to.caller m
 sends_nothing to keys terms initial opening x m queue queued count many stands =
     let few : has_few m ≡ false = grind (arith, nat_tests, count, many) in
-    let time = to.clock - opening in
     record {
-      keys_are = ap (λ (b : Bool). keys_with (announced_if b keys to.clock m) to.clock keys) (sym few);
-      stands = subst (λ (b : Bool). subscribers.StandsFor terms initial opening to.caller to.clock x (reported_if b keys terms time to.recent m)) (sym few)
+      keys_are = ap (λ (b : Bool). keys_with (announced_if b keys to.time m) to.time keys) (sym few);
+      stands = subst (λ (b : Bool). subscribers.StandsFor terms initial opening to.caller to.clock x (reported_if b keys terms to.time to.recent m)) (sym few)
           stands;
       said = same_said
           (ap (λ (b : Bool). datagrams_to to.peer
           (map keyed_text
-          (outputs_if b (is_announced keys to.clock m) (keys_reported to.clock m keys) terms to.caller initial time to.recent m)))
+          (outputs_if b (is_announced keys to.time m) (keys_reported to.time m keys) terms to.caller initial to.time to.recent m)))
           (sym few))
           (nothing_said (replies_of queue) (places_of queue));
     }
@@ -262,10 +260,14 @@ pub keys_by : (announced : Bool) (clock : ℕ) (keys : Keys) → cond announced 
 keys_by true clock keys = refl
 keys_by false clock keys = refl
 
+bound_stays : (announced : Bool) (time : ℕ) (keys : Keys) → payloads_confirmed (keys_with announced time keys) ≡ payloads_confirmed keys
+bound_stays true time keys = refl
+bound_stays false time keys = refl
+
 pub sends_encrypted : (to : KeyReceiver) (earlier later : Keys) (terms : subscribing.Terms) (initial opening : ℕ) (x y : Subscriber)
     (m : subscribing.Subscribing) (before after : ReplyQueue) (queued window : ℕ) (announced : Bool)
-    → queued ≡ capped (length m.sending.queue) → queued < 2 ^ 61 → announced ≡ is_due earlier queued to.clock
-    → later ≡ keys_with announced to.clock earlier → window ≡ flow_window terms.window m.notes → to.time ≡ to.clock - opening
+    → queued ≡ capped (length m.sending.queue) → queued < 2 ^ 61 → announced ≡ is_due earlier queued to.time
+    → later ≡ keys_with announced to.time earlier → window ≡ flow_window terms.window m.notes → to.time ≡ to.clock - opening
     → IsEmittedWith to announced later x before after terms initial opening to.caller (held terms (payloads_confirmed later) m)
     → subscribers.Becomes x y (λ initial n. released window n)
     → IsReportedWith to earlier later y before after terms initial opening to.caller m
@@ -274,27 +276,39 @@ sends_encrypted to earlier later terms initial opening x y m before after queued
     let time = to.clock - opening in
     let exact : queued ≡ length m.sending.queue = omega (arith, count, below) in
     let few : has_few m ≡ true = grind (arith, nat_tests, exact, below) in
-    let same : is_announced earlier to.clock m ≡ announced =
-    ap (λ (b : Bool). announced_if b earlier to.clock m) few ∙ (ap (λ (n : ℕ). is_due earlier n to.clock) (sym exact) ∙ sym due) in
-    let after_is : later ≡ keys_reported to.clock m earlier =
-    keys_are ∙ ap (λ (b : Bool). keys_with b to.clock earlier) (sym same) in
+    let same : is_announced earlier to.time m ≡ announced =
+    ap (λ (b : Bool). announced_if b earlier to.time m) few ∙ (ap (λ (n : ℕ). is_due earlier n to.time) (sym exact) ∙ sym due) in
+    let after_is : later ≡ keys_reported to.time m earlier =
+    keys_are ∙ ap (λ (b : Bool). keys_with b to.time earlier) (sym same) in
+    let bound_is : payloads_confirmed later ≡ payloads_confirmed earlier =
+    ap payloads_confirmed keys_are ∙ bound_stays announced to.time earlier in
     let sent : Subscribing = held terms (payloads_confirmed later) m in
     record {
       keys_are = after_is;
-      stands = subst (λ (b : Bool). subscribers.StandsFor terms initial opening to.caller to.clock y (reported_if b later terms time to.recent m)) (sym few)
+      stands = subst (λ (b : Bool). subscribers.StandsFor terms initial opening to.caller to.clock y (reported_if b earlier terms to.time to.recent m))
+          (sym few)
+          (subst
+          (λ (t : ℕ). subscribers.StandsFor terms initial opening to.caller to.clock y
+          (released (flow_window terms.window m.notes) (reported terms t to.recent (held terms (payloads_confirmed earlier) m))))
+          (sym time_is)
+          (subst
+          (λ (n : ℕ). subscribers.StandsFor terms initial opening to.caller to.clock y
+          (released (flow_window terms.window m.notes) (reported terms time to.recent (held terms n m))))
+          bound_is
           (subst (λ (w : ℕ). subscribers.StandsFor terms initial opening to.caller to.clock y (released w (reported terms time to.recent sent))) window_is
-          (released_is terms initial opening to.caller time 0 (reported terms time to.recent sent) emitted.stands));
+          (released_is terms initial opening to.caller time 0 (reported terms time to.recent sent) emitted.stands))));
       said = same_said
           (ap (λ (os : List KeyedOutput). datagrams_to to.peer (map keyed_text os))
-          (ap (λ (t : ℕ). outputs_at t announced later) time_is
-          ∙ (ap (λ (b : Bool). outputs_if true b later terms to.caller initial time to.recent m) (sym same)
-          ∙ (ap (λ (k : Keys). outputs_if true (is_announced earlier to.clock m) k terms to.caller initial time to.recent m) after_is
-          ∙ ap (λ (b : Bool). outputs_if b (is_announced earlier to.clock m) (keys_reported to.clock m earlier) terms to.caller initial time to.recent m)
+          (ap (λ (t : ℕ). outputs_at t announced later) (sym time_is)
+          ∙ (ap (λ (b : Bool). outputs_if true b later terms to.caller initial to.time to.recent m) (sym same)
+          ∙ (ap (λ (k : Keys). outputs_if true (is_announced earlier to.time m) k terms to.caller initial to.time to.recent m) after_is
+          ∙ ap
+          (λ (b : Bool). outputs_if b (is_announced earlier to.time m) (keys_reported to.time m earlier) terms to.caller initial to.time to.recent m)
           (sym few)))))
           emitted.said;
     }
   where
     outputs_at : (t : ℕ) → Bool → Keys → List KeyedOutput
     outputs_at t b k =
-        all_said_with k to.caller initial (to.clock - opening) (announcement_if b k to.caller t)
-        (reports terms (to.clock - opening) to.recent (held terms (payloads_confirmed k) m))
+        all_said_with k to.caller initial t (announcement_if b k to.caller to.time)
+        (reports terms t to.recent (held terms (payloads_confirmed k) m))

@@ -1,5 +1,5 @@
 -- KMREQs during a session: what the code makes of one is what the definitions state.
-use Rattle.std.proofs.Common.{◌≡◌, ◌≢◌, ℕ, ◌-◌, Bool, true, false, cond, Option, None, Some, List, [], ◌∷◌, map, Ok, find, refl, sym, ap, subst, ◌∙◌}
+use Rattle.std.proofs.Common.{◌≡◌, ◌≢◌, ℕ, ◌-◌, Option, None, Some, List, [], ◌∷◌, Ok, find, refl, sym, ap, subst, ◌∙◌}
 use Rattle.srt_types.specs.declared.shared.Peer.{Peer}
 use Rattle.srt_types.specs.Terms.{Terms}
 use Rattle.srt_types.specs.Items.{Datagram}
@@ -8,7 +8,6 @@ use Rattle.srt_packet.specs.Reading.{packet_in}
 use Rattle.srt_hs.specs.KeyMessage.{message_in}
 use Rattle.srt_session_keys.specs.Publisher.{answer_to, response_to}
 use Rattle.srt_session_keys.specs.declared.publisher.KeyAnswer.{KeyAnswer}
-use Rattle.srt_route.specs.declared.key_refresh.KeyResponse.{KeyResponse}
 use Rattle.srt_route.specs.declared.ledger.Ledger.{Ledger}
 use Rattle.srt_route.specs.declared.route_keys.RouteKeys.{RouteKeys as TheRouteKeys}
 use Rattle.srt_route.specs.declared.seat.Session.{Session as TheSession}
@@ -21,7 +20,7 @@ use Rattle.srt_route.specs.Ends.{EndsAre, destined_ending, kept_of}
 use Rattle.srt_route.specs.Tallies.{packet_tally, tally_of}
 use Rattle.srt_route.specs.Tables.{AreAlone, IsSession, IsTable}
 use Rattle.srt_route.specs.Route.{Answered, Judged, Reply, Responds, Verdict, answered_judged, is_for, packet_judged, packet_taken, responded, sent}
-use Rattle.srt_route.specs.inside.Secured.{IsAnswered, IsHeard, heard_bytes, response_of}
+use Rattle.srt_route.specs.inside.Secured.{IsAnswered, IsHeard, heard_bytes}
 use Rattle.srt_route.proofs.stored.Stored.{IsForNone, none_found_for}
 use Rattle.srt_route.proofs.steps.Securing.{for_session, heard_plainly, same_keys, same_slot, secured_by}
 

@@ -25,6 +25,13 @@ use Rattle.srt_sub.specs.Subscribing as subscribing
 use Rattle.srt_sub.specs.Says as subscriber_text
 use Rattle.srt_sub.specs.Stands as subscribers
 use Rattle.srt_sub.specs.Emission.{Emitting, IsNext}
+use Rattle.srt_sub.specs.Held.{held, released}
+use Rattle.srt_sub.proofs.Bounds.{stays_below_bounds}
+use Rattle.srt_session_keys.specs.Subscriber.{Subscriber as Keys}
+use Rattle.srt_route.specs.EncryptedOutput.{KeyedOutput, has_few, keyed_text, outputs_with, payloads_confirmed, reported_if}
+use Rattle.srt_route.specs.Past.{outputs_of, reported_under}
+use Rattle.srt_route.specs.Route.{keyed_by, keyed_packets_at, served_at}
+use Rattle.srt_route.specs.inside.Files.{texts_under}
 use Rattle.srt_sub.proofs.Freshness.{none_given_up}
 use Rattle.srt_sub.proofs.Sound.{begins}
 use Rattle.srt_sub.specs.declared.session.Subscriber.{Subscriber}
@@ -51,7 +58,7 @@ use Rattle.srt_route.proofs.model.Counts.{subscriber_few}
 use Rattle.srt_route.proofs.model.Changes.{is_there, find_changed}
 use Rattle.srt_route.proofs.stored.Kept.{Becomes, some_buffers, seat_at}
 use Rattle.srt_route.proofs.steps.Feeding.{IsFed, Changes, seat_becomes, seated_with, changed_is, wide_by, publisher_subscribes}
-use Rattle.srt_route.proofs.steps.Feeding.{subscriber_subscribes, vacant_subscribes, subscribes, Stays}
+use Rattle.srt_route.proofs.steps.Feeding.{subscriber_subscribes, subscribes, Stays}
 use Rattle.srt_route.proofs.stored.Stored.{same_read}
 use Rattle.srt_route.proofs.steps.Passing.{IsTurned, Publishing_is, publisher_at, same_everywhere, unchanged, the_one, slot_is, slot_is_not}
 use Rattle.srt_route.proofs.steps.Passing.{amid_here, amid_elsewhere, gone_on, compose_all, inside}
@@ -427,58 +434,103 @@ reported_fresh terms time recent m e1 =
     none_given_up (subscribing.reported terms time recent m) (subscribing.expired_in terms.mode terms time (subscribing.reported terms time recent m).sending)
     (ap (subscribing.expired_in terms.mode terms time) is.1 ∙ (fresh ∙ sym is.1))
 
--- the effect of a call on a slot's subscriber at the end of an event
-abbrev pub Tells : (clock : ℕ) → Option TheSession → (x y : Subscriber) → Type 0
-Tells clock o x y =
-    subscribes o ≡ true → (terms : subscribing.Terms) (initial opening caller : ℕ) (m : subscribing.Subscribing)
-    → subscribers.StandsFor terms initial opening caller clock x m → subscribing.expired terms (clock - opening) m ≡ m
-    → subscribers.StandsFor terms initial opening caller clock y
-    (subscribing.reported terms (clock - opening) (session_passes (is_heard_recently clock) o) m)
+-- with keys of its own a session is held meanwhile, and that makes nothing too old
+keyed_fresh : (few : Bool) (keys : Keys) (terms : subscribing.Terms) (time : ℕ) (recent : Bool) (m : subscribing.Subscribing)
+    → subscribing.expired terms time m ≡ m
+    → subscribing.expired terms time (reported_if few keys terms time recent m) ≡ reported_if few keys terms time recent m
+keyed_fresh true keys terms time recent m e1 =
+    let n = held terms (payloads_confirmed keys) m in
+    let w = subscribing.flow_window terms.window m.notes in
+    let fresh = reported_fresh terms time recent n (stays_below_bounds.fresh terms time (payloads_confirmed keys) m e1) in
+    none_given_up (released w (subscribing.reported terms time recent n))
+    (subscribing.expired_in terms.mode terms time (subscribing.reported terms time recent n).sending)
+    (ap (λ (x : subscribing.Subscribing). x.sending) fresh)
+keyed_fresh false keys terms time recent m e1 = e1
 
-abbrev pub Says : (clock : ℕ) → Option TheSession → (x : Subscriber) → (before later : List Reply) (places more : ℕ) → Type 0
-Says clock o x before later places more =
-    subscribes o ≡ true → (t : TheSession) (terms : subscribing.Terms) (initial opening caller : ℕ) (m : subscribing.Subscribing)
-    → o ≡ Some t → subscribers.StandsFor terms initial opening caller clock x m → subscribing.expired terms (clock - opening) m ≡ m
+under_fresh : (keys : Option Keys) (terms : subscribing.Terms) (time : ℕ) (recent : Bool) (m : subscribing.Subscribing)
+    → subscribing.expired terms time m ≡ m
+    → subscribing.expired terms time (reported_under keys terms time recent m) ≡ reported_under keys terms time recent m
+under_fresh None terms time recent m e1 = reported_fresh terms time recent m e1
+under_fresh (Some keys) terms time recent m e1 = keyed_fresh (has_few m) keys terms time recent m e1
+
+-- the effect of a call on a slot's subscriber at the end of an event, with these keys of its own
+abbrev pub Tells : (keys : Option Keys) → (clock : ℕ) → Option TheSession → (x y : Subscriber) → Type 0
+Tells keys clock o x y =
+    subscribes o ≡ true → (t : TheSession) → o ≡ Some t → (terms : subscribing.Terms) (initial : ℕ) (m : subscribing.Subscribing)
+    → subscribers.StandsFor terms initial t.opened t.caller clock x m → subscribing.expired terms (clock - t.opened) m ≡ m
+    → subscribers.StandsFor terms initial t.opened t.caller clock y
+    (reported_under keys terms (clock - t.opened) (session_passes (is_heard_recently clock) o) m)
+
+abbrev pub Says : (keys : Option Keys) → (clock : ℕ) → Option TheSession → (x : Subscriber) → (before later : List Reply) (places more : ℕ) → Type 0
+Says keys clock o x before later places more =
+    subscribes o ≡ true → (t : TheSession) → o ≡ Some t → (terms : subscribing.Terms) (initial : ℕ) (m : subscribing.Subscribing)
+    → subscribers.StandsFor terms initial t.opened t.caller clock x m → subscribing.expired terms (clock - t.opened) m ≡ m
     → AreSaid before later places more
-    (datagrams_to t.peer
-    (map (subscriber_text.says caller initial (clock - opening))
-    (subscribing.reports terms (clock - opening) (session_passes (is_heard_recently clock) o) m)))
+    (datagrams_to t.peer (texts_under keys terms t.caller initial (clock - t.opened) (session_passes (is_heard_recently clock) o) m))
 
 -- when its peer was heard last
 heard_recently : (e : Terms) (index clock : ℕ) (t : TheSession) (s : Session) → IsStored e index (Some t) (Some s)
     → is_heard_recently clock t ≡ is_recent s clock
 heard_recently e index clock t s is = ap (λ (n : ℕ). nat_lt (clock - n) 1_000_000) is.heard_is
 
-notified_seat : (e : Terms) (index clock : ℕ) (p : Publisher) (x y : Subscriber) (o : Option TheSession) (s : Session)
-    → IsStored e index o (Some s) → IsSeated e clock p x s → s.is_open ≡ true → subscribers.IsWide e.buffer x → Stays o x y → Tells clock o x y
-    → IsFed e clock p y (changed (after_subscriber e clock) s)
-notified_seat e index clock p x y None s is seat opens wide stays tells = absurd is
-notified_seat e index clock p x y (Some t) s is seat opens wide stays tells = by s.past refl seat.past_is
+-- a stored subscriber's record, by the session that it is of
+pub as_stored : (e : Terms) (index clock : ℕ) (t : TheSession) (s : Session) (terms : subscribing.Terms) (x : Subscriber) (m : subscribing.Subscribing)
+    → IsStored e index (Some t) (Some s)
+    → subscribers.StandsFor terms s.conclusion.initial s.opening s.conclusion.caller clock x m
+    → subscribers.StandsFor terms s.conclusion.initial t.opened t.caller clock x m
+as_stored e index clock t s terms x m is h =
+    subst (λ (n : ℕ). subscribers.StandsFor terms s.conclusion.initial n t.caller clock x m) (sym is.opened_is)
+    (subst (λ (n : ℕ). subscribers.StandsFor terms s.conclusion.initial s.opening n clock x m) (sym is.caller_is) h)
+
+as_opened : (e : Terms) (index clock : ℕ) (t : TheSession) (s : Session) (terms : subscribing.Terms) (x : Subscriber) (m : subscribing.Subscribing)
+    → IsStored e index (Some t) (Some s)
+    → subscribers.StandsFor terms s.conclusion.initial t.opened t.caller clock x m
+    → subscribers.StandsFor terms s.conclusion.initial s.opening s.conclusion.caller clock x m
+as_opened e index clock t s terms x m is h =
+    subst (λ (n : ℕ). subscribers.StandsFor terms s.conclusion.initial n s.conclusion.caller clock x m) is.opened_is
+    (subst (λ (n : ℕ). subscribers.StandsFor terms s.conclusion.initial t.opened n clock x m) is.caller_is h)
+
+pub still_fresh : (e : Terms) (index clock : ℕ) (t : TheSession) (s : Session) (terms : subscribing.Terms) (m : subscribing.Subscribing)
+    → IsStored e index (Some t) (Some s) → subscribing.expired terms (time_in s clock) m ≡ m → subscribing.expired terms (clock - t.opened) m ≡ m
+still_fresh e index clock t s terms m is h = subst (λ (n : ℕ). subscribing.expired terms (clock - n) m ≡ m) (sym is.opened_is) h
+
+notified_seat : (keys : Option Keys) (e : Terms) (index clock : ℕ) (p : Publisher) (x y : Subscriber) (o : Option TheSession) (s : Session)
+    → IsStored e index o (Some s) → IsSeated e clock p x s → s.is_open ≡ true → subscribers.IsWide e.buffer x → Stays o x y → Tells keys clock o x y
+    → IsFed e clock p y (changed (after_subscriber keys e clock) s)
+notified_seat keys e index clock p x y None s is seat opens wide stays tells = absurd is
+notified_seat keys e index clock p x y (Some t) s is seat opens wide stays tells = by s.past refl seat.past_is
   where
-    by : (past : Past) → s.past ≡ past → IsPast e clock p x s past → IsFed e clock p y (changed (after_subscriber e clock) s)
+    by : (past : Past) → s.past ≡ past → IsPast e clock p x s past → IsFed e clock p y (changed (after_subscriber keys e clock) s)
     by (Publishes m) q h =
         let same : y ≡ x = stays (publisher_subscribes e index t s is h.0) in
-        subst (λ (z : Subscriber). IsFed e clock p z (changed (after_subscriber e clock) s)) (sym same)
+        subst (λ (z : Subscriber). IsFed e clock p z (changed (after_subscriber keys e clock) s)) (sym same)
         (record {
           wide = wide;
-          seated = seated_with e clock p x s (after_subscriber e clock) (Publishes m) opens
-              (ap (subscriber_reported (terms_of e s) (time_in s clock) (is_recent s clock)) q) h seat.opened;
+          seated = seated_with e clock p x s (after_subscriber keys e clock) (Publishes m) opens
+              (ap (subscriber_reported keys (terms_of e s) (time_in s clock) (is_recent s clock)) q) h seat.opened;
         })
     by (Subscribes m) q h =
         let terms = (terms_of e s).subscriber in
         let recent = is_recent s clock in
+        let then_ = as_opened e index clock t s terms y
+        (reported_under keys terms (clock - t.opened) (session_passes (is_heard_recently clock) (Some t)) m) is
+        (tells (subscriber_subscribes e index t s is h.0) t refl terms s.conclusion.initial m (as_stored e index clock t s terms x m is h.1)
+        (still_fresh e index clock t s terms m is h.2)) in
         let now : subscribers.StandsFor terms s.conclusion.initial s.opening s.conclusion.caller clock y
-        (subscribing.reported terms (time_in s clock) recent m) =
+        (reported_under keys terms (time_in s clock) recent m) =
         subst
         (λ (b : Bool). subscribers.StandsFor terms s.conclusion.initial s.opening s.conclusion.caller clock y
-        (subscribing.reported terms (time_in s clock) b m))
+        (reported_under keys terms (time_in s clock) b m))
         (heard_recently e index clock t s is)
-        (tells (subscriber_subscribes e index t s is h.0) terms s.conclusion.initial s.opening s.conclusion.caller m h.1 h.2) in
+        (subst
+        (λ (n : ℕ). subscribers.StandsFor terms s.conclusion.initial s.opening s.conclusion.caller clock y
+        (reported_under keys terms (clock - n) (session_passes (is_heard_recently clock) (Some t)) m))
+        is.opened_is then_) in
         record {
-          wide = wide_by e clock y s (subscribing.reported terms (time_in s clock) recent m) now;
-          seated = seated_with e clock p y s (after_subscriber e clock) (Subscribes (subscribing.reported terms (time_in s clock) recent m)) opens
-              (ap (subscriber_reported (terms_of e s) (time_in s clock) recent) q)
-              (h.0, now, reported_fresh terms (time_in s clock) recent m h.2) seat.opened;
+          wide = wide_by e clock y s (reported_under keys terms (time_in s clock) recent m) now;
+          seated = seated_with e clock p y s (after_subscriber keys e clock) (Subscribes (reported_under keys terms (time_in s clock) recent m)) opens
+              (ap (subscriber_reported keys (terms_of e s) (time_in s clock) recent) q)
+              (h.0, now, under_fresh keys terms (time_in s clock) recent m h.2) seat.opened;
         }
 
 subscriber_bytes : (clock : ℕ) (s : Session) (rs : List subscribing.Report)
@@ -491,53 +543,83 @@ subscriber_bytes clock s (r ∷ rs) =
     record { peer = s.peer; bytes = subscriber_text.says s.conclusion.caller s.conclusion.initial (time_in s clock) r } ∷ ds)
     (subscriber_bytes clock s rs)
 
+-- what a session with keys of its own sends
+keyed_bytes : (s : Session) (os : List KeyedOutput) → datagrams_to s.peer (map keyed_text os) ≡ map sent (map (keyed_by s) os)
+keyed_bytes s [] = refl
+keyed_bytes s (o ∷ os) = ap (λ (ds : List Datagram). record { peer = s.peer; bytes = keyed_text o } ∷ ds) (keyed_bytes s os)
+
+-- the packets of a subscriber
+subscriber_packets : (keys : Option Keys) (e : Terms) (clock : ℕ) (s : Session) (m : subscribing.Subscribing) → s.past ≡ Subscribes m
+    → is_subscriber s ≡ true
+    → datagrams_to s.peer
+    (texts_under keys (terms_of e s).subscriber s.conclusion.caller s.conclusion.initial (time_in s clock) (is_recent s clock) m)
+    ≡ map sent (served_at false keys e clock s)
+subscriber_packets None e clock s m q test =
+    subscriber_bytes clock s (subscribing.reports (terms_of e s).subscriber (time_in s clock) (is_recent s clock) m)
+    ∙ ap (λ (past : Past). map sent (map (said_by (time_in s clock) s) (reports_of (terms_of e s) (time_in s clock) (is_recent s clock) past))) (sym q)
+    ∙ ap (λ (b : Bool). map sent (packets_at e b clock s)) (sym test)
+subscriber_packets (Some keys) e clock s m q test =
+    keyed_bytes s
+    (outputs_with keys (terms_of e s).subscriber s.conclusion.caller s.conclusion.initial (time_in s clock) (is_recent s clock) m)
+    ∙ ap
+    (λ (past : Past).
+    map sent
+    (map (keyed_by s)
+    (outputs_of keys (terms_of e s) s.conclusion.caller s.conclusion.initial (time_in s clock) (is_recent s clock) past)))
+    (sym q)
+    ∙ ap (λ (b : Bool). map sent (keyed_packets_at keys e b clock s)) (sym test)
+
+-- a session that doesn't subscribe is sent nothing
+none_served : (keys : Option Keys) (e : Terms) (clock : ℕ) (s : Session) → is_subscriber s ≡ false → served_at false keys e clock s ≡ []
+none_served None e clock s test = ap (λ (b : Bool). packets_at e b clock s) test
+none_served (Some keys) e clock s test = ap (λ (b : Bool). keyed_packets_at keys e b clock s) test
+
+pub subscribes_or_not : (s : Session) (b : Bool) → s.is_open ≡ true → publishes s.conclusion.role ≡ b → is_subscriber s ≡ not b
+subscribes_or_not s b opens r = ap (λ (d : Bool). d && not (publishes s.conclusion.role)) opens ∙ ap not r
+
 -- the packets of a slot
-pub place_said : (e : Terms) (index clock : ℕ) (p : Publisher) (x : Subscriber) (o : Option TheSession) (s : Session)
+pub place_said : (keys : Option Keys) (e : Terms) (index clock : ℕ) (p : Publisher) (x : Subscriber) (o : Option TheSession) (s : Session)
     (before later : List Reply) (places more : ℕ)
     → IsStored e index o (Some s) → IsSeated e clock p x s → s.is_open ≡ true → (subscribes o ≡ false → AreSaid before later places more [])
-    → Says clock o x before later places more
-    → AreSaid before later places more (map sent (packets_at e (is_subscriber s) clock s))
-place_said e index clock p x None s before later places more is seat opens silent says = absurd is
-place_said e index clock p x (Some t) s before later places more is seat opens silent says = by s.past refl seat.past_is
+    → Says keys clock o x before later places more
+    → AreSaid before later places more (map sent (served_at false keys e clock s))
+place_said keys e index clock p x None s before later places more is seat opens silent says = absurd is
+place_said keys e index clock p x (Some t) s before later places more is seat opens silent says = by s.past refl seat.past_is
   where
-    test : (b : Bool) → publishes s.conclusion.role ≡ b → is_subscriber s ≡ not b
-    test b r = ap (λ (d : Bool). d && not (publishes s.conclusion.role)) opens ∙ ap not r
-
     by : (past : Past) → s.past ≡ past → IsPast e clock p x s past
-        → AreSaid before later places more (map sent (packets_at e (is_subscriber s) clock s))
+        → AreSaid before later places more (map sent (served_at false keys e clock s))
     by (Publishes m) q h =
-        subst (λ (b : Bool). AreSaid before later places more (map sent (packets_at e b clock s))) (sym (test true h.0))
+        same_said (ap (λ (rs : List Answer). map sent rs) (sym (none_served keys e clock s (subscribes_or_not s true opens h.0))))
         (silent (publisher_subscribes e index t s is h.0))
     by (Subscribes m) q h =
         let terms = (terms_of e s).subscriber in
-        let recent = is_recent s clock in
-        let said : AreSaid before later places more
-        (datagrams_to t.peer
-        (map (subscriber_text.says s.conclusion.caller s.conclusion.initial (time_in s clock))
-        (subscribing.reports terms (time_in s clock) recent m))) =
-        subst
-        (λ (b : Bool). AreSaid before later places more
-        (datagrams_to t.peer
-        (map (subscriber_text.says s.conclusion.caller s.conclusion.initial (time_in s clock))
-        (subscribing.reports terms (time_in s clock) b m))))
-        (heard_recently e index clock t s is)
-        (says (subscriber_subscribes e index t s is h.0) t terms s.conclusion.initial s.opening s.conclusion.caller m refl h.1 h.2) in
-        subst (λ (b : Bool). AreSaid before later places more (map sent (packets_at e b clock s))) (sym (test false h.0))
-        (subst (λ (ds : List Datagram). AreSaid before later places more ds)
+        same_said
         (ap
         (λ (x : Peer). datagrams_to x
-        (map (subscriber_text.says s.conclusion.caller s.conclusion.initial (time_in s clock))
-        (subscribing.reports terms (time_in s clock) recent m)))
+        (texts_under keys terms t.caller s.conclusion.initial (clock - t.opened) (session_passes (is_heard_recently clock) (Some t)) m))
         is.peer_is
-        ∙ (subscriber_bytes clock s (subscribing.reports terms (time_in s clock) recent m)
-        ∙ ap (λ (past : Past). map sent (map (said_by (time_in s clock) s) (reports_of (terms_of e s) (time_in s clock) recent past))) (sym q)))
-        said)
+        ∙ ap
+        (λ (n : ℕ). datagrams_to s.peer
+        (texts_under keys terms n s.conclusion.initial (clock - t.opened) (session_passes (is_heard_recently clock) (Some t)) m))
+        is.caller_is
+        ∙ ap
+        (λ (n : ℕ). datagrams_to s.peer
+        (texts_under keys terms s.conclusion.caller s.conclusion.initial (clock - n) (session_passes (is_heard_recently clock) (Some t)) m))
+        is.opened_is
+        ∙ ap
+        (λ (b : Bool). datagrams_to s.peer
+        (texts_under keys terms s.conclusion.caller s.conclusion.initial (time_in s clock) b m))
+        (heard_recently e index clock t s is)
+        ∙ subscriber_packets keys e clock s m q (subscribes_or_not s false opens h.0))
+        (says (subscriber_subscribes e index t s is h.0) t refl terms s.conclusion.initial m (as_stored e index clock t s terms x m is h.1)
+        (still_fresh e index clock t s terms m is h.2))
 
-pub notified_becomes : (e : Terms) (index clock at : ℕ) (p : Publisher) (x y : Seat) (ss : List Session)
-    → IsSeat e index clock at p x ss → Changes (Tells clock) x y → Becomes (changed (after_subscriber e clock)) e index clock at p x y ss
-notified_becomes e index clock at p x y ss is h =
-    seat_becomes (Tells clock) (after_subscriber e clock) e index clock at p x y ss is h
-    (λ s found opens stored. notified_seat e index clock p x.subscriber y.subscriber x.session s stored (is.seated s found) opens is.wide h.stays h.changes)
+pub notified_becomes : (keys : Option Keys) (e : Terms) (index clock at : ℕ) (p : Publisher) (x y : Seat) (ss : List Session)
+    → IsSeat e index clock at p x ss → Changes (Tells keys clock) x y → Becomes (changed (after_subscriber keys e clock)) e index clock at p x y ss
+notified_becomes keys e index clock at p x y ss is h =
+    seat_becomes (Tells keys clock) (after_subscriber keys e clock) e index clock at p x y ss is h
+    (λ s found opens stored. notified_seat keys e index clock p x.subscriber y.subscriber x.session s stored (is.seated s found) opens is.wide
+    h.stays h.changes)
 
 -- the packets that the slots below `at` sent with those of the remaining slots are the packets of all
 pub record IsReported (e : Terms) (clock : ℕ) (test : Session → Bool) (at : ℕ) (ss : List Session) (before now : List Reply) (places more : ℕ) : Type 0 where
@@ -568,22 +650,6 @@ tell_slot e clock test ss at before now then_ places more most below says h =
         ≡ map sent (packets_of e clock test o) ++ said_from e clock test ss (at + 1) (e.sessions - (at + 1))
     next None found = said_vacant e clock test ss at (e.sessions - (at + 1)) found
     next (Some s) found = said_more e clock test ss at (e.sessions - (at + 1)) s found
-
-pub tell_step : (e : Terms) (index clock : ℕ) (p : Publisher) (ss : List Session) (at : ℕ) (x : Seat) (before now then_ : List Reply)
-    (places more most : ℕ)
-    → at < e.sessions → IsSeat e index clock at p x ss → (subscribes x.session ≡ false → AreSaid now then_ more most [])
-    → Says clock x.session x.subscriber now then_ more most → IsReported e clock is_subscriber at ss before now places more
-    → IsReported e clock is_subscriber (at + 1) ss before then_ places most
-tell_step e index clock p ss at x before now then_ places more most below is silent says h =
-    tell_slot e clock is_subscriber ss at before now then_ places more most below (place (find (is_open_in at) ss) refl) h
-  where
-    stored : (f : Option Session) → find (is_open_in at) ss ≡ f → IsStored e index x.session f
-    stored f found = subst (λ (g : Option Session). IsStored e index x.session g) found is.session_is
-
-    place : (f : Option Session) → find (is_open_in at) ss ≡ f → AreSaid now then_ more most (map sent (packets_of e clock is_subscriber f))
-    place None found = silent (vacant_subscribes e index x.session (stored None found))
-    place (Some s) found = place_said e index clock p x.subscriber x.session s now then_ more most (stored (Some s) found)
-        (is.seated s found) (is_there at ss s found).0 silent says
 
 -- `turn` packets of a subscriber were queued, and these remain
 pub record IsTelling (terms : subscribing.Terms) (initial opening caller clock : ℕ) (recent : Bool) (peer : Peer) (x : Subscriber)
@@ -653,27 +719,26 @@ never_so_many terms initial opening caller clock recent peer x m before now plac
     absurd (omega (arith, all, length-append h.gone h.left, h.count, many))
 
 -- the publishers' packets, and then the subscribers'
-pub both_reported : (draining : Bool) (terms : Agreed) (time : ℕ) (recent : Bool) (past : Past)
-    → subscriber_reported terms time recent (publisher_reported draining terms time past) ≡ reported_past draining terms time recent past
-both_reported draining terms time recent (Publishes p) = refl
-both_reported draining terms time recent (Subscribes m) = refl
+pub both_reported : (keys : Option Keys) (draining : Bool) (terms : Agreed) (time : ℕ) (recent : Bool) (past : Past)
+    → subscriber_reported keys terms time recent (publisher_reported draining terms time past) ≡ reported_past keys draining terms time recent past
+both_reported keys draining terms time recent (Publishes p) = refl
+both_reported keys draining terms time recent (Subscribes m) = refl
 
 -- the publishers' packets don't change what the subscribers are sent
-abbrev pub notified_of : Terms → (clock : ℕ) → Session → List Answer
-notified_of e clock s = packets_at e (is_subscriber s) clock s
-
-pub later_packets : (e : Terms) (clock : ℕ) (p : Publisher) (x : Subscriber) (s : Session)
-    → s.is_open ≡ true → IsSeated e clock p x s → notified_of e clock (changed (after_publisher e clock) s) ≡ notified_of e clock s
-later_packets e clock p x s opens seat = by s.past refl seat.past_is
+pub later_packets : (keys : Option Keys) (e : Terms) (clock : ℕ) (p : Publisher) (x : Subscriber) (s : Session)
+    → s.is_open ≡ true → IsSeated e clock p x s
+    → served_at false keys e clock (changed (after_publisher e clock) s) ≡ served_at false keys e clock s
+later_packets keys e clock p x s opens seat = by s.past refl seat.past_is
   where
-    by : (past : Past) → s.past ≡ past → IsPast e clock p x s past → notified_of e clock (changed (after_publisher e clock) s) ≡ notified_of e clock s
+    by : (past : Past) → s.past ≡ past → IsPast e clock p x s past
+        → served_at false keys e clock (changed (after_publisher e clock) s) ≡ served_at false keys e clock s
     by (Publishes m) q h =
-        let silent : is_subscriber s ≡ false = ap (λ (b : Bool). b && not (publishes s.conclusion.role)) opens ∙ ap not h.0 in
-        ap (notified_of e clock) (changed_is s (after_publisher e clock) (after_publisher e clock s) opens refl)
-        ∙ (ap (λ (b : Bool). packets_at e b clock (record s { past = after_publisher e clock s })) silent
-        ∙ sym (ap (λ (b : Bool). packets_at e b clock s) silent))
+        let t : Session = record s { past = after_publisher e clock s } in
+        ap (served_at false keys e clock) (changed_is s (after_publisher e clock) (after_publisher e clock s) opens refl)
+        ∙ (none_served keys e clock t (subscribes_or_not s true opens h.0)
+        ∙ sym (none_served keys e clock s (subscribes_or_not s true opens h.0)))
     by (Subscribes m) q h =
-        ap (notified_of e clock) (changed_is s (after_publisher e clock) s.past opens (ap (publisher_reported (is_draining s) (terms_of e s)
+        ap (served_at false keys e clock) (changed_is s (after_publisher e clock) s.past opens (ap (publisher_reported (is_draining s) (terms_of e s)
         (time_in s clock)) q ∙ sym q))
 
 pub same_from : (e : Terms) (clock : ℕ) (f : Session → List Answer) (ss : List Session) (from count : ℕ)

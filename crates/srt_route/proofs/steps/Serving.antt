@@ -1,7 +1,8 @@
 -- Step 6: the subscribers' packets, and the sessions that end with a file.
-use Rattle.std.proofs.Common.{◌≡◌, ℕ, ◌+◌, ◌<◌, ◌≤◌, ◌&&◌, Bool, true, false, cond, Option, None, Some, List, [], ◌∷◌, map, find, length, not, refl}
+use Rattle.std.proofs.Common.{◌≡◌, ℕ, ◌+◌, ◌-◌, ◌<◌, ◌≤◌, ◌&&◌, Bool, true, false, cond, Option, None, Some, List, [], ◌∷◌, map, find, length, not, refl}
 use Rattle.std.proofs.Common.{sym, ap, subst, ◌∙◌, inl, inr, arith}
 use Rattle.std.proofs.lemmas.Bool.{and_parts, cases_lt, cases_eq}
+use Rattle.std.specs.Option.{option_map}
 use Rattle.srt_types.specs.Terms.{Terms}
 use Rattle.srt_pub.specs.declared.session.Publisher.{Publisher}
 use Rattle.srt_sub.specs.declared.session.Subscriber.{Subscriber}
@@ -16,7 +17,11 @@ use Rattle.srt_route.specs.Past.{Past, Publishes, Subscribes, Agreed, has_all}
 use Rattle.srt_route.specs.Sessions.{Session, is_active, is_draining, is_open_in, publishes, is_recent, is_subscriber, reported, reported_at, terms_of}
 use Rattle.srt_route.specs.Sessions.{time_in}
 use Rattle.srt_route.specs.Route.{Reply as Answer, ended, finished, finished_at, has_whole_file, is_file_over, sent, served}
-use Rattle.srt_route.specs.Route.{served_at, shutdown_to}
+use Rattle.srt_route.specs.Route.{keys_in_slot, keys_said, keys_served, served_at, shutdown_to}
+use Rattle.srt_session_keys.specs.Subscriber.{Subscriber as Keys}
+use Rattle.srt_sub.specs.Stands as subscribers
+use Rattle.srt_sub.specs.Subscribing as subscribing
+use Rattle.srt_route.specs.RouteKeys.{RouteKeys, SlotKeys, own_keys}
 use Rattle.srt_route.specs.Ends.{EndsAre, EndsFor, EndsIn, cause_in, cause_of_slot, file_ending, kept_of}
 use Rattle.srt_route.specs.Ledgers.{entry_of, file_cause}
 use Rattle.srt_route.specs.Totals.{sums_to}
@@ -24,53 +29,58 @@ use Rattle.srt_route.specs.declared.publisher_buffers.PublisherBuffers.{Publishe
 use Rattle.srt_route.specs.inside.Notes.{NotesAt, cause_if}
 use Rattle.srt_route.specs.inside.Notes.{TellsOf as TellsEndOf}
 use Rattle.srt_route.specs.inside.Standby.{is_active_by}
-use Rattle.srt_route.specs.Buffers.{IsSeated}
+use Rattle.srt_route.specs.Buffers.{IsPast, IsSeated}
 use Rattle.srt_route.specs.Parts.{role_of}
-use Rattle.srt_route.specs.Tables.{buffers_of, IsStored, IsSeat, IsTable, with_stored}
+use Rattle.srt_route.specs.Tables.{buffers_of, has_subscriber, IsStored, IsSeat, IsTable, with_stored}
 use Rattle.srt_route.specs.Waits.{replies_of, places_of}
 use Rattle.srt_route.specs.inside.Delivery.{changed, after_publisher, after_subscriber, publisher_reported}
-use Rattle.srt_route.specs.inside.Files.{HasWhole, SeatEnds, SeatServed, finished_subscriber, finished_subscriber_at, whole_in}
+use Rattle.srt_route.specs.inside.Files.{HasWhole, SeatEnds, SeatServed, SeatServedWith, finished_subscriber, finished_subscriber_at, whole_in}
 use Rattle.srt_route.specs.inside.OneSession.{shutdowns_to}
-use Rattle.srt_route.specs.inside.Reports.{AreSaid}
-use Rattle.srt_route.proofs.model.Changes.{is_there, keeps_changed, marks_changed}
+use Rattle.srt_route.specs.inside.Reports.{AreSaid, Queues}
+use Rattle.srt_route.proofs.model.Changes.{find_changed, is_there, keeps_changed, marks_changed}
 use Rattle.srt_route.proofs.model.Ending.{stored_shutdown}
 use Rattle.srt_route.proofs.model.FileEnds.{over_after, whole_after, whole_subscribes}
 use Rattle.srt_route.proofs.model.Found.{Keeps, changed as becomes, while_open}
 use Rattle.srt_route.proofs.model.Lists.{map_twice}
 use Rattle.srt_route.proofs.model.TakeOver.{KeepsMarks}
 use Rattle.srt_route.proofs.stored.Kept.{Becomes, below_seats}
-use Rattle.srt_route.proofs.steps.Feeding.{Changes, changed_is, vacant_subscribes}
+use Rattle.srt_route.proofs.steps.Feeding.{Changes, changed_is, publisher_subscribes, subscribes, subscriber_subscribes, vacant_subscribes}
 use Rattle.srt_route.proofs.steps.Passing.{seat_of}
-use Rattle.srt_route.proofs.steps.Saying.{Tells, both_reported, later_packets, place_said, same_from, same_said, notified_becomes}
+use Rattle.srt_route.proofs.steps.Saying.{Says, Tells, as_stored, still_fresh, both_reported, later_packets, place_said, same_from, same_said, notified_becomes}
 use Rattle.srt_route.proofs.steps.Slots.{IsSaying, said_of, saying_more}
 use Rattle.srt_route.proofs.steps.Noting.{one_summed}
 use Rattle.srt_route.proofs.steps.Notified.{end_for, nothing_notified}
 
 -- the packets of a session
-abbrev pub serving : Terms → (clock : ℕ) → (over : Bool) → Session → List Answer
-serving e clock over s = served_at (has_whole_file over s) e clock s
+abbrev pub serving : (own : ℕ → Option Keys) → Terms → (clock : ℕ) → (over : Bool) → Session → List Answer
+serving own e clock over s = served_at (has_whole_file over s) (own s.slot) e clock s
 
-later_served : (e : Terms) (clock : ℕ) (over : Bool) (p : Publisher) (x : Subscriber) (s : Session)
-    → s.is_open ≡ true → IsSeated e clock p x s → serving e clock over (changed (after_publisher e clock) s) ≡ serving e clock over s
-later_served e clock over p x s opens seat =
-    ap (λ (b : Bool). served_at b e clock (changed (after_publisher e clock) s)) (whole_after e clock over s) ∙ by (has_whole_file over s)
+later_served : (own : ℕ → Option Keys) (e : Terms) (clock : ℕ) (over : Bool) (p : Publisher) (x : Subscriber) (s : Session)
+    → s.is_open ≡ true → IsSeated e clock p x s → serving own e clock over (changed (after_publisher e clock) s) ≡ serving own e clock over s
+later_served own e clock over p x s opens seat =
+    ap (λ (b : Bool). served_at b (own later.slot) e clock later) (whole_after e clock over s)
+    ∙ ap (λ (n : ℕ). served_at (has_whole_file over s) (own n) e clock later) ((keeps_changed (after_publisher e clock)).slot s)
+    ∙ by (has_whole_file over s)
   where
+    later : Session
+    later = changed (after_publisher e clock) s
+
     shut : (b : Bool) → shutdown_to clock (cond b (record s { past = after_publisher e clock s }) s) ≡ shutdown_to clock s
     shut true = refl
     shut false = refl
 
-    by : (b : Bool) → served_at b e clock (changed (after_publisher e clock) s) ≡ served_at b e clock s
+    by : (b : Bool) → served_at b (own s.slot) e clock (changed (after_publisher e clock) s) ≡ served_at b (own s.slot) e clock s
     by true = ap (λ (r : Answer). r ∷ []) (shut s.is_open)
-    by false = later_packets e clock p x s opens seat
+    by false = later_packets (own s.slot) e clock p x s opens seat
 
-pub same_served : (e : Terms) (index clock : ℕ) (table : Table) (ss : List Session) → IsTable e index clock table ss
-    → served e clock (is_file_over e (map (changed (after_publisher e clock)) ss)) (map (changed (after_publisher e clock)) ss)
-    ≡ served e clock (is_file_over e ss) ss
-same_served e index clock table ss body =
-    ap (λ (over : Bool). served e clock over (map (changed (after_publisher e clock)) ss)) (over_after e clock ss)
-    ∙ same_from e clock (serving e clock (is_file_over e ss)) ss 0 e.sessions
+pub same_served : (own : ℕ → Option Keys) (e : Terms) (index clock : ℕ) (table : Table) (ss : List Session) → IsTable e index clock table ss
+    → served own e clock (is_file_over e (map (changed (after_publisher e clock)) ss)) (map (changed (after_publisher e clock)) ss)
+    ≡ served own e clock (is_file_over e ss) ss
+same_served own e index clock table ss body =
+    ap (λ (over : Bool). served own e clock over (map (changed (after_publisher e clock)) ss)) (over_after e clock ss)
+    ∙ same_from e clock (serving own e clock (is_file_over e ss)) ss 0 e.sessions
     (λ k t is. let seat = seat_of e index clock table ss body k t is in
-    later_served e clock (is_file_over e ss) seat.0 seat.1 t (is_there k ss t is).0 seat.2)
+    later_served own e clock (is_file_over e ss) seat.0 seat.1 t (is_there k ss t is).0 seat.2)
 
 -- the sessions after both
 same_past : (draining : Bool) (terms : Agreed) (time : ℕ) (past : Past) → has_all past ≡ true → publisher_reported draining terms time past ≡ past
@@ -84,55 +94,95 @@ whole_has_all over s h = by (over && is_subscriber s && s.file_ended) h
     by true k = k
     by false k = absurd (let bad : false ≡ true = k in cc)
 
-one_finished : (e : Terms) (clock : ℕ) (over : Bool) (s : Session)
-    → finished_subscriber e clock over (changed (after_publisher e clock) s) ≡ finished e clock over s
-one_finished e clock over s =
-    ap (λ (b : Bool). finished_subscriber_at b e clock (changed (after_publisher e clock) s)) (whole_after e clock over s)
+one_finished : (own : ℕ → Option Keys) (e : Terms) (clock : ℕ) (over : Bool) (s : Session)
+    → finished_subscriber own e clock over (changed (after_publisher e clock) s) ≡ finished own e clock over s
+one_finished own e clock over s =
+    ap (λ (b : Bool). finished_subscriber_at b (own later.slot) e clock later) (whole_after e clock over s)
+    ∙ ap (λ (n : ℕ). finished_subscriber_at (has_whole_file over s) (own n) e clock later) ((keeps_changed (after_publisher e clock)).slot s)
     ∙ by (has_whole_file over s) refl
   where
+    later : Session
+    later = changed (after_publisher e clock) s
+
+    keys : Option Keys
+    keys = own s.slot
+
     shut : (b : Bool) → has_all s.past ≡ true → ended (cond b (record s { past = after_publisher e clock s }) s) ≡ ended s
     shut true h = ap (λ (p : Past). ended (record s { past = p })) (same_past (is_draining s) (terms_of e s) (time_in s clock) s.past h)
     shut false h = refl
 
-    both : (b : Bool) → s.is_open ≡ b → changed (after_subscriber e clock) (changed (after_publisher e clock) s) ≡ reported e clock s
+    both : (b : Bool) → s.is_open ≡ b → changed (after_subscriber keys e clock) (changed (after_publisher e clock) s) ≡ reported keys e clock s
     both true o =
         let first = changed_is s (after_publisher e clock) (after_publisher e clock s) o refl in
         let t : Session = record s { past = after_publisher e clock s } in
-        ap (changed (after_subscriber e clock)) first
-        ∙ changed_is t (after_subscriber e clock) (after_subscriber e clock t) o refl
-        ∙ ap (λ (p : Past). record s { past = p }) (both_reported (is_draining s) (terms_of e s) (time_in s clock) (is_recent s clock) s.past)
-        ∙ sym (ap (λ (b : Bool). reported_at e b clock s) o)
+        ap (changed (after_subscriber keys e clock)) first
+        ∙ changed_is t (after_subscriber keys e clock) (after_subscriber keys e clock t) o refl
+        ∙ ap (λ (p : Past). record s { past = p }) (both_reported keys (is_draining s) (terms_of e s) (time_in s clock) (is_recent s clock) s.past)
+        ∙ sym (ap (λ (b : Bool). reported_at keys e b clock s) o)
     both false o =
         let first : changed (after_publisher e clock) s ≡ s = ap (λ (b : Bool). cond b (record s { past = after_publisher e clock s }) s) o in
-        ap (changed (after_subscriber e clock)) first
-        ∙ ap (λ (b : Bool). cond b (record s { past = after_subscriber e clock s }) s) o
-        ∙ sym (ap (λ (b : Bool). reported_at e b clock s) o)
+        ap (changed (after_subscriber keys e clock)) first
+        ∙ ap (λ (b : Bool). cond b (record s { past = after_subscriber keys e clock s }) s) o
+        ∙ sym (ap (λ (b : Bool). reported_at keys e b clock s) o)
 
     by : (b : Bool) → has_whole_file over s ≡ b
-        → finished_subscriber_at b e clock (changed (after_publisher e clock) s) ≡ finished_at b e clock s
+        → finished_subscriber_at b keys e clock (changed (after_publisher e clock) s) ≡ finished_at b keys e clock s
     by true is = shut s.is_open (whole_has_all over s is)
     by false is = both s.is_open refl
 
-each_finished : (e : Terms) (clock : ℕ) (over : Bool) (ss : List Session)
-    → map (λ s. finished_subscriber e clock over (changed (after_publisher e clock) s)) ss ≡ map (finished e clock over) ss
-each_finished e clock over [] = refl
-each_finished e clock over (s ∷ ss) =
+each_finished : (own : ℕ → Option Keys) (e : Terms) (clock : ℕ) (over : Bool) (ss : List Session)
+    → map (λ s. finished_subscriber own e clock over (changed (after_publisher e clock) s)) ss ≡ map (finished own e clock over) ss
+each_finished own e clock over [] = refl
+each_finished own e clock over (s ∷ ss) =
     ap
-    (λ (t : Session). t ∷ map (λ s. finished_subscriber e clock over (changed (after_publisher e clock) s)) ss)
-    (one_finished e clock over s)
-    ∙ ap (λ (ts : List Session). finished e clock over s ∷ ts) (each_finished e clock over ss)
+    (λ (t : Session). t ∷ map (λ s. finished_subscriber own e clock over (changed (after_publisher e clock) s)) ss)
+    (one_finished own e clock over s)
+    ∙ ap (λ (ts : List Session). finished own e clock over s ∷ ts) (each_finished own e clock over ss)
 
-pub all_finished : (e : Terms) (clock : ℕ) (ss : List Session)
-    → map (finished_subscriber e clock (is_file_over e (map (changed (after_publisher e clock)) ss))) (map (changed (after_publisher e clock)) ss)
-    ≡ map (finished e clock (is_file_over e ss)) ss
-all_finished e clock ss =
-    ap (λ (over : Bool). map (finished_subscriber e clock over) (map (changed (after_publisher e clock)) ss)) (over_after e clock ss)
-    ∙ map_twice (changed (after_publisher e clock)) (finished_subscriber e clock (is_file_over e ss)) ss
-    ∙ each_finished e clock (is_file_over e ss) ss
+pub all_finished : (own : ℕ → Option Keys) (e : Terms) (clock : ℕ) (ss : List Session)
+    → map (finished_subscriber own e clock (is_file_over e (map (changed (after_publisher e clock)) ss))) (map (changed (after_publisher e clock)) ss)
+    ≡ map (finished own e clock (is_file_over e ss)) ss
+all_finished own e clock ss =
+    ap (λ (over : Bool). map (finished_subscriber own e clock over) (map (changed (after_publisher e clock)) ss)) (over_after e clock ss)
+    ∙ map_twice (changed (after_publisher e clock)) (finished_subscriber own e clock (is_file_over e ss)) ss
+    ∙ each_finished own e clock (is_file_over e ss) ss
+
+-- the keys after both: the publishers' packets announce nothing
+said_after : (draining : Bool) (terms : Agreed) (time now : ℕ) (past : Past) (k : SlotKeys)
+    → keys_said now (publisher_reported draining terms time past) k ≡ keys_said now past k
+said_after draining terms time now (Publishes p) k = refl
+said_after draining terms time now (Subscribes m) k = refl
+
+served_after : (e : Terms) (clock : ℕ) (over : Bool) (s : Session) (k : SlotKeys)
+    → keys_served (has_whole_file over (changed (after_publisher e clock) s)) clock (changed (after_publisher e clock) s) k
+    ≡ keys_served (has_whole_file over s) clock s k
+served_after e clock over s k =
+    ap (λ (b : Bool). keys_served b clock (changed (after_publisher e clock) s) k) (whole_after e clock over s) ∙ by (has_whole_file over s) s.is_open
+  where
+    by : (w b : Bool) → keys_served w clock (cond b (record s { past = after_publisher e clock s }) s) k ≡ keys_served w clock s k
+    by true true = refl
+    by true false = refl
+    by false true = said_after (is_draining s) (terms_of e s) (time_in s clock) (time_in s clock) s.past k
+    by false false = refl
+
+slot_after : (e : Terms) (clock : ℕ) (over : Bool) (o : Option Session) (k : SlotKeys)
+    → keys_in_slot clock over (option_map (changed (after_publisher e clock)) o) k ≡ keys_in_slot clock over o k
+slot_after e clock over None k = refl
+slot_after e clock over (Some s) k = served_after e clock over s k
+
+pub keys_after : (e : Terms) (clock : ℕ) (ss : List Session) (keys : RouteKeys) (slot : ℕ)
+    → let later = map (changed (after_publisher e clock)) ss in
+    keys_in_slot clock (is_file_over e later) (find (is_open_in slot) later) (keys.held slot)
+    ≡ keys_in_slot clock (is_file_over e ss) (find (is_open_in slot) ss) (keys.held slot)
+keys_after e clock ss keys slot =
+    let later = map (changed (after_publisher e clock)) ss in
+    ap (λ (over : Bool). keys_in_slot clock over (find (is_open_in slot) later) (keys.held slot)) (over_after e clock ss)
+    ∙ ap (λ (o : Option Session). keys_in_slot clock (is_file_over e ss) o (keys.held slot)) (find_changed (after_publisher e clock) slot ss)
+    ∙ slot_after e clock (is_file_over e ss) (find (is_open_in slot) ss) (keys.held slot)
 
 -- what the end of a file and a subscriber's packets keep
-pub finishes_subscribers : (e : Terms) (clock : ℕ) (over : Bool) → Keeps (finished_subscriber e clock over)
-finishes_subscribers e clock over =
+pub finishes_subscribers : (own : ℕ → Option Keys) (e : Terms) (clock : ℕ) (over : Bool) → Keeps (finished_subscriber own e clock over)
+finishes_subscribers own e clock over =
     record {
       slot = λ s. slot_of s (has_whole_file over s);
       peer = λ s. peer_of s (has_whole_file over s);
@@ -141,42 +191,42 @@ finishes_subscribers e clock over =
       drains_on = λ s. drains_of s (has_whole_file over s);
     }
   where
-    others : Keeps (changed (after_subscriber e clock))
-    others = keeps_changed (after_subscriber e clock)
+    others : (keys : Option Keys) → Keeps (changed (after_subscriber keys e clock))
+    others keys = keeps_changed (after_subscriber keys e clock)
 
-    slot_of : (s : Session) (b : Bool) → (finished_subscriber_at b e clock s).slot ≡ s.slot
+    slot_of : (s : Session) (b : Bool) → (finished_subscriber_at b (own s.slot) e clock s).slot ≡ s.slot
     slot_of s true = refl
-    slot_of s false = others.slot s
+    slot_of s false = (others (own s.slot)).slot s
 
-    peer_of : (s : Session) (b : Bool) → (finished_subscriber_at b e clock s).peer ≡ s.peer
+    peer_of : (s : Session) (b : Bool) → (finished_subscriber_at b (own s.slot) e clock s).peer ≡ s.peer
     peer_of s true = refl
-    peer_of s false = others.peer s
+    peer_of s false = (others (own s.slot)).peer s
 
-    conclusion_of : (s : Session) (b : Bool) → (finished_subscriber_at b e clock s).conclusion ≡ s.conclusion
+    conclusion_of : (s : Session) (b : Bool) → (finished_subscriber_at b (own s.slot) e clock s).conclusion ≡ s.conclusion
     conclusion_of s true = refl
-    conclusion_of s false = others.conclusion s
+    conclusion_of s false = (others (own s.slot)).conclusion s
 
-    drains_of : (s : Session) (b : Bool) → is_draining (finished_subscriber_at b e clock s) ≡ false → is_draining s ≡ false
+    drains_of : (s : Session) (b : Bool) → is_draining (finished_subscriber_at b (own s.slot) e clock s) ≡ false → is_draining s ≡ false
     drains_of s true h = h
-    drains_of s false h = others.drains_on s h
+    drains_of s false h = (others (own s.slot)).drains_on s h
 
-    opens_of : (s : Session) (b : Bool) → (finished_subscriber_at b e clock s).is_open ≡ true → s.is_open ≡ true
+    opens_of : (s : Session) (b : Bool) → (finished_subscriber_at b (own s.slot) e clock s).is_open ≡ true → s.is_open ≡ true
     opens_of s true h = absurd (let bad : false ≡ true = h in cc)
-    opens_of s false h = others.opens_none s h
+    opens_of s false h = (others (own s.slot)).opens_none s h
 
-pub finishes_subscribers_marks : (e : Terms) (clock : ℕ) (over : Bool) → KeepsMarks (finished_subscriber e clock over)
-finishes_subscribers_marks e clock over s = by (has_whole_file over s)
+pub finishes_subscribers_marks : (own : ℕ → Option Keys) (e : Terms) (clock : ℕ) (over : Bool) → KeepsMarks (finished_subscriber own e clock over)
+finishes_subscribers_marks own e clock over s = by (has_whole_file over s)
   where
-    by : (b : Bool) → (finished_subscriber_at b e clock s).took_over ≡ s.took_over
+    by : (b : Bool) → (finished_subscriber_at b (own s.slot) e clock s).took_over ≡ s.took_over
     by true = refl
-    by false = marks_changed (after_subscriber e clock) s
+    by false = marks_changed (after_subscriber (own s.slot) e clock) s
 
--- a seat that was served
-pub record Serves (clock : ℕ) (over : Bool) (x y : Seat) : Type 0 where
+-- a seat that was served, whose slot has these keys of its own
+pub record Serves (keys : Option Keys) (clock : ℕ) (over : Bool) (x y : Seat) : Type 0 where
   pub whole : Bool
   pub whole_is : HasWhole over x whole
   pub ends : whole ≡ true → y ≡ with_stored None x
-  pub stays : whole ≡ false → Changes (Tells clock) x y
+  pub stays : whole ≡ false → Changes (Tells keys clock) x y
 
 same_becomes : (f g : Session → Session) (e : Terms) (index clock at : ℕ) (p : Publisher) (x y : Seat) (ss : List Session)
     → ((s : Session) → find (is_open_in at) ss ≡ Some s → f s ≡ g s) → Becomes g e index clock at p x y ss → Becomes f e index clock at p x y ss
@@ -195,24 +245,28 @@ same_becomes f g e index clock at p x y ss same h =
     by None found = refl
     by (Some s) found = ap while_open (same s found)
 
-pub served_becomes : (e : Terms) (index clock : ℕ) (over : Bool) (at : ℕ) (p : Publisher) (x y : Seat) (ss : List Session)
-    → IsSeat e index clock at p x ss → Serves clock over x y → Becomes (finished_subscriber e clock over) e index clock at p x y ss
-served_becomes e index clock over at p x y ss is h = by h.whole (h.whole_is e index clock at p ss is) h.ends h.stays
+pub served_becomes : (own : ℕ → Option Keys) (keys : Option Keys) (e : Terms) (index clock : ℕ) (over : Bool) (at : ℕ) (p : Publisher) (x y : Seat)
+    (ss : List Session)
+    → own at ≡ keys → IsSeat e index clock at p x ss → Serves keys clock over x y → Becomes (finished_subscriber own e clock over) e index clock at p x y ss
+served_becomes own keys e index clock over at p x y ss mine is h = by h.whole (h.whole_is e index clock at p ss is) h.ends h.stays
   where
     in_slot : (b : Bool) → b ≡ whole_in over (find (is_open_in at) ss) → (s : Session) → find (is_open_in at) ss ≡ Some s
-        → finished_subscriber e clock over s ≡ finished_subscriber_at b e clock s
-    in_slot b whole s found = ap (λ (d : Bool). finished_subscriber_at d e clock s) (sym (whole ∙ ap (whole_in over) found))
+        → finished_subscriber own e clock over s ≡ finished_subscriber_at b keys e clock s
+    in_slot b whole s found =
+        ap (λ (d : Bool). finished_subscriber_at d (own s.slot) e clock s) (sym (whole ∙ ap (whole_in over) found))
+        ∙ ap (λ (k : Option Keys). finished_subscriber_at b k e clock s) (ap own (is_there at ss s found).1 ∙ mine)
 
     closes : (o : Option Session) → find (is_open_in at) ss ≡ o → true ≡ whole_in over (find (is_open_in at) ss)
-        → IsStored e index None (becomes (finished_subscriber e clock over) o)
+        → IsStored e index None (becomes (finished_subscriber own e clock over) o)
     closes None found whole = tt
     closes (Some s) found whole =
         subst (λ (t : Session). IsStored e index None (while_open t)) (sym (in_slot true whole s found)) tt
 
-    by : (b : Bool) → b ≡ whole_in over (find (is_open_in at) ss) → (b ≡ true → y ≡ with_stored None x) → (b ≡ false → Changes (Tells clock) x y)
-        → Becomes (finished_subscriber e clock over) e index clock at p x y ss
+    by : (b : Bool) → b ≡ whole_in over (find (is_open_in at) ss) → (b ≡ true → y ≡ with_stored None x)
+        → (b ≡ false → Changes (Tells keys clock) x y)
+        → Becomes (finished_subscriber own e clock over) e index clock at p x y ss
     by true whole ends stays =
-        subst (λ (z : Seat). Becomes (finished_subscriber e clock over) e index clock at p x z ss) (sym (ends refl))
+        subst (λ (z : Seat). Becomes (finished_subscriber own e clock over) e index clock at p x z ss) (sym (ends refl))
         (record {
           count_is = refl;
           session_is = closes (find (is_open_in at) ss) refl whole;
@@ -222,21 +276,50 @@ served_becomes e index clock over at p x y ss is h = by h.whole (h.whole_is e in
               absurd (let bad : false ≡ true = sym (ap (λ (t : Session). t.is_open) (in_slot true whole s found)) ∙ opens in cc);
         })
     by false whole ends stays =
-        same_becomes (finished_subscriber e clock over) (changed (after_subscriber e clock)) e index clock at p x y ss
-        (λ s found. in_slot false whole s found) (notified_becomes e index clock at p x y ss is (stays refl))
+        same_becomes (finished_subscriber own e clock over) (changed (after_subscriber keys e clock)) e index clock at p x y ss
+        (λ s found. in_slot false whole s found) (notified_becomes keys e index clock at p x y ss is (stays refl))
 
-pub stays_served : (clock : ℕ) (x y : Seat) (before later : ReplyQueue) → SeatServed clock x y before later → Changes (Tells clock) x y
-stays_served clock x y before later h = record { count_is = h.generation; session_is = h.session; stays = h.none; changes = h.stands }
+-- a seat without keys
+pub stays_served : (clock : ℕ) (x y : Seat) (before later : ReplyQueue) → SeatServed clock x y before later → Changes (Tells None clock) x y
+stays_served clock x y before later h =
+    record {
+      count_is = h.generation;
+      session_is = h.session;
+      stays = h.none;
+      changes = λ is t stored terms initial m stands fresh. h.stands is terms initial t.opened t.caller m stands fresh;
+    }
+
+pub clear_says : (clock : ℕ) (x y : Seat) (now then_ : ReplyQueue) → SeatServed clock x y now then_
+    → Says None clock x.session x.subscriber (replies_of now) (replies_of then_) (places_of now) (places_of then_)
+clear_says clock x y now then_ h is t stored terms initial m stands fresh = h.said is t stored terms initial t.opened t.caller m stands fresh
+
+-- a seat with the keys of its slot
+pub keyed_stays : (clock : ℕ) (earlier later : SlotKeys) (x y : Seat) (now then_ : ReplyQueue) → SeatServedWith clock earlier later x y now then_
+    → Changes (Tells (own_keys earlier) clock) x y
+keyed_stays clock earlier later x y now then_ h =
+    record {
+      count_is = h.generation;
+      session_is = h.session;
+      stays = h.none;
+      changes = λ is t stored terms initial m stands fresh. (h.transmits is t stored terms initial t.opened m stands fresh refl).stands;
+    }
+
+pub keyed_says : (clock : ℕ) (earlier later : SlotKeys) (x y : Seat) (now then_ : ReplyQueue) → SeatServedWith clock earlier later x y now then_
+    → Says (own_keys earlier) clock x.session x.subscriber (replies_of now) (replies_of then_) (places_of now) (places_of then_)
+keyed_says clock earlier later x y now then_ h is t stored terms initial m stands fresh =
+    (h.transmits is t stored terms initial t.opened m stands fresh refl).said
 
 -- the packets of its slot
-pub serve_slot : (e : Terms) (index clock : ℕ) (over : Bool) (p : Publisher) (ss : List Session) (at : ℕ) (x y : Seat) (whole : Bool)
-    (before : List Reply) (places : ℕ) (now then_ : ReplyQueue)
-    → at < e.sessions → IsSeat e index clock at p x ss → HasWhole over x whole → (whole ≡ true → SeatEnds clock x y now then_)
-    → (whole ≡ false → SeatServed clock x y now then_) → IsSaying (serving e clock over) e at ss before (replies_of now) places (places_of now)
-    → IsSaying (serving e clock over) e (at + 1) ss before (replies_of then_) places (places_of then_)
-serve_slot e index clock over p ss at x y whole before places now then_ below is has ends serves h =
-    saying_more (serving e clock over) e ss at before (replies_of now) (replies_of then_) places (places_of now) (places_of then_) below
-    (by (find (is_open_in at) ss) refl whole (has e index clock at p ss is) ends serves) h
+pub serve_slot : (own : ℕ → Option Keys) (keys : Option Keys) (e : Terms) (index clock : ℕ) (over : Bool) (p : Publisher) (ss : List Session)
+    (at : ℕ) (x y : Seat) (whole : Bool) (before : List Reply) (places : ℕ) (now then_ : ReplyQueue)
+    → own at ≡ keys → at < e.sessions → IsSeat e index clock at p x ss → HasWhole over x whole → (whole ≡ true → SeatEnds clock x y now then_)
+    → (whole ≡ false → has_subscriber x ≡ false → Queues now then_ [])
+    → (whole ≡ false → Says keys clock x.session x.subscriber (replies_of now) (replies_of then_) (places_of now) (places_of then_))
+    → IsSaying (serving own e clock over) e at ss before (replies_of now) places (places_of now)
+    → IsSaying (serving own e clock over) e (at + 1) ss before (replies_of then_) places (places_of then_)
+serve_slot own keys e index clock over p ss at x y whole before places now then_ mine below is has ends silent serves h =
+    saying_more (serving own e clock over) e ss at before (replies_of now) (replies_of then_) places (places_of now) (places_of then_) below
+    (by (find (is_open_in at) ss) refl whole (has e index clock at p ss is) ends silent serves) h
   where
     stored : (f : Option Session) → find (is_open_in at) ss ≡ f → IsStored e index x.session f
     stored f found = subst (λ (g : Option Session). IsStored e index x.session g) found is.session_is
@@ -245,22 +328,80 @@ serve_slot e index clock over p ss at x y whole before places now then_ below is
     shut None s k = absurd k
     shut (Some t) s k = stored_shutdown e index clock t s k
 
+    in_slot : (b : Bool) → b ≡ whole_in over (find (is_open_in at) ss) → (s : Session) → find (is_open_in at) ss ≡ Some s
+        → map sent (served_at b keys e clock s) ≡ map sent (serving own e clock over s)
+    in_slot b it s found =
+        ap (λ (d : Bool). map sent (served_at d keys e clock s)) (it ∙ ap (whole_in over) found)
+        ∙ ap (λ (k : Option Keys). map sent (served_at (has_whole_file over s) k e clock s)) (sym (ap own (is_there at ss s found).1 ∙ mine))
+
     by : (f : Option Session) → find (is_open_in at) ss ≡ f → (b : Bool) → b ≡ whole_in over (find (is_open_in at) ss)
-        → (b ≡ true → SeatEnds clock x y now then_) → (b ≡ false → SeatServed clock x y now then_)
-        → AreSaid (replies_of now) (replies_of then_) (places_of now) (places_of then_) (map sent (said_of (serving e clock over) f))
-    by None found true it ends serves = absurd (let bad : true ≡ false = it ∙ ap (whole_in over) found in cc)
-    by None found false it ends serves = (serves refl).silent (vacant_subscribes e index x.session (stored None found))
-    by (Some s) found true it ends serves =
+        → (b ≡ true → SeatEnds clock x y now then_) → (b ≡ false → has_subscriber x ≡ false → Queues now then_ [])
+        → (b ≡ false → Says keys clock x.session x.subscriber (replies_of now) (replies_of then_) (places_of now) (places_of then_))
+        → AreSaid (replies_of now) (replies_of then_) (places_of now) (places_of then_) (map sent (said_of (serving own e clock over) f))
+    by None found true it ends silent serves = absurd (let bad : true ≡ false = it ∙ ap (whole_in over) found in cc)
+    by None found false it ends silent serves = silent refl (vacant_subscribes e index x.session (stored None found))
+    by (Some s) found true it ends silent serves =
         same_said
         (shut x.session s (stored (Some s) found)
-        ∙ ap (λ (b : Bool). map sent (served_at b e clock s)) (it ∙ ap (whole_in over) found))
+        ∙ in_slot true it s found)
         (ends refl).said
-    by (Some s) found false it ends serves =
-        let k = serves refl in
-        same_said (ap (λ (b : Bool). map sent (served_at b e clock s)) (it ∙ ap (whole_in over) found))
-        (place_said e index clock p x.subscriber x.session s (replies_of now) (replies_of then_) (places_of now) (places_of then_)
-        (stored (Some s) found) (is.seated s found) (is_there at ss s found).0 k.silent
-        (λ b t terms initial opening caller m is. k.said b t is terms initial opening caller m))
+    by (Some s) found false it ends silent serves =
+        same_said (in_slot false it s found)
+        (place_said keys e index clock p x.subscriber x.session s (replies_of now) (replies_of then_) (places_of now) (places_of then_)
+        (stored (Some s) found) (is.seated s found) (is_there at ss s found).0 (silent refl) (serves refl))
+
+-- the keys of a slot that was served
+pub record ServesKeys (clock : ℕ) (over : Bool) (x : Seat) (earlier later : SlotKeys) : Type 0 where
+  pub whole : Bool
+  pub whole_is : HasWhole over x whole
+  pub kept : whole ≡ true → later ≡ earlier
+  pub none : whole ≡ false → has_subscriber x ≡ false → later ≡ earlier
+  pub said : whole ≡ false → has_subscriber x ≡ true → (t : TheSession) → x.session ≡ Some t
+      → (terms : subscribing.Terms) (initial : ℕ) (m : subscribing.Subscribing)
+      → subscribers.StandsFor terms initial t.opened t.caller clock x.subscriber m → subscribing.expired terms (clock - t.opened) m ≡ m
+      → later ≡ keys_said (clock - t.opened) (Subscribes m) earlier
+
+pub served_keys : (e : Terms) (index clock : ℕ) (over : Bool) (at : ℕ) (p : Publisher) (x : Seat) (ss : List Session) (earlier later : SlotKeys)
+    → IsSeat e index clock at p x ss → ServesKeys clock over x earlier later
+    → later ≡ keys_in_slot clock over (find (is_open_in at) ss) earlier
+served_keys e index clock over at p x ss earlier later is h =
+    by (find (is_open_in at) ss) refl x.session refl is.session_is h.whole (h.whole_is e index clock at p ss is) h.kept h.none h.said
+  where
+    Spoken : Bool → Type 0
+    Spoken b =
+        b ≡ false → has_subscriber x ≡ true → (t : TheSession) → x.session ≡ Some t
+        → (terms : subscribing.Terms) (initial : ℕ) (m : subscribing.Subscribing)
+        → subscribers.StandsFor terms initial t.opened t.caller clock x.subscriber m → subscribing.expired terms (clock - t.opened) m ≡ m
+        → later ≡ keys_said (clock - t.opened) (Subscribes m) earlier
+
+    one : (s : Session) (t : TheSession) → find (is_open_in at) ss ≡ Some s → x.session ≡ Some t → IsStored e index (Some t) (Some s)
+        → (has_subscriber x ≡ false → later ≡ earlier) → Spoken false
+        → (past : Past) → s.past ≡ past → IsPast e clock p x.subscriber s past → later ≡ keys_said (time_in s clock) past earlier
+    one s t found o stored none said (Publishes q) past k =
+        none (subst (λ (u : Option TheSession). subscribes u ≡ false) (sym o) (publisher_subscribes e index t s stored k.0))
+    one s t found o stored none said (Subscribes m) past k =
+        let terms = (terms_of e s).subscriber in
+        said refl (subst (λ (u : Option TheSession). subscribes u ≡ true) (sym o) (subscriber_subscribes e index t s stored k.0)) t o terms
+        s.conclusion.initial m (as_stored e index clock t s terms x.subscriber m stored k.1) (still_fresh e index clock t s terms m stored k.2)
+        ∙ ap (λ (n : ℕ). keys_said (clock - n) (Subscribes m) earlier) stored.opened_is
+
+    by : (f : Option Session) → find (is_open_in at) ss ≡ f → (o : Option TheSession) → x.session ≡ o
+        → IsStored e index x.session (find (is_open_in at) ss) → (b : Bool) → b ≡ whole_in over (find (is_open_in at) ss)
+        → (b ≡ true → later ≡ earlier) → (b ≡ false → has_subscriber x ≡ false → later ≡ earlier) → Spoken b
+        → later ≡ keys_in_slot clock over f earlier
+    by None found o stored_is st true it kept none said = absurd (let bad : true ≡ false = it ∙ ap (whole_in over) found in cc)
+    by None found o stored_is st false it kept none said =
+        none refl (vacant_subscribes e index x.session (subst (λ (g : Option Session). IsStored e index x.session g) found st))
+    by (Some s) found None stored_is st b it kept none said =
+        absurd (subst (λ (u : Option TheSession). IsStored e index u (Some s)) stored_is
+        (subst (λ (g : Option Session). IsStored e index x.session g) found st))
+    by (Some s) found (Some t) stored_is st true it kept none said =
+        kept refl ∙ ap (λ (w : Bool). keys_served w clock s earlier) (it ∙ ap (whole_in over) found)
+    by (Some s) found (Some t) stored_is st false it kept none said =
+        let there = subst (λ (u : Option TheSession). IsStored e index u (Some s)) stored_is
+        (subst (λ (g : Option Session). IsStored e index x.session g) found st) in
+        one s t found stored_is there (none refl) said s.past refl (is.seated s found).past_is
+        ∙ ap (λ (w : Bool). keys_served w clock s earlier) (it ∙ ap (whole_in over) found)
 
 -- the ends that are recorded
 pub record EndsUpTo (e : Terms) (index : ℕ) (over : Bool) (moment at : ℕ) (ss : List Session) (old new : Ledger) : Type 0 where

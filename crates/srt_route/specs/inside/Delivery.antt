@@ -10,7 +10,8 @@ use Rattle.srt_pub.specs.Publishing as publisher
 use Rattle.srt_pub.specs.Stands as buffers
 use Rattle.srt_pub.specs.declared.session.Publisher.{Publisher}
 use Rattle.srt_sub.specs.Subscribing as subscriber
-use Rattle.srt_route.specs.Past.{Past, Publishes, Subscribes, Agreed, least, reported_if}
+use Rattle.srt_session_keys.specs.Subscriber.{Subscriber as Keys}
+use Rattle.srt_route.specs.Past.{Past, Publishes, Subscribes, Agreed, least, reported_if, reported_under}
 use Rattle.srt_route.specs.Sessions.{Session, is_draining, is_recent, terms_of, is_publisher, is_open_in, time_in, payloads}
 use Rattle.srt_route.specs.Route.{Reply, packets_at, least_room}
 use Rattle.srt_route.specs.declared.publisher_buffers.PublisherBuffers.{PublisherBuffers}
@@ -125,12 +126,12 @@ packets_of e clock test (Some s) = packets_at e (test s) clock s
 abbrev pub packets_in : Terms → (clock : ℕ) → (Session → Bool) → (at : ℕ) → List Session → List Reply
 packets_in e clock test at sessions = packets_of e clock test (find (is_open_in at) sessions)
 
-abbrev pub subscriber_reported : Agreed → (time : ℕ) → (recent : Bool) → Past → Past
-subscriber_reported terms time recent (Publishes p) = Publishes p
-subscriber_reported terms time recent (Subscribes m) = Subscribes (subscriber.reported terms.subscriber time recent m)
+abbrev pub subscriber_reported : (keys : Option Keys) → Agreed → (time : ℕ) → (recent : Bool) → Past → Past
+subscriber_reported keys terms time recent (Publishes p) = Publishes p
+subscriber_reported keys terms time recent (Subscribes m) = Subscribes (reported_under keys terms.subscriber time recent m)
 
-abbrev pub after_subscriber : Terms → (clock : ℕ) → Session → Past
-after_subscriber e clock s = subscriber_reported (terms_of e s) (time_in s clock) (is_recent s clock) s.past
+abbrev pub after_subscriber : (keys : Option Keys) → Terms → (clock : ℕ) → Session → Past
+after_subscriber keys e clock s = subscriber_reported keys (terms_of e s) (time_in s clock) (is_recent s clock) s.past
 
 -- the calls of a delivery, for all sessions that the table represents; s is the publisher of slot `at`, which uses
 -- these buffers, and its past is q

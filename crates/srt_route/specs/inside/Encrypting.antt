@@ -72,9 +72,9 @@ EmitsAllWith to pending keys old new before after =
 -- a subscriber's session with keys is at the end of an event
 pub record IsReportedWith (to : KeyReceiver) (earlier later : Keys) (new : Subscriber) (before after : ReplyQueue) (terms : subscribing.Terms)
     (initial opening caller : ℕ) (m : subscribing.Subscribing) : Type 0 where
-  pub keys_are : later ≡ keys_reported to.clock m earlier
-  pub stands : subscriber.StandsFor terms initial opening caller to.clock new (reported_with later terms (to.clock - opening) to.recent m)
-  pub said : QueuesAll to.peer before after (outputs_with earlier terms to.clock caller initial (to.clock - opening) to.recent m)
+  pub keys_are : later ≡ keys_reported to.time m earlier
+  pub stands : subscriber.StandsFor terms initial opening caller to.clock new (reported_with earlier terms to.time to.recent m)
+  pub said : QueuesAll to.peer before after (outputs_with earlier terms caller initial to.time to.recent m)
 
 abbrev pub ReportsWith : KeyReceiver → (earlier later : Keys) → (old new : Subscriber) → (before after : ReplyQueue) → Type 0
 ReportsWith to earlier later old new before after =

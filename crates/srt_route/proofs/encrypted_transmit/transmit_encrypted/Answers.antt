@@ -1,5 +1,4 @@
 use Rattle.std.proofs.Common.{◌≡◌, ℕ, ◌-◌, ◌^◌, ◌<◌, ◌∙◌, Bool, length, sym, ap, subst, arith}
-use Rattle.srt_sub.specs.Subscribing as subscribing
 use Rattle.srt_sub.specs.Stands as subscribers
 use Rattle.srt_sub.specs.Held.{held}
 use Rattle.srt_sub.proofs.Bounds.{stays_below_bounds}
@@ -23,12 +22,12 @@ returns c terms initial opening m stands fresh time =
     let count = c.queued_payloads-queued.ensures terms initial opening c.args.to.caller (c.args.to.clock - opening) 0 m stands in
     let below : queued < 2 ^ 61 = omega (arith, c.if-queued-ge-MAX_QUEUED.false) in
     let few : length m.sending.queue < 2 ^ 64 = omega (arith, count, below) in
-    let keys_are : later ≡ keys_with c.announce-announced.result c.args.to.clock earlier =
+    let keys_are : later ≡ keys_with c.announce-announced.result c.args.to.time earlier =
     c.announce-announced.ensures.keys
-    ∙ (keys_by (is_due earlier queued c.args.to.clock) c.args.to.clock earlier
-    ∙ ap (λ (b : Bool). keys_with b c.args.to.clock earlier) (sym c.announce-announced.ensures.due)) in
+    ∙ (keys_by (is_due earlier queued c.args.to.time) c.args.to.time earlier
+    ∙ ap (λ (b : Bool). keys_with b c.args.to.time earlier) (sym c.announce-announced.ensures.due)) in
     let made : IsMade c.announce-announced.result later =
-    subst (λ (k : Keys). IsMade c.announce-announced.result k) (sym keys_are) (made_with_it c.announce-announced.result c.args.to.clock earlier) in
+    subst (λ (k : Keys). IsMade c.announce-announced.result k) (sym keys_are) (made_with_it c.announce-announced.result c.args.to.time earlier) in
     let holds = subst
     (λ (b : ℕ). subscribers.StandsFor terms initial opening c.args.to.caller c.args.to.clock c.hold-window.new.self (held terms b m))
     c.confirmed_payloads.ensures (c.hold-window.ensures.stands (c.args.to.clock - opening) terms initial opening c.args.to.caller 0 m stands) in

@@ -6,7 +6,7 @@ use Rattle.srt_route.specs.inside.Delivery.{after_publisher, changed}
 use Rattle.srt_route.specs.Ends.{kept_of}
 use Rattle.srt_route.specs.Ledgers.{entry_of, idle_cause}
 use Rattle.srt_route.specs.inside.Notes.{cause_at}
-use Rattle.srt_route.proofs.steps.Stepping.{before_subscribers, passed_keys, passed_table, queued_replies, stepped, taken_at}
+use Rattle.srt_route.proofs.steps.Stepping.{before_subscribers, judged_keys, passed_keys, passed_table, queued_replies, stepped, taken_at}
 use Rattle.srt_route.proofs.steps.Noting.{grow_both, sums_grow}
 use Rattle.srt_route.proofs.steps.Notified.{event_kept, files_notified, idle_notified}
 use Rattle.srt_route.proofs.steps.Tallied.{step_tally, tally_stays}
@@ -20,11 +20,12 @@ returns-clause-table c e index m h =
     let aged_is = c.advance.ensures.table e index m.clock m.sessions h.table_is later c.requires.early in
     let did = c.dispatch_secured.ensures.dispatched e index (advanced e clock m.sessions) m.keys aged_is h.keys_are in
     let it =
-    stepped e index m.clock clock m.sessions (taken_at e index clock item m) c.args.table.now c.dispatch_secured.new.table
-    c.deliver_and_settle.new.table c.transmit_publishers.new.table c.transmit_subscribers.new.table
+    stepped e index m.clock clock m.sessions (taken_at e index clock item m) (judged_keys e index clock item m) c.args.table.now
+    c.dispatch_secured.new.table c.deliver_and_settle.new.table c.transmit_publishers.new.table c.transmit_subscribers.new.table
+    c.dispatch_secured.new.keys c.transmit_subscribers.new.keys
     c.args.waiting.now c.advance.new.waiting c.dispatch_secured.new.waiting c.transmit_publishers.new.waiting c.transmit_subscribers.new.waiting
     h.table_is c.advance.ensures.said did.table_is did.said c.deliver_and_settle.ensures.table c.transmit_publishers.ensures.table
-    c.transmit_publishers.ensures.said c.transmit_subscribers.ensures.table c.transmit_subscribers.ensures.said in
+    c.transmit_publishers.ensures.said did.keys_are c.transmit_subscribers.ensures.served in
     passed_table e index clock item m c.transmit_subscribers.new.table h.is_open h.clock_is it.last_is
 
 pub returns-clause-keys : goal.returns-clause-keys
@@ -34,7 +35,14 @@ returns-clause-keys c e index m h =
     let later : m.clock ≤ clock = omega (arith, h.clock_is) in
     let aged_is = c.advance.ensures.table e index m.clock m.sessions h.table_is later c.requires.early in
     let did = c.dispatch_secured.ensures.dispatched e index (advanced e clock m.sessions) m.keys aged_is h.keys_are in
-    passed_keys e index clock item m c.dispatch_secured.new.keys h.is_open h.clock_is did.keys_are
+    let it =
+    stepped e index m.clock clock m.sessions (taken_at e index clock item m) (judged_keys e index clock item m) c.args.table.now
+    c.dispatch_secured.new.table c.deliver_and_settle.new.table c.transmit_publishers.new.table c.transmit_subscribers.new.table
+    c.dispatch_secured.new.keys c.transmit_subscribers.new.keys
+    c.args.waiting.now c.advance.new.waiting c.dispatch_secured.new.waiting c.transmit_publishers.new.waiting c.transmit_subscribers.new.waiting
+    h.table_is c.advance.ensures.said did.table_is did.said c.deliver_and_settle.ensures.table c.transmit_publishers.ensures.table
+    c.transmit_publishers.ensures.said did.keys_are c.transmit_subscribers.ensures.served in
+    passed_keys e index clock item m c.transmit_subscribers.new.keys h.is_open h.clock_is it.keys_are
 
 pub returns-clause-replies : goal.returns-clause-replies
 returns-clause-replies c e index m h =
@@ -44,11 +52,12 @@ returns-clause-replies c e index m h =
     let aged_is = c.advance.ensures.table e index m.clock m.sessions h.table_is later c.requires.early in
     let did = c.dispatch_secured.ensures.dispatched e index (advanced e clock m.sessions) m.keys aged_is h.keys_are in
     let it =
-    stepped e index m.clock clock m.sessions (taken_at e index clock item m) c.args.table.now c.dispatch_secured.new.table
-    c.deliver_and_settle.new.table c.transmit_publishers.new.table c.transmit_subscribers.new.table
+    stepped e index m.clock clock m.sessions (taken_at e index clock item m) (judged_keys e index clock item m) c.args.table.now
+    c.dispatch_secured.new.table c.deliver_and_settle.new.table c.transmit_publishers.new.table c.transmit_subscribers.new.table
+    c.dispatch_secured.new.keys c.transmit_subscribers.new.keys
     c.args.waiting.now c.advance.new.waiting c.dispatch_secured.new.waiting c.transmit_publishers.new.waiting c.transmit_subscribers.new.waiting
     h.table_is c.advance.ensures.said did.table_is did.said c.deliver_and_settle.ensures.table c.transmit_publishers.ensures.table
-    c.transmit_publishers.ensures.said c.transmit_subscribers.ensures.table c.transmit_subscribers.ensures.said in
+    c.transmit_publishers.ensures.said did.keys_are c.transmit_subscribers.ensures.served in
     queued_replies e index clock item m c.args.waiting.now c.transmit_subscribers.new.waiting h.is_open h.clock_is it.said
 
 pub returns-clause-ends : goal.returns-clause-ends

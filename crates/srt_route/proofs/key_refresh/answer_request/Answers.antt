@@ -1,4 +1,4 @@
-use Rattle.std.proofs.Common.{◌≡◌, ◌≢◌, ℕ, Option, None, Some, refl, sym, ap, subst, ◌∙◌, arith}
+use Rattle.std.proofs.Common.{◌≡◌, ℕ, Option, None, Some, sym, ap, subst, ◌∙◌, arith}
 use Rattle.srt_packet.specs.View.{packet_of}
 use Rattle.srt_route.specs.KeyRefresh.{answer_by, refreshed}
 use Rattle.srt_route.specs.RouteKeys.{with_slot}

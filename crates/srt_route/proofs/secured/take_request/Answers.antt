@@ -1,4 +1,4 @@
-use Rattle.std.proofs.Common.{Option, None, Some, List, [], ◌∷◌, sym, ap, subst}
+use Rattle.std.proofs.Common.{Option, None, Some, [], ◌∷◌, sym, ap, subst}
 use Rattle.srt_types.specs.Given.{given}
 use Rattle.srt_types.specs.Items.{Datagram}
 use Rattle.srt_packet.specs.View.{packet_of}

@@ -1,4 +1,4 @@
-use Rattle.std.proofs.Common.{◌≡◌, ◌<◌, ◌∙◌, Bool, Option, [], length, map, get_or, refl, sym, subst, arith}
+use Rattle.std.proofs.Common.{◌≡◌, ◌<◌, ◌∙◌, Bool, Option, None, [], length, map, get_or, refl, sym, subst, arith}
 use Rattle.srt_route.specs.declared.ledger.EndCause.{EndCause}
 use Rattle.srt_route.specs.declared.seat.Seat.{Seat}
 use Rattle.srt_route.specs.Route.{sent, served}
@@ -9,19 +9,19 @@ use Rattle.srt_route.specs.inside.Standby.{active_in}
 use Rattle.srt_route.specs.Tables.{IsTable, buffers_of}
 use Rattle.srt_route.proofs.stored.Stored.{same_read}
 use Rattle.srt_route.specs.Waits.{replies_of, places_of}
-use Rattle.srt_route.specs.inside.Files.{HasWhole, finished_subscriber}
+use Rattle.srt_route.specs.inside.Files.{HasWhole, finished_subscriber, none_own}
 use Rattle.srt_route.specs.inside.Reports.{Queues}
 use Rattle.srt_route.proofs.stored.Kept.{some_buffers, none_done, next_is, seat_at, one_done, all_done}
 use Rattle.srt_route.proofs.steps.Noting.{end_grows, grow_both}
 use Rattle.srt_route.proofs.steps.Serving.{Serves, all_ends, finishes_subscribers, finishes_subscribers_marks, no_ends, one_ends, serve_slot}
-use Rattle.srt_route.proofs.steps.Serving.{served_becomes, serving, stays_served}
+use Rattle.srt_route.proofs.steps.Serving.{clear_says, served_becomes, serving, stays_served}
 use Rattle.srt_route.proofs.steps.Slots.{saying_begins, saying_ends}
-use Rattle.srt_route.proofs.transmit.transmit_subscribers.Goals as goal
+use Rattle.srt_route.proofs.transmit.transmit_in_clear.Goals as goal
 
 pub loop-at-init : goal.loop-at-init
 loop-at-init c = record {
-  seats = none_done (Serves c.args.clock c.is_file_over-over.result) c.args.table.now;
-  notified = λ e index ss body. saying_begins (serving e c.args.clock c.is_file_over-over.result) e ss (replies_of c.args.waiting.now) _;
+  seats = none_done (Serves None c.args.clock c.is_file_over-over.result) c.args.table.now;
+  notified = λ e index ss body. saying_begins (serving none_own e c.args.clock c.is_file_over-over.result) e ss (replies_of c.args.waiting.now) _;
   ends = λ e index ss body. no_ends e index c.is_file_over-over.result c.args.clock ss c.args.ledger.now;
   counts = (refl, refl);
   sums = ([], refl);
@@ -36,7 +36,7 @@ loop-at-preserved c =
     let old = c.args.table.now in
     let inside : at < length old.seats.items = omega (arith, c.loop-at-test.true, c.len-at-end.ensures) in
     let x = c.index_mut.result.now in
-    let R = Serves clock over in
+    let R = Serves None clock over in
     let there = next_is R at old c.loop-at.table x h.seats inside c.index_mut.ensures.value in
     let whole = c.has_whole_file-whole.result in
     let same : c.index.result.now ≡ x = same_read c.loop-at.table.seats.items at c.index.result.now x
@@ -61,10 +61,12 @@ loop-at-preserved c =
           })
           (refl, refl, refl, refl, refl, refl) refl refl;
       notified = λ e index ss body.
-          serve_slot e index clock over (buffers_of old.publishers.items x (some_buffers old)) ss at x c.serve_seat.new.seat whole
+          serve_slot none_own None e index clock over (buffers_of old.publishers.items x (some_buffers old)) ss at x c.serve_seat.new.seat whole
           (replies_of c.args.waiting.now) (places_of c.args.waiting.now) c.loop-at.waiting c.serve_seat.new.waiting
-          (omega (arith, inside, body.places_are)) (seat_at e index clock old ss at x (some_buffers old) body inside there) has
-          c.serve_seat.ensures.ends c.serve_seat.ensures.served (h.notified e index ss body);
+          refl (omega (arith, inside, body.places_are)) (seat_at e index clock old ss at x (some_buffers old) body inside there) has
+          c.serve_seat.ensures.ends (λ is. (c.serve_seat.ensures.served is).silent)
+          (λ is. clear_says clock x c.serve_seat.new.seat c.loop-at.waiting c.serve_seat.new.waiting (c.serve_seat.ensures.served is))
+          (h.notified e index ss body);
       ends = λ e index ss body.
           one_ends e index clock over whole active old.publishers.items (some_buffers old) ss at x c.args.ledger.now c.loop-at.ledger
           c.note.new.self (seat_at e index clock old ss at x (some_buffers old) body inside there) has noted (h.ends e index ss body);
@@ -76,20 +78,20 @@ loop-at-preserved c =
 pub returns-clause-table : goal.returns-clause-table
 returns-clause-table c e index ss body =
     let over = c.is_file_over-over.result in
-    subst (λ (b : Bool). IsTable e index c.args.clock c.loop-at.table (map (finished_subscriber e c.args.clock b) ss))
+    subst (λ (b : Bool). IsTable e index c.args.clock c.loop-at.table (map (finished_subscriber none_own e c.args.clock b) ss))
     (c.is_file_over-over.ensures e index c.args.clock ss body)
-    (all_done (Serves c.args.clock over) (finished_subscriber e c.args.clock over) (finishes_subscribers e c.args.clock over)
-    (finishes_subscribers_marks e c.args.clock over)
+    (all_done (Serves None c.args.clock over) (finished_subscriber none_own e c.args.clock over) (finishes_subscribers none_own e c.args.clock over)
+    (finishes_subscribers_marks none_own e c.args.clock over)
     e index c.args.clock c.args.clock c.loop-at.at c.args.table.now c.loop-at.table ss body body.early c.loop-at.invariant.seats
     (omega (arith, c.loop-at-test.false, c.len-at-end.ensures))
-    (λ k p x y is h. served_becomes e index c.args.clock over k p x y ss is h))
+    (λ k p x y is h. served_becomes none_own None e index c.args.clock over k p x y ss refl is h))
 
 pub returns-clause-said : goal.returns-clause-said
 returns-clause-said c e index ss body =
     let over = c.is_file_over-over.result in
-    subst (λ (b : Bool). Queues c.args.waiting.now c.loop-at.waiting (map sent (served e c.args.clock b ss)))
+    subst (λ (b : Bool). Queues c.args.waiting.now c.loop-at.waiting (map sent (served none_own e c.args.clock b ss)))
     (c.is_file_over-over.ensures e index c.args.clock ss body)
-    (saying_ends (serving e c.args.clock over) e c.loop-at.at ss _ _ _ _
+    (saying_ends (serving none_own e c.args.clock over) e c.loop-at.at ss _ _ _ _
     (omega (arith, c.loop-at-test.false, c.len-at-end.ensures, body.places_are))
     (c.loop-at.invariant.notified e index ss body))
 
