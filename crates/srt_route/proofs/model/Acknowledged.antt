@@ -204,7 +204,8 @@ sessions_keep false e index item m mode h =
     let clock = clock_after item m in
     let own = own_by e index item m in
     let over = is_file_over e (passed_by e index item m) in
-    each_mapped (Kept e) (Kept e) (finished own e clock over) (λ s k. finished_keeps (has_whole_file over s) (own s.slot) e clock s k) (passed_by e index item m)
+    each_mapped (Kept e) (Kept e) (finished own e clock over) (λ s k. finished_keeps (has_whole_file over s) (own s.slot) e clock s k)
+    (passed_by e index item m)
     (delivery_keep e clock (taken_by e index item m).sessions mode
     (taken_keep e index clock (heard_by e index item m) (advanced e clock m.sessions) mode (advanced_keep e clock m.sessions h)))
 

@@ -37,7 +37,8 @@ reported_stays : (keys : Option Keys) (e : Terms) (here : Bool) (clock : ℕ) (s
 reported_stays keys e true clock s = refl
 reported_stays keys e false clock s = refl
 
-finished_stays : (whole : Bool) (keys : Option Keys) (e : Terms) (clock : ℕ) (s : Session) → s.is_open ≡ false → (finished_at whole keys e clock s).is_open ≡ false
+finished_stays : (whole : Bool) (keys : Option Keys) (e : Terms) (clock : ℕ) (s : Session)
+    → s.is_open ≡ false → (finished_at whole keys e clock s).is_open ≡ false
 finished_stays true keys e clock s h = refl
 finished_stays false keys e clock s h = reported_stays keys e s.is_open clock s ∙ h
 

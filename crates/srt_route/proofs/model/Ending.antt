@@ -184,7 +184,8 @@ more_ended : (e : Terms) (index : ℕ) (item : Item) (m : Route) (was : Bool)
 more_ended e index item m true before h = before refl
 more_ended e index item m false before h =
     let over = is_file_over e (passed_by e index item m) in
-    each_mapped HasEnded HasEnded _ (λ s k. finished_ended (has_whole_file over s) (own_by e index item m s.slot) e (clock_after item m) s k) (passed_by e index item m)
+    each_mapped HasEnded HasEnded _ (λ s k. finished_ended (has_whole_file over s) (own_by e index item m s.slot) e (clock_after item m) s k)
+    (passed_by e index item m)
     (after_delivery_ended e (clock_after item m) (taken_by e index item m).sessions (taken_ended e index item m h))
 
 pub closed_ended : (e : Terms) (index : ℕ) (items : List Item) → (after e index items).is_closed ≡ true → Each HasEnded (after e index items).sessions

@@ -300,7 +300,8 @@ sessions_keep numbers place false e index item m mode kept h =
     let more = numbers ++ numbers_of e clock ss (opened_as place ss) in
     let over = is_file_over e (passed_by e index item m) in
     let own = own_by e index item m in
-    at_mapped more place (finished own e clock over) (λ s k. finished_keeps more place (has_whole_file over s) (own s.slot) e clock s k) (passed_by e index item m)
+    at_mapped more place (finished own e clock over) (λ s k. finished_keeps more place (has_whole_file over s) (own s.slot) e clock s k)
+    (passed_by e index item m)
     (settled_keep more place e.rules.callers e clock (gives_some e clock ss) (delivered e clock ss)
     (delivered_keep numbers place e clock ss mode kept
     (taken_keep numbers place e index clock (heard_by e index item m) (advanced e clock m.sessions) mode (advanced_keep numbers place e clock m.sessions h))))

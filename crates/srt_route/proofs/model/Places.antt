@@ -16,7 +16,8 @@ use Rattle.srt_route.specs.Sessions.{Session, advanced, aged, aged_at, by_slot, 
 use Rattle.srt_route.specs.Sessions.{is_active, open_publishers, passed, settled, speaks, takes_over, time_end, time_in, with_end}
 use Rattle.srt_route.specs.Route.{Reply, Route, Verdict, Passes, Ignored, Refused, Repeats, Decrypted, Answered, RepliesHavePlaces, after, after_delivery}
 use Rattle.srt_route.specs.Route.{answers_as, clock_after, delivered, delivery, drain_end, ended, gives_some, heard_as, idle_notified, is_file_over}
-use Rattle.srt_route.specs.Route.{judgement, least_room, notified_if, own_by, packets_where, passed_by, read_taken, replies_at, reply_with, room_if, sent, served}
+use Rattle.srt_route.specs.Route.{judgement, least_room, notified_if, own_by, packets_where, passed_by, read_taken, replies_at}
+use Rattle.srt_route.specs.Route.{reply_with, room_if, sent, served}
 use Rattle.srt_route.specs.Route.{settled_by, shutdown_to, taken, taken_by, with_bytes}
 use Rattle.srt_route.specs.Tables.{AreAlone}
 use Rattle.srt_route.proofs.model.Alone.{are_alone, passes}

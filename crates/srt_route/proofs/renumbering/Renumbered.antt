@@ -15,7 +15,8 @@ use Rattle.srt_route.specs.declared.conclusion_reading.Conclusion.{Conclusion}
 use Rattle.srt_route.specs.Past.{is_shutdown, ToPublisher, ToSubscriber}
 use Rattle.srt_route.specs.RouteKeys.{brought_in, cookie_in, has_secured_role}
 use Rattle.srt_route.specs.Route.{info_of}
-use Rattle.srt_route.specs.Route.{Output, Answers, AnswersWithKeys, Says, Ends, Responds, SaysWithKeys, Reply, output_text, sent, concludes, after, replies_to, reply, solo}
+use Rattle.srt_route.specs.Route.{Output, Answers, AnswersWithKeys, Says, Ends, Responds, SaysWithKeys, Reply, output_text}
+use Rattle.srt_route.specs.Route.{sent, concludes, after, replies_to, reply, solo}
 use Rattle.srt_route.specs.Shifted.{shifted, shifted_body, shifted_reading, renumbered, renumbered_datagram, renumbered_item}
 use Rattle.srt_route.specs.Shifted.{restamped_datagram, restamped_item, moved_item}
 use Rattle.srt_route.specs.ShiftLaws.{restamped_reading}

@@ -1,5 +1,6 @@
 -- Step 6 of a route whose subscribers' sessions have keys.
-use Rattle.std.proofs.Common.{◌≡◌, ℕ, zero, suc, ◌<◌, ◌≤◌, ◌||◌, Bool, true, false, Option, None, List, [], ◌∷◌, length, map, find, get_or, refl, sym, ap, subst}
+use Rattle.std.proofs.Common.{◌≡◌, ℕ, zero, suc, ◌<◌, ◌≤◌, ◌||◌, Bool, true, false, Option, None, List}
+use Rattle.std.proofs.Common.{[], ◌∷◌, length, map, find, get_or, refl, sym, ap, subst}
 use Rattle.std.proofs.Common.{◌∙◌, arith}
 use Rattle.std.specs.Prelude.{option_map, string_bytes}
 use Rattle.srt_types.specs.Terms.{Terms}

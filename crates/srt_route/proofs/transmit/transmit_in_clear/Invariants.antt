@@ -16,7 +16,8 @@ abbrev pub invariant-loop-at : goal.invariant-loop-at
 invariant-loop-at l = record {
   seats : UpTo (Serves None l.clock l.over) l.at l.fn.table l.table;
   notified : (e : Terms) (index : ℕ) (sessions : List Session) → IsTable e index l.clock l.fn.table sessions
-      → IsSaying (serving none_own e l.clock l.over) e l.at sessions (replies_of l.fn.waiting) (replies_of l.waiting) (places_of l.fn.waiting) (places_of l.waiting);
+      → IsSaying (serving none_own e l.clock l.over) e l.at sessions (replies_of l.fn.waiting) (replies_of l.waiting) (places_of l.fn.waiting)
+      (places_of l.waiting);
   ends : (e : Terms) (index : ℕ) (sessions : List Session) → IsTable e index l.clock l.fn.table sessions
       → EndsUpTo e index l.over l.clock l.at sessions l.fn.ledger l.ledger;
   counts : CountsStay l.fn.ledger l.ledger;
