@@ -1,5 +1,6 @@
 pub mod Added
-pub mod KeyValues
 pub mod Grouped
+pub mod KeyValues
+pub mod NextLines
 pub mod Secrets
 pub mod Told

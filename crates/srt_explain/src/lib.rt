@@ -11,13 +11,15 @@
 //!
 //! Files: `explaining.rt` joins the others; `others.rt` explains the faults after the first; `hints.rt` and `resemblance.rt` find what
 //! may have been meant; `values.rt` reads the table at the fault; `places.rt` counts lines and columns, and `lines.rt` finds the lines
-//! of keys; `texts.rt` has the words; `warnings.rt` the risks, and `grouping.rt` which of
-//! them are told; `laws.rt` relates the definitions to `srt_route`, and states that
-//! warnings tell no secret.
+//! of keys; `fault_texts.rt` has the words of faults and `fault_lines.rt` their lines, `texts.rt` the words of warnings; `warnings.rt`
+//! the risks, and `grouping.rt` which of them are told; `laws.rt` relates the definitions to `srt_route`, and states that warnings tell
+//! no secret.
 #![tactic(auto)]
 
 mod explaining;
 mod explanation;
+mod fault_lines;
+mod fault_texts;
 mod grouping;
 mod hints;
 pub mod laws;
@@ -33,6 +35,7 @@ mod warnings;
 
 pub use explaining::{Explained, explain};
 pub use explanation::{Explanation, Faults, Hint, Part, RouteAt};
+pub use fault_lines::FaultLines;
 pub use grouping::RouteRisk;
 pub use places::TextPlace;
 pub use warnings::{Warning, WarningText};
