@@ -25,5 +25,7 @@ pub mod Secured
 pub mod Renewals
 pub mod Decrypting
 pub mod Sound
+pub mod OwnKeys
+pub mod Covered
 pub mod Sendables
 pub mod SessionRules

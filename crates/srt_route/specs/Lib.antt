@@ -9,6 +9,7 @@ pub mod KeyRefresh
 pub mod Route
 pub mod EncryptedOutput
 pub mod KeyLaws
+pub mod Covered
 pub mod Rests
 pub mod ShiftLaws
 pub mod Relabel

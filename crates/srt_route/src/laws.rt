@@ -4,6 +4,7 @@ ghost use Rattle.srt_route.specs.Acknowledged.{DeliversAll, DeliversInOrder, End
 ghost use Rattle.srt_route.specs.Activity.{ActiveGoesOn, OneIsActive, OneDelivers, OpensBehind, StandbyLeads, StaysActive};
 ghost use Rattle.srt_route.specs.Bounds.{TwoPublish, NoMoreThanSlots, OneInASlot, NoneElsewhere, OneOfACaller};
 ghost use Rattle.srt_route.specs.Closed.{ClosesOnce, ClosedHasNoSession, ClosedIsQuiet};
+ghost use Rattle.srt_route.specs.Covered.{PayloadsAreCovered};
 ghost use Rattle.srt_route.specs.Deadlines.{DeadlinesAreNear};
 ghost use Rattle.srt_route.specs.Drafts.{ClocksAreTrusted, NoneDrains, ResendAtEachTimeout};
 ghost use Rattle.srt_route.specs.KeyLaws.{RenewalsAreFree};
@@ -105,6 +106,12 @@ pub fn acknowledged()
 /// pool of subscribers' keys stay. The sessions process it as it came (our choice).
 pub fn key_renewals()
     ensures { RenewalsAreFree }
+{}
+
+/// Where subscribers' sessions are encrypted, no payload is sent in clear, whatever a route's items are: each data packet of its
+/// replies is under a key of a session's own (our choice).
+pub fn payloads_are_encrypted()
+    ensures { PayloadsAreCovered }
 {}
 
 /// A route keeps its limits, whatever its items are. The free slots and the open publishers are together at least as

@@ -122,7 +122,7 @@ pub after_delivery_alone : (e : Terms) (clock : ℕ) (ss : List Session) → Are
 after_delivery_alone e clock ss alone =
     settled_alone e.rules.callers e clock (gives_some e clock ss) e.sessions (delivered e clock ss) (delivered_alone e clock ss alone)
 
-marked_alone : (due : Bool) (places : ℕ) (ss : List Session) → AreAlone places ss → AreAlone places (marked_if due ss)
+pub marked_alone : (due : Bool) (places : ℕ) (ss : List Session) → AreAlone places ss → AreAlone places (marked_if due ss)
 marked_alone true places ss alone = alone_kept (marked ss) (marks ss) places ss alone
 marked_alone false places ss alone = alone
 

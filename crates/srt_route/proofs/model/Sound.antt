@@ -1,7 +1,7 @@
 -- Whatever its items are, all replies of a route can be sent and read: payloads have valid lengths, loss lists have
 -- runs, and congestion control blocks have few words.
 use Rattle.std.proofs.Common.{◌≡◌, ℕ, ◌-◌, ◌^◌, ◌%◌, ◌<◌, ◌≤◌, ◌==◌, ◌&&◌, ◌||◌, not, Bool, true, false, cond, Option, None, Some, List, [], ◌∷◌, ◌++◌}
-use Rattle.std.proofs.Common.{map, length, min, Result, Ok, Err, refl, sym, ap, subst, arith}
+use Rattle.std.proofs.Common.{map, length, min, Result, Ok, Err, refl, sym, ap, subst, ◌∙◌, arith}
 use Rattle.std.specs.Prelude.{⊤, IfSome, IfOk, find, filter_map, take_while, slice_get, drop, int_le, pos, ℤ, nat_le, nat_lt}
 use Rattle.std.specs.List.{flat_map}
 use Rattle.std.proofs.lemmas.List.{length-take, length-drop}
@@ -42,7 +42,7 @@ use Rattle.srt_route.specs.Past.{Past, Publishes, Subscribes, Agreed, Report, To
 use Rattle.srt_route.specs.Past.{answers_to, loses_window, payload_of, payloads_of, passed_past, reports_of, reported_past}
 use Rattle.srt_route.specs.Sessions.{Session, is_publisher, is_subscriber, active, is_active, is_open_in, by_slot}
 use Rattle.srt_route.specs.Sessions.{time_in, stamp_in, is_idle, is_over, terms_of, aged_at, aged, advanced, marked, marked_if, takes_over}
-use Rattle.srt_route.specs.Sessions.{is_recent, passed_at, passed, reported_at}
+use Rattle.srt_route.specs.Sessions.{is_recent, passed_at, passed, publishes, reported_at}
 use Rattle.srt_route.specs.RouteKeys.{has_secured_role, own_if, secures}
 use Rattle.srt_route.specs.Route.{Verdict, Passes, Ignored, Refused, Repeats, Decrypted, Answered, answers_as, judgement, output_with, reply_with}
 use Rattle.srt_route.specs.Route.{Responds, SaysWithKeys, keyed_by, keyed_packets_at, own_by}
@@ -77,9 +77,38 @@ abbrev IsSoundPast : Past → Type 0
 IsSoundPast (Publishes p) = Each HasPayload p.receiving.arrivals
 IsSoundPast (Subscribes s) = Each KeepsPayload s.sending.queue
 
-record IsSound (s : Session) : Type 0 where
+-- whether a record is a publisher's
+abbrev pub is_publishing : Past → Bool
+is_publishing (Publishes p) = true
+is_publishing (Subscribes s) = false
+
+pub record IsSound (s : Session) : Type 0 where
   past : IsSoundPast s.past
   answer : HasFewWords s.conclusion.congestion
+  pub role : is_publishing s.past ≡ publishes s.conclusion.role
+
+role_first : (role : Role) → is_publishing (past_of role) ≡ publishes role
+role_first Publish = refl
+role_first Request = refl
+
+role_expired : (terms : Agreed) (time : ℕ) (past : Past) → is_publishing (expired_past terms time past) ≡ is_publishing past
+role_expired terms time (Publishes p) = refl
+role_expired terms time (Subscribes s) = refl
+
+role_took : (terms : Agreed) (initial time stamp : ℕ) (body : Body) (past : Past)
+    → is_publishing (took_past terms initial time stamp body past) ≡ is_publishing past
+role_took terms initial time stamp body (Publishes p) = refl
+role_took terms initial time stamp body (Subscribes s) = refl
+
+role_passed : (terms : Agreed) (time : ℕ) (room : Option ℕ) (xs : List (List ℕ)) (past : Past)
+    → is_publishing (passed_past terms time room xs past) ≡ is_publishing past
+role_passed terms time room xs (Publishes p) = refl
+role_passed terms time room xs (Subscribes s) = refl
+
+role_reported : (keys : Option Keys) (draining : Bool) (terms : Agreed) (time : ℕ) (recent : Bool) (past : Past)
+    → is_publishing (reported_past keys draining terms time recent past) ≡ is_publishing past
+role_reported keys draining terms time recent (Publishes p) = refl
+role_reported keys draining terms time recent (Subscribes s) = refl
 
 abbrev IsSaidReport : Report → Type 0
 IsSaidReport (ToPublisher report) = IsPublishersReport report
@@ -502,8 +531,8 @@ session_keyed keys e false clock s whole h = tt
 
 -- sessions
 aged_at_sound : (e : Terms) (lives : Bool) (time : ℕ) (s : Session) → IsSound s → IsSound (aged_at e lives time s)
-aged_at_sound e true time s h = record { past = expired_sound (terms_of e s) time s.past h.past; answer = h.answer }
-aged_at_sound e false time s h = record { past = h.past; answer = h.answer }
+aged_at_sound e true time s h = record { past = expired_sound (terms_of e s) time s.past h.past; answer = h.answer; role = role_expired (terms_of e s) time s.past ∙ h.role }
+aged_at_sound e false time s h = record { past = h.past; answer = h.answer; role = h.role }
 
 aged_sound : (e : Terms) (clock : ℕ) (s : Session) → IsSound s → IsSound (aged e clock s)
 aged_sound e clock s h = aged_at_sound e (s.is_open && not (is_over s clock)) (time_in s clock) s h
@@ -514,29 +543,39 @@ took_sound drains true e clock p s one h =
     record {
       past = past_took (terms_of e s) s.conclusion.initial (time_in s clock) (stamp_in s p.stamp) p.body s.past one h.past;
       answer = h.answer;
+      role = role_took (terms_of e s) s.conclusion.initial (time_in s clock) (stamp_in s p.stamp) p.body s.past ∙ h.role;
     }
 took_sound drains false e clock p s one h = h
 
 end_sound : (end : Option Bool) (s : Session) → IsSound s → IsSound (with_end end s)
 end_sound None s h = h
-end_sound (Some b) s h = record { past = h.past; answer = h.answer }
+end_sound (Some b) s h = record { past = h.past; answer = h.answer; role = h.role }
 
 heard_sound : (mine : Bool) (clock : ℕ) (s : Session) → IsSound s → IsSound (heard_if mine clock s)
-heard_sound true clock s h = record { past = h.past; answer = h.answer }
+heard_sound true clock s h = record { past = h.past; answer = h.answer; role = h.role }
 heard_sound false clock s h = h
 
 passed_at_sound : (e : Terms) (here : Bool) (time : ℕ) (room : Option ℕ) (xs : List (List ℕ)) (s : Session)
     → Each IsPayload xs → IsSound s → IsSound (passed_at e here time room xs s)
-passed_at_sound e true time room xs s all h = record { past = past_passed (terms_of e s) time room xs s.past all h.past; answer = h.answer }
+passed_at_sound e true time room xs s all h =
+    record {
+      past = past_passed (terms_of e s) time room xs s.past all h.past;
+      answer = h.answer;
+      role = role_passed (terms_of e s) time room xs s.past ∙ h.role;
+    }
 passed_at_sound e false time room xs s all h = h
 
 reported_at_sound : (keys : Option Keys) (e : Terms) (here : Bool) (clock : ℕ) (s : Session) → IsSound s → IsSound (reported_at keys e here clock s)
 reported_at_sound keys e true clock s h =
-    record { past = past_reported keys (is_draining s) (terms_of e s) (time_in s clock) (is_recent s clock) s.past h.past; answer = h.answer }
+    record {
+      past = past_reported keys (is_draining s) (terms_of e s) (time_in s clock) (is_recent s clock) s.past h.past;
+      answer = h.answer;
+      role = role_reported keys (is_draining s) (terms_of e s) (time_in s clock) (is_recent s clock) s.past ∙ h.role;
+    }
 reported_at_sound keys e false clock s h = h
 
 finished_sound : (whole : Bool) (keys : Option Keys) (e : Terms) (clock : ℕ) (s : Session) → IsSound s → IsSound (finished_at whole keys e clock s)
-finished_sound true keys e clock s h = record { past = h.past; answer = h.answer }
+finished_sound true keys e clock s h = record { past = h.past; answer = h.answer; role = h.role }
 finished_sound false keys e clock s h = reported_at_sound keys e s.is_open clock s h
 
 said_by_session : (time : ℕ) (s : Session) (xs : List Report) → Each IsSaidReport xs → Each IsSaidReply (map (said_by time s) xs)
@@ -617,7 +656,7 @@ arrived_sound e index clock peer p ss one h =
 
 opens_sound : (e : Terms) (index clock : ℕ) (peer : Peer) (stamp : ℕ) (c : Conclusion) (ss : List Session) (at : ℕ)
     → HasFewWords c.congestion → Each IsSound ss → IsSoundTaken (opens e index clock peer stamp c ss at)
-opens_sound e index clock peer stamp c ss at few h = record { sessions = (record { past = opened_sound c.role; answer = few }, h); answers = (few, tt) }
+opens_sound e index clock peer stamp c ss at few h = record { sessions = (record { past = opened_sound c.role; answer = few; role = role_first c.role }, h); answers = (few, tt) }
 
 considered_sound : (e : Terms) (index clock : ℕ) (peer : Peer) (stamp : ℕ) (c : Conclusion) (ss : List Session)
     (answer : Result ℕ RefusalCause)
@@ -695,7 +734,7 @@ each_shutdown clock (s ∷ ss) = (tt, each_shutdown clock ss)
 closed_sound : (e : Terms) (clock : ℕ) (ss : List Session) → Each IsSound ss → IsSoundTaken (closed e clock ss)
 closed_sound e clock ss h =
     record {
-      sessions = each_mapped IsSound IsSound ended (λ s sound. record { past = sound.past; answer = sound.answer }) ss h;
+      sessions = each_mapped IsSound IsSound ended (λ s sound. record { past = sound.past; answer = sound.answer; role = sound.role }) ss h;
       answers = each_shutdown clock (by_slot e ss);
     }
 
@@ -719,7 +758,7 @@ delivered_sound e clock ss h =
 
 settled_at_sound : (d : Option ℕ) (e : Terms) (given : Bool) (clock : ℕ) (s : Session) → IsSound s → IsSound (settled_at d e given clock s)
 settled_at_sound None e given clock s h = h
-settled_at_sound (Some until) e given clock s h = record { past = h.past; answer = h.answer }
+settled_at_sound (Some until) e given clock s h = record { past = h.past; answer = h.answer; role = h.role }
 
 settled_sound : (c : Callers) (e : Terms) (clock : ℕ) (given : Bool) (ss : List Session)
     → Each IsSound ss → Each IsSound (settled_by c e clock given ss)
@@ -743,7 +782,7 @@ marked_sound : (due : Bool) (ss : List Session) → Each IsSound ss → Each IsS
 marked_sound true ss h = each_mapped IsSound IsSound (marked ss) (λ s sound. one s (is_publisher s) sound) ss h
   where
     one : (s : Session) (b : Bool) → IsSound s → IsSound (cond b (record s { took_over = not (is_active ss s) }) s)
-    one s true sound = record { past = sound.past; answer = sound.answer }
+    one s true sound = record { past = sound.past; answer = sound.answer; role = sound.role }
     one s false sound = sound
 marked_sound false ss h = h
 
@@ -762,7 +801,7 @@ heard_item_sound e index items item h =
     let clock = clock_after item m in
     taken_sound e index clock (heard_by e index item m) (advanced e clock m.sessions) (advanced_sound e clock m.sessions h)
 
-passed_by_sound : (e : Terms) (index : ℕ) (items : List Item) (item : Item)
+pub passed_by_sound : (e : Terms) (index : ℕ) (items : List Item) (item : Item)
     → Each IsSound (after e index items).sessions → Each IsSound (passed_by e index item (after e index items))
 passed_by_sound e index items item h =
     let m = after e index items in
@@ -782,7 +821,7 @@ sessions_sound false e index items item h =
     each_mapped IsSound IsSound (finished own e clock over) (λ s sound. finished_sound (has_whole_file over s) (own s.slot) e clock s sound)
     (passed_by e index item m) (passed_by_sound e index items item h)
 
-after_sound : (e : Terms) (index : ℕ) (items : List Item) → Each IsSound (after e index items).sessions
+pub after_sound : (e : Terms) (index : ℕ) (items : List Item) → Each IsSound (after e index items).sessions
 after_sound e index [] = tt
 after_sound e index (item ∷ items) = sessions_sound (after e index items).is_closed e index items item (after_sound e index items)
 
