@@ -24,6 +24,7 @@ BADSECRET, UNSECURE = 1010, 1011
 LENGTHS = (16, 24, 32)
 # libsrt announces new keys so many packets before it uses them.
 RENEWALS = dict(kmrefreshrate=200, kmpreannounce=60)
+FFMPEG_WORDS = ["-hide_banner", "-loglevel", "error", "-re", "-f", "lavfi"]
 REJECTED = "REJECT reported from HS processing: "
 INCORRECT, UNEXPECTED = "Incorrect passphrase", "Password required or unexpected"
 # The contents of a KMREQ with a key of 16 bytes, wrapped by the passphrase of publishers.
@@ -115,7 +116,7 @@ def ffmpeg_publishes(_):
         viewer, (line, seen) = viewed(run), observed(run.address)
         source = "testsrc=size=320x240:rate=25:duration=6"
         to_both = f"[f=mpegts]{room}/copy|[f=mpegts]{sends(line.address, length=32, kmrefreshrate=80, kmpreannounce=20, pkt_size=1316)}"
-        words = ["-hide_banner", "-loglevel", "error", "-re", "-f", "lavfi", "-i", source, "-c:v", "mpeg2video", "-b:v", "1M", "-map", "0", "-f", "tee", to_both]
+        words = [*FFMPEG_WORDS, "-i", source, "-c:v", "mpeg2video", "-b:v", "1M", "-map", "0", "-f", "tee", to_both]
         with tools.Tool([tools.FFMPEG, *words]) as tool:
             expect(tool.ended(30), "ffmpeg goes on")
             time.sleep(1)
@@ -126,7 +127,8 @@ def ffmpeg_publishes(_):
             made = file.read()
     seen.expect_encrypted(True, "ffmpeg", both=True)
     count, breaks = continuous(came)
-    expect(len(came) >= 100_000 and made.startswith(came), f"{len(came)} bytes of {len(made)} came, {count} packets with {breaks} breaks, or others: {tool.errors()[-300:]!r}")
+    found = f"{len(came)} bytes of {len(made)} came, {count} packets with {breaks} breaks, or others"
+    expect(len(came) >= 100_000 and made.startswith(came), f"{found}: {tool.errors()[-300:]!r}")
 
 
 def to_gstreamer(element, address, stream_id, *more):
@@ -182,7 +184,8 @@ def changed(at, value):
 
 # What a conclusion has in place of the right KMREQ, and the code with which it is refused.
 IN_PLACE = [
-    ("no KMREQ", b"", UNSECURE), ("two", 2 * key_block(), UNSECURE), ("an empty one", key_block(b""), UNSECURE), ("one with another cipher", key_block(changed(8, 3)), UNSECURE),
+    ("no KMREQ", b"", UNSECURE), ("two", 2 * key_block(), UNSECURE), ("an empty one", key_block(b""), UNSECURE),
+    ("one with another cipher", key_block(changed(8, 3)), UNSECURE),
     ("one that is too short", key_block(KEYS[:-4]), UNSECURE), ("one without keys", key_block(changed(3, 0)), UNSECURE),
     ("a key that can't be unwrapped", key_block(changed(55, 0xE3)), BADSECRET), ("another salt", key_block(changed(31, 0)), BADSECRET),
 ]
@@ -195,7 +198,8 @@ def who_may_publish(_):
         run.is_up()
         for what, blocks, code in IN_PLACE:
             expect_refusal(code, Caller(run.address, publish("studio"), more=blocks), what)
-        for text, what in (("studio", "a player with keys in vain"), (publish("clear"), "an encoder with keys in vain"), (publish("long"), "a key that is too short")):
+        in_vain = {"studio": "a player with keys in vain", publish("clear"): "an encoder with keys in vain", publish("long"): "a key that is too short"}
+        for text, what in in_vain.items():
             expect_refusal(UNSECURE, Caller(run.address, text, more=key_block()), what)
         expect_refusal(UNSECURE, Caller(run.address, publish("long")), "no KMREQ where the length is given")
         expect_refusal(1002, Caller(run.address, publish("nowhere")), "a route that isn't there")
@@ -208,7 +212,8 @@ def who_may_publish(_):
 
 # What an encoder and a player have of passphrases, and what they report.
 IN_VAIN = [
-    (publish("studio"), dict(passphrase=WRONG_PASSPHRASE), INCORRECT), (publish("other"), dict(), UNEXPECTED), ("other", dict(passphrase=PUBLISH_PASSPHRASE), UNEXPECTED),
+    (publish("studio"), dict(passphrase=WRONG_PASSPHRASE), INCORRECT), (publish("other"), dict(), UNEXPECTED),
+    ("other", dict(passphrase=PUBLISH_PASSPHRASE), UNEXPECTED),
     (publish("clear"), dict(passphrase=PUBLISH_PASSPHRASE), UNEXPECTED), (publish("long"), dict(passphrase=PUBLISH_PASSPHRASE, pbkeylen=16), UNEXPECTED),
 ]
 
@@ -234,7 +239,7 @@ def ffmpeg_is_refused(_):
     with Run([for_publishers()]) as run:
         viewer = viewed(run)
         for options in (dict(passphrase=WRONG_PASSPHRASE), dict()):
-            words = ["-hide_banner", "-loglevel", "error", "-re", "-f", "lavfi", "-i", "testsrc=size=320x240:rate=25:duration=20", "-c:v", "mpeg2video", "-f", "mpegts"]
+            words = [*FFMPEG_WORDS, "-i", "testsrc=size=320x240:rate=25:duration=20", "-c:v", "mpeg2video", "-f", "mpegts"]
             with tools.Tool([tools.FFMPEG, *words, tools.srt(run.address, streamid=publish("studio"), pkt_size=1316, **options)]) as tool:
                 expect(tool.ended(10) and tool.process.returncode != 0, f"with {options} it goes on: {tool.errors()[-300:]!r}")
         closed(viewer)
@@ -265,7 +270,8 @@ def many_strangers(_):
             answers[asked_once(run.address, "127.0.0.7", 0.1)] += 1
         spent = time.monotonic() - began
         most = AT_ONCE + spent / EACH_SECONDS
-        expect(AT_ONCE <= answers[BADSECRET] <= most and answers.keys() <= {BADSECRET, None}, f"in {spent:.1f} s: {dict(answers)}, and not {AT_ONCE} to {most:.0f} answers")
+        is_limited = AT_ONCE <= answers[BADSECRET] <= most and answers.keys() <= {BADSECRET, None}
+        expect(is_limited, f"in {spent:.1f} s: {dict(answers)}, and not {AT_ONCE} to {most:.0f} answers")
         expect(answers[None] >= 10, f"{answers[None]} callers weren't answered")
         expect(encoder.conclude() == encoder.answer, "the open session's conclusion isn't answered as before")
         backup = opens(Caller(run.address, publish("studio"), source="127.0.0.8", more=key_block()), "a caller of another address")
