@@ -1,5 +1,5 @@
 -- Key material messages in answers.
-use Rattle.std.proofs.Common.{◌≡◌, ℕ, ◌+◌, ◌/◌, ◌≤◌, arith}
+use Rattle.std.proofs.Common.{◌≡◌, ℕ, ◌+◌, ◌≤◌, arith}
 use Rattle.std.proofs.lemmas.Bool.Decides.{nat_tests}
 use Rattle.srt_hs.specs.KeyMessage.{IsKeyLength, wrapped_length}
 use Rattle.srt_hs.specs.declared.key_message.SentKeys.{SentKeys}

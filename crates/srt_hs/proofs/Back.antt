@@ -12,7 +12,8 @@ use Rattle.srt_hs.specs.declared.writing.AnswerKind.{AnswerKind}
 use Rattle.srt_hs.specs.declared.writing.AnswerKind.TheVariants.{Induction, Refusal, Conclusion}
 use Rattle.srt_hs.specs.Grammar.{Blocks, no_blocks, kind_of}
 use Rattle.srt_hs.specs.Reading.{blocks_in, with_first, with_block, extension_in, handshake_in}
-use Rattle.srt_hs.specs.Text.{code_of, flags_of, fields_text, hsrsp_text, congestion_text, kind_text, blocks_text, answer_text}
+use Rattle.srt_hs.specs.Refusals.{number_of}
+use Rattle.srt_hs.specs.Text.{flags_of, fields_text, hsrsp_text, congestion_text, kind_text, blocks_text, answer_text}
 use Rattle.srt_hs.specs.View.{text_words}
 use Rattle.srt_hs.specs.RoundTrip.{AreWords, AreCongestionWords, KindFits, answered_blocks, answered_kind, fields, WhatIsWrittenReadsBack, HsrspReadsBack}
 use Rattle.srt_hs.proofs.Steps.{built, read_ok}
@@ -51,7 +52,7 @@ few_back mode recv_ms send_ms a (b ∷ c ∷ []) h = ap (λ ws. Ok (answered_blo
 few_back mode recv_ms send_ms a (b ∷ c ∷ d ∷ []) h = ap (λ ws. Ok (answered_blocks (Some ws))) (words_back (a ∷ b ∷ c ∷ d ∷ []) h.fit)
 few_back mode recv_ms send_ms a (b ∷ c ∷ d ∷ e ∷ more) h = absurd (omega (arith, h.few))
 
-code_fits : (code : RefusalCode) → code_of code < 2 ^ 32
+code_fits : (code : RefusalCode) → number_of code < 2 ^ 32
 code_fits codes.Peer = omega arith
 code_fits codes.Resource = omega arith
 code_fits codes.Rogue = omega arith
@@ -62,7 +63,7 @@ code_fits codes.MessageApi = omega arith
 code_fits codes.Filter = omega arith
 code_fits codes.Group = omega arith
 
-code_back : (code : RefusalCode) → kind_of (code_of code) ≡ kinds.Refusal (code_of code)
+code_back : (code : RefusalCode) → kind_of (number_of code) ≡ kinds.Refusal (number_of code)
 code_back codes.Peer = refl
 code_back codes.Resource = refl
 code_back codes.Rogue = refl
@@ -78,7 +79,7 @@ kind_back : (initial : ℕ) (what : AnswerKind)
 kind_back initial (Induction cookie) i h =
     fields_back 0x4a17 initial 1500 8192 1 1 cookie [] no_blocks (omega arith) i (omega arith) (omega arith) (omega arith) (omega arith) h refl
 kind_back initial (Refusal code) i h =
-    fields_back 0 initial 1500 8192 (code_of code) 1 0 [] no_blocks (omega arith) i (omega arith) (omega arith) (code_fits code)
+    fields_back 0 initial 1500 8192 (number_of code) 1 0 [] no_blocks (omega arith) i (omega arith) (omega arith) (code_fits code)
     (omega arith) (omega arith) (ap (λ k. extension_in k []) (sym (code_back code)))
     ∙ ap (λ k. Ok (fields 0 initial 1500 8192 k 1 0 no_blocks)) (code_back code)
 kind_back initial (Conclusion mtu window id mode recv_ms send_ms None) i h =

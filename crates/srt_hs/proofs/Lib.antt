@@ -6,3 +6,4 @@ pub mod Back
 pub mod Keys
 pub mod Requests
 pub mod Answered
+pub mod Rows

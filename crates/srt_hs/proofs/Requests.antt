@@ -1,5 +1,5 @@
 -- Finding all KMREQ blocks is finding the first and then the others, for any sufficient bound on their number.
-use Rattle.std.proofs.Common.{◌≡◌, ◌∙◌, ℕ, zero, suc, ◌≤◌, ◌<◌, Bool, true, false, List, [], ◌∷◌, length, drop, refl, sym, ap, length-drop, arith}
+use Rattle.std.proofs.Common.{◌≡◌, ◌∙◌, ℕ, zero, suc, ◌≤◌, ◌<◌, true, false, List, [], ◌∷◌, length, drop, refl, ap, arith}
 use Rattle.srt_hs.specs.Grammar.{after_block}
 use Rattle.srt_hs.specs.KeyRequest.{Asked, begins_with_block, with_first_request, with_requests, requests_in, key_request_in}
 use Rattle.srt_hs.proofs.Steps.{after_shorter}

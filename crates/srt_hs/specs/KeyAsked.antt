@@ -1,5 +1,4 @@
 -- The KMREQ blocks that a value of the code represents.
-use Rattle.std.specs.Prelude.{ℕ, List}
 use Rattle.srt_hs.specs.declared.key_requests.KeyRequest.{KeyRequest}
 use Rattle.srt_hs.specs.declared.key_requests.KeyRequest.TheVariants as code
 use Rattle.srt_hs.specs.KeyRequest.{Asked, nothing, one, several}

@@ -2,6 +2,7 @@ pub mod Grammar
 pub mod Reading
 pub mod View
 pub mod KeyMessage
+pub mod Refusals
 pub mod Text
 pub mod Tie
 pub mod RoundTrip

@@ -9,7 +9,8 @@ use Rattle.srt_hs.specs.declared.writing.HsAnswer.{HsAnswer}
 use Rattle.srt_hs.specs.Grammar.{Handshake, Blocks, HasBlock, no_blocks, hsreq_in, type_of, contents_of, after_block}
 use Rattle.srt_hs.specs.Reading.{handshake_in}
 use Rattle.srt_hs.specs.View.{text_words}
-use Rattle.srt_hs.specs.Text.{code_of, extension_of, flags_of, hsrsp_text, answer_text}
+use Rattle.srt_hs.specs.Refusals.{number_of}
+use Rattle.srt_hs.specs.Text.{extension_of, flags_of, hsrsp_text, answer_text}
 
 -- each number fits a word of 32 bits
 abbrev pub AreWords : List ℕ → Type 0
@@ -55,7 +56,7 @@ answered_blocks congestion = record no_blocks { congestion = congestion }
 -- the handshake that an answer of this kind reads as
 abbrev pub answered_kind : (initial : ℕ) → AnswerKind → Handshake
 answered_kind initial (Induction cookie) = fields 0x4a17 initial 1500 8192 kinds.Induction 1 cookie no_blocks
-answered_kind initial (Refusal code) = fields 0 initial 1500 8192 (kinds.Refusal (code_of code)) 1 0 no_blocks
+answered_kind initial (Refusal code) = fields 0 initial 1500 8192 (kinds.Refusal (number_of code)) 1 0 no_blocks
 answered_kind initial (Conclusion mtu window id mode recv_ms send_ms congestion) =
     let words = option_map text_words congestion in
     fields (extension_of words) initial mtu window kinds.Conclusion id 0 (answered_blocks words)

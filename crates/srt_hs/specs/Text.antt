@@ -4,29 +4,16 @@ use Rattle.std.specs.Int.{w16, to_be_bytes}
 use Rattle.srt_types.specs.Words.{word}
 use Rattle.srt_types.specs.declared.shared.Mode.{Mode}
 use Rattle.srt_types.specs.declared.shared.Mode.TheVariants.{Live, Buffer}
-use Rattle.srt_hs.specs.declared.refusal_codes.RefusalCode.{RefusalCode}
-use Rattle.srt_hs.specs.declared.refusal_codes.RefusalCode.TheVariants as codes
 use Rattle.srt_hs.specs.declared.writing.AnswerKind.{AnswerKind}
 use Rattle.srt_hs.specs.declared.writing.AnswerKind.TheVariants.{Induction, Refusal, Conclusion}
 use Rattle.srt_hs.specs.declared.writing.HsAnswer.{HsAnswer}
 use Rattle.srt_hs.specs.KeyMessage.{KeyMessage, SpellsKeys}
+use Rattle.srt_hs.specs.Refusals.{number_of}
 use Rattle.srt_hs.specs.View.{text_words}
 
 -- the two bytes of a 16-bit number, in network byte order
 abbrev pub half : ℕ → List ℕ
 half n = to_be_bytes w16 n
-
--- the code of a reason for a refusal (section 4.3, table 7)
-abbrev pub code_of : RefusalCode → ℕ
-code_of codes.Peer = 1002
-code_of codes.Resource = 1003
-code_of codes.Rogue = 1004
-code_of codes.Version = 1008
-code_of codes.BadSecret = 1010
-code_of codes.Unsecure = 1011
-code_of codes.MessageApi = 1012
-code_of codes.Filter = 1014
-code_of codes.Group = 1015
 
 -- the 48 bytes before the extension blocks, with this encryption field: version 5, and zeros for the peer's address (our
 -- choice)
@@ -66,7 +53,7 @@ blocks_text (Conclusion mtu window id mode recv_ms send_ms congestion) = hsrsp_t
 -- the 48 bytes before the extension blocks, for an answer of this kind
 abbrev pub kind_text : (initial : ℕ) → AnswerKind → List ℕ
 kind_text initial (Induction cookie) = fields_text 0x4a17 initial 1500 8192 1 1 cookie
-kind_text initial (Refusal code) = fields_text 0 initial 1500 8192 (code_of code) 1 0
+kind_text initial (Refusal code) = fields_text 0 initial 1500 8192 (number_of code) 1 0
 kind_text initial (Conclusion mtu window id mode recv_ms send_ms congestion) =
     fields_text (extension_of (option_map text_words congestion)) initial mtu window 0xffff_ffff id 0
 

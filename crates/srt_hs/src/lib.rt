@@ -10,8 +10,8 @@
 //! `contents.rt`, copy the contents of two blocks.
 //!
 //! Encoding: fill an [`HsAnswer`] with an [`AnswerKind`] and [`write`] it, or [`write_with_keys`] if the session has keys,
-//! all in `writing.rt`; the
-//! flags of an HSRSP are in `response_flags.rt`. [`RefusalCode`], in `refusal_codes.rt`, lists each reason for a refusal with its causes.
+//! all in `writing.rt`; the flags of an HSRSP are in `response_flags.rt`. [`RefusalCode`], in `refusal_codes.rt`, lists each reason
+//! for a refusal with its number, its name and its causes; [`refusal_name`] names any number of the draft's table.
 //!
 //! Keys: [`key_request`] (`key_requests.rt`) finds the KMREQ block in the same bytes. [`read_key_message`] and
 //! [`write_key_message`] (`key_reading.rt`) read its contents as a [`KeyMessageRef`] (`key_message.rt`), or return the first
@@ -40,7 +40,7 @@ pub use key_message::{KeyFault, KeyMessageRef, SentKeys};
 pub use key_reading::{read_key_message, write_key_message};
 pub use key_requests::{KeyRequest, key_request};
 pub use reading::read;
-pub use refusal_codes::RefusalCode;
+pub use refusal_codes::{RefusalCode, refusal_name};
 pub use writing::{AnswerKind, HsAnswer, write, write_with_keys};
 
 #[cfg(test)]

@@ -1,8 +1,8 @@
-//! The reasons for a refusal with their codes and causes, and the order in which the causes are checked
+//! The reasons for a refusal with their numbers, names and causes, and the order in which the causes are checked
 //! (draft-sharabayko-srt-01, section 4.3, table 7).
 
-ghost use Rattle.std.specs.Prelude.{◌≡◌};
-ghost use Rattle.srt_hs.specs.Text.{code_of};
+ghost use Rattle.std.specs.Prelude.{◌≡◌, Some};
+ghost use Rattle.srt_hs.specs.Refusals.{number_of, code_with, refusal_name, name_of};
 
 /// Why a conclusion is refused (section 4.3, table 7). The code is written as the handshake type of the answer; the
 /// name after it is libsrt's. Which cause leads to which reason is our choice. A conclusion that is no well-formed
@@ -45,19 +45,77 @@ pub enum RefusalCode {
     Group,
 }
 
-/// Returns the code of a reason, which is written as the handshake type (section 4.3, table 7).
-pub(crate) fn code(reason: RefusalCode) -> u32
-    ensures { result ≡ code_of reason }
+impl RefusalCode {
+    /// Returns the number of a reason, which is the handshake type of a refusal (section 4.3, table 7).
+    pub fn number(self) -> u32
+        ensures { result ≡ number_of self }
+    {
+        match self {
+            RefusalCode::Peer => 1002,
+            RefusalCode::Resource => 1003,
+            RefusalCode::Rogue => 1004,
+            RefusalCode::Version => 1008,
+            RefusalCode::BadSecret => 1010,
+            RefusalCode::Unsecure => 1011,
+            RefusalCode::MessageApi => 1012,
+            RefusalCode::Filter => 1014,
+            RefusalCode::Group => 1015,
+        }
+    }
+
+    /// Returns the reason with this number; `None` if the gateway never refuses for it. Inverse to
+    /// [`number`](RefusalCode::number).
+    #[tactic(auto, unfolding(crate::specs::Refusals::code_with))]
+    pub fn of_number(number: u32) -> Option<RefusalCode>
+        ensures value { result ≡ code_with number }
+        ensures found { (code : RefusalCode) → result ≡ Some code → number_of code ≡ number }
+        ensures only { (code : RefusalCode) → number_of code ≡ number → result ≡ Some code }
+    {
+        match number {
+            1002 => Some(RefusalCode::Peer),
+            1003 => Some(RefusalCode::Resource),
+            1004 => Some(RefusalCode::Rogue),
+            1008 => Some(RefusalCode::Version),
+            1010 => Some(RefusalCode::BadSecret),
+            1011 => Some(RefusalCode::Unsecure),
+            1012 => Some(RefusalCode::MessageApi),
+            1014 => Some(RefusalCode::Filter),
+            1015 => Some(RefusalCode::Group),
+            _ => None,
+        }
+    }
+
+    /// Returns the name of a reason, by its number, as [`refusal_name`] does.
+    pub fn name(self) -> &'static str
+        ensures { result.now ≡ name_of self }
+    {
+        refusal_name(self.number())
+    }
+}
+
+/// Returns the name of the reason with this number (section 4.3, table 7): `PEER` for `REJ_PEER`, which libsrt calls
+/// `SRT_REJ_PEER`. The table has numbers for which the gateway never refuses. For one that it doesn't have: `UNKNOWN`, as
+/// for 1000.
+#[tactic(auto, unfolding(crate::specs::Refusals::refusal_name))]
+pub fn refusal_name(number: u32) -> &'static str
+    ensures { result.now ≡ refusal_name number }
 {
-    match reason {
-        RefusalCode::Peer => 1002,
-        RefusalCode::Resource => 1003,
-        RefusalCode::Rogue => 1004,
-        RefusalCode::Version => 1008,
-        RefusalCode::BadSecret => 1010,
-        RefusalCode::Unsecure => 1011,
-        RefusalCode::MessageApi => 1012,
-        RefusalCode::Filter => 1014,
-        RefusalCode::Group => 1015,
+    match number {
+        1001 => "SYSTEM",
+        1002 => "PEER",
+        1003 => "RESOURCE",
+        1004 => "ROGUE",
+        1005 => "BACKLOG",
+        1006 => "IPE",
+        1007 => "CLOSE",
+        1008 => "VERSION",
+        1009 => "RDVCOOKIE",
+        1010 => "BADSECRET",
+        1011 => "UNSECURE",
+        1012 => "MESSAGEAPI",
+        1013 => "CONGESTION",
+        1014 => "FILTER",
+        1015 => "GROUP",
+        _ => "UNKNOWN",
     }
 }

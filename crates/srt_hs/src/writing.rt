@@ -5,7 +5,7 @@ ghost use Rattle.srt_hs.specs.View.{text_words};
 ghost use Rattle.srt_hs.specs.Text.{answer_text, answer_with, encryption_text, hsrsp_text, kmrsp_text, congestion_text};
 
 use crate::CongestionText;
-use crate::refusal_codes::{RefusalCode, code};
+use crate::refusal_codes::RefusalCode;
 use crate::response_flags::flags;
 use srt_types::protocol_limits::{MAX_ANSWER, MAX_ANSWER_WITH_KEYS, MAX_MTU};
 use srt_types::{Mode, write_at, write_words};
@@ -136,7 +136,7 @@ pub fn write(answer: &HsAnswer, out: &mut [u8; MAX_ANSWER]) -> usize
             write_fields(fields, out)
         }
         AnswerKind::Refusal(reason) => {
-            fields.kind = code(*reason);
+            fields.kind = reason.number();
             write_fields(fields, out)
         }
         AnswerKind::Conclusion {
