@@ -9,27 +9,27 @@ from rules import codes_of
 from texts import parsed, ticked
 
 PAGE, CALLERS, CODE = "docs/operating/log.md", "docs/operating/callers.md", "crates/srt_log/src/"
+CODES = "crates/srt_hs/src/refusal_codes.rt"
 LITERAL = re.compile(r'b"((?:[^"\\]|\\.)*)"')
-NAMED = re.compile(r'(\d{4}) => line\.put\(b" (\w+)"\)')
+NAMED = re.compile(r'(\d{4}) => "(\w+)"')
 HEADS = {"line", "reason", "after a refusal"}
 # What stands for a part of a line that differs each time; a reason and a cause have rows of their own.
 BLANKS = re.compile(r"CODE NAME|, REASON|IP:PORT|\b(?:NAME|PEER|IP|ID|N|TEXT)\b")
 VALUES = {"CODE NAME": r"\d{4} [A-Z]+", "IP:PORT": r"[\d.]+:\d+", "NAME": r"[^ \"]+", "IP": r"[\d.]+", "PEER": r"[\d.]+:\d+", "ID": "0x[0-9a-f]{8}",
           "N": r"\d+", "TEXT": ".+"}
 SHOWN = re.compile(r"\d{4}-\d\d-\d\dT\d\d:\d\d:\d\d\.\d{3}Z (.*)")
-# The texts that `run` can't write: it has no rounds, and the gateway has no code without a name.
-NEVER = {"stopping, all rounds were made", " UNKNOWN"}
+# The text that `run` can't write: it has no rounds.
+NEVER = {"stopping, all rounds were made"}
 # Of srt_explain, which writes what follows it too.
 OTHERS = {"warning: "}
 
 
 def written(index: Index) -> Set[str]:
-    """The texts of srt_log's lines that have a letter, beside the names of codes; those of its JSON objects aren't of a line."""
+    """The texts of srt_log's lines; those of its JSON objects aren't of a line."""
     found: Set[str] = set()
     for path in sorted(index.files):
         if path.startswith(CODE) and path.endswith(".rt") and not re.search(r"/(?:tests|(?:\w+_)?objects|members|\w+_tests)(?:/|\.rt$)", path):
-            text = NAMED.sub("", index.text(path))
-            found.update(it.replace('\\"', '"') for it in LITERAL.findall(text))
+            found.update(it.replace('\\"', '"') for it in LITERAL.findall(index.text(path)))
     return {it for it in found if it} - NEVER
 
 
@@ -78,16 +78,17 @@ def wrong_shown(index: Index) -> List[str]:
 def wrong_log(index: Index) -> Tuple[int, List[str]]:
     """How many forms the page has, and what is in page or code alone."""
     texts, wrong, used, count = written(index), [], set(), 0
+    named = dict(NAMED.findall(index.text(CODES)))
+    known = texts | OTHERS | {f"{code} {name}" for code, name in named.items()}
     for piece in parsed(PAGE, index.text(PAGE)).pieces:
         for form in ticked(piece.cells[0]) if piece.is_row() and piece.head[0] in HEADS else []:
             count += 1
             front = ", " if piece.head[0] == "reason" else ""
             for part in filter(None, BLANKS.split(front + form)):
-                parts = parts_of(part, texts | OTHERS)
+                parts = parts_of(part, known)
                 used.update(parts or [])
                 wrong += [f"{PAGE}:{piece.line}: the log never has {part!r}"] if parts is None else []
     wrong += [f"{PAGE}: no line has {it!r}, which srt_log writes" for it in sorted(texts - used) if re.search(r"[a-z]{2}", it)]
-    named = dict(NAMED.findall("".join(index.text(it) for it in sorted(index.files) if it.startswith(CODE))))
     for code in codes_of(index):
         if f"| {code} {named.get(str(code))} |" not in index.text(CALLERS):
             wrong.append(f"{CALLERS}: no row of {code} {named.get(str(code))}, as the log has it")

@@ -8,3 +8,4 @@ pub mod Apart
 pub mod Calendar
 pub mod Callers
 pub mod Waiting
+pub mod Rows

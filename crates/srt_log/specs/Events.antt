@@ -15,6 +15,8 @@ use Rattle.srt_log.specs.declared.events.Trouble.{Trouble}
 use Rattle.srt_log.specs.declared.events.Trouble.TheVariants as troubles
 use Rattle.srt_types.specs.declared.shared.NotAdmitted.{NotAdmitted}
 use Rattle.srt_types.specs.declared.shared.NotAdmitted.TheVariants as obstacles
+use Rattle.srt_hs.specs.declared.refusal_codes.RefusalCode.TheVariants as refusals
+use Rattle.srt_hs.specs.Refusals.{number_of, refusal_name}
 use Rattle.srt_log.specs.declared.events.LogEvent.{LogEvent}
 use Rattle.srt_log.specs.declared.events.LogEvent.TheVariants as events
 use Rattle.srt_log.specs.Texts.{put, id_text, escaped_all}
@@ -62,15 +64,9 @@ ended_text caller reason lasted_ms counts clock =
     caller_text caller ++ codes " ended, socket " ++ id_text caller.id ++ reason_text reason ++ codes ", after " ++ decimal lasted_ms ++ codes " ms, "
     ++ counts_text counts ++ clock_text clock
 
--- the name of a reason for a refusal (section 4.3, table 7)
-unfoldable pub code_text : (code : ℕ) → List ℕ
-code_text code =
-    if code == 1001 then codes " SYSTEM" else (if code == 1002 then codes " PEER" else (if code == 1003 then codes " RESOURCE"
-    else (if code == 1004 then codes " ROGUE" else (if code == 1005 then codes " BACKLOG" else (if code == 1006 then codes " IPE"
-    else (if code == 1007 then codes " CLOSE" else (if code == 1008 then codes " VERSION" else (if code == 1009 then codes " RDVCOOKIE"
-    else (if code == 1010 then codes " BADSECRET" else (if code == 1011 then codes " UNSECURE" else (if code == 1012 then codes " MESSAGEAPI"
-    else (if code == 1013 then codes " CONGESTION" else (if code == 1014 then codes " FILTER" else (if code == 1015 then codes " GROUP"
-    else codes " UNKNOWN"))))))))))))))
+-- the number of a reason for a refusal, and its name
+abbrev pub code_text : (code : ℕ) → List ℕ
+code_text code = decimal code ++ codes " " ++ refusal_name code
 
 abbrev pub started_text : (ip : List ℕ) → (port routes workers memory : ℕ) → List ℕ
 started_text ip port routes workers memory =
@@ -100,7 +96,7 @@ name_text name = if length name == 0 then [] else codes ", asked for \"" ++ esca
 
 -- the reason of a refusal, and what was requested
 abbrev pub asked_text : (code : ℕ) → (name : List ℕ) → Option NotAdmitted → List ℕ
-asked_text code name by = decimal code ++ code_text code ++ name_text name ++ refused_by_text by
+asked_text code name by = code_text code ++ name_text name ++ refused_by_text by
 
 abbrev pub refused_text : (code : ℕ) → Peer → (name : List ℕ) → Option NotAdmitted → List ℕ
 refused_text code peer name by = peer_text peer ++ codes " refused, " ++ asked_text code name by
@@ -116,7 +112,8 @@ limits_text full reserved per_address =
 
 abbrev pub limited_text : (route : List ℕ) → (full reserved per_address : ℕ) → List ℕ
 limited_text route full reserved per_address =
-    escaped_all route ++ codes ": refused by its limits, 1003 RESOURCE: " ++ limits_text full reserved per_address
+    escaped_all route ++ codes ": refused by its limits, " ++ code_text (number_of refusals.Resource) ++ codes ": "
+    ++ limits_text full reserved per_address
 
 abbrev pub unseen_text : (route : List ℕ) → (opened : ℕ) → List ℕ
 unseen_text route opened = escaped_all route ++ codes ": " ++ decimal opened ++ codes " sessions opened and ended unseen"

@@ -14,6 +14,7 @@ use crate::events::{Caller, ClockDrift, EndReason, LogEvent, SessionCounts, Stop
 use crate::line::Line;
 use crate::peers::{put_ip, put_peer, put_socket};
 use arrayvec::ArrayVec;
+use srt_hs::{RefusalCode, refusal_name};
 use srt_types::product_limits::MAX_LOG_LINE;
 use srt_types::{NotAdmitted, Peer, Role};
 use std::io::{self, Write};
@@ -191,29 +192,14 @@ fn put_count(line: &mut Line, words: &[u8], count: u64)
     line.put_number(count);
 }
 
-/// The name of a reason for a refusal, as libsrt has it behind `SRT_REJ_`.
-#[tactic(auto, unfolding(crate::specs::Events::code_text))]
-fn put_code_name(line: &mut Line, code: u32)
+/// Puts the number of a reason for a refusal, and its name.
+#[tactic(auto, using(crate::proofs::Puts::put_put))]
+fn put_code(line: &mut Line, code: u32)
     ensures { line.new.text.items ≡ put line.old.text.items (code_text code) }
 {
-    match code {
-        1001 => line.put(b" SYSTEM"),
-        1002 => line.put(b" PEER"),
-        1003 => line.put(b" RESOURCE"),
-        1004 => line.put(b" ROGUE"),
-        1005 => line.put(b" BACKLOG"),
-        1006 => line.put(b" IPE"),
-        1007 => line.put(b" CLOSE"),
-        1008 => line.put(b" VERSION"),
-        1009 => line.put(b" RDVCOOKIE"),
-        1010 => line.put(b" BADSECRET"),
-        1011 => line.put(b" UNSECURE"),
-        1012 => line.put(b" MESSAGEAPI"),
-        1013 => line.put(b" CONGESTION"),
-        1014 => line.put(b" FILTER"),
-        1015 => line.put(b" GROUP"),
-        _ => line.put(b" UNKNOWN"),
-    }
+    line.put_small(code);
+    line.put(b" ");
+    line.put(refusal_name(code).as_bytes());
 }
 
 #[tactic(auto, using(crate::proofs::Puts::put_put))]
@@ -284,8 +270,7 @@ fn put_name(line: &mut Line, name: &[u8])
 fn put_asked(line: &mut Line, code: u32, name: &[u8], by: Option<NotAdmitted>)
     ensures { line.new.text.items ≡ put line.old.text.items (asked_text code name.now by) }
 {
-    line.put_small(code);
-    put_code_name(line, code);
+    put_code(line, code);
     put_name(line, name);
     put_refused_by(line, by);
 }
@@ -337,7 +322,9 @@ fn put_limited(line: &mut Line, route: &[u8], full: u64, reserved: u64, per_addr
     ensures { line.new.text.items ≡ put line.old.text.items (limited_text route.now full reserved per_address) }
 {
     line.put_escaped(route);
-    line.put(b": refused by its limits, 1003 RESOURCE: ");
+    line.put(b": refused by its limits, ");
+    put_code(line, RefusalCode::Resource.number());
+    line.put(b": ");
     put_limits(line, full, reserved, per_address);
 }
 
