@@ -4,8 +4,8 @@ use Rattle.std.specs.Fmt.{signed_decimal}
 use Rattle.srt_types.specs.declared.shared.Peer.{Peer}
 use Rattle.srt_types.specs.declared.shared.Role.{Role}
 use Rattle.srt_types.specs.declared.shared.Role.TheVariants.{Publish, Request}
+use Rattle.srt_route.specs.declared.view.Traffic.{Traffic}
 use Rattle.srt_log.specs.declared.events.Caller.{Caller}
-use Rattle.srt_log.specs.declared.events.SessionCounts.{SessionCounts}
 use Rattle.srt_log.specs.declared.events.ClockDrift.{ClockDrift}
 use Rattle.srt_log.specs.declared.events.EndReason.{EndReason}
 use Rattle.srt_log.specs.declared.events.EndReason.TheVariants.{Shutdown, DrainedTooLong, Silence, WindowLost, StreamEnd, RouteClosed, GatewayStops, Unknown}
@@ -21,6 +21,7 @@ use Rattle.srt_log.specs.declared.events.LogEvent.{LogEvent}
 use Rattle.srt_log.specs.declared.events.LogEvent.TheVariants as events
 use Rattle.srt_log.specs.Texts.{put, id_text, escaped_all}
 use Rattle.srt_log.specs.Peers.{ip_text, peer_text, socket_text}
+use Rattle.srt_log.specs.Snapshots.{packets_in, bytes_in, lost_in, resent_in}
 use Rattle.srt_log.specs.ConfigEvents.{config_text}
 
 abbrev pub role_text : Role → List ℕ
@@ -48,10 +49,11 @@ reason_text RouteClosed = codes ", its route was closed"
 reason_text GatewayStops = codes ", the gateway stops"
 reason_text Unknown = codes ", its slot was taken again"
 
-abbrev pub counts_text : SessionCounts → List ℕ
-counts_text counts =
-    decimal counts.packets ++ codes " packets, " ++ decimal counts.bytes ++ codes " bytes, " ++ decimal counts.lost ++ codes " lost, "
-    ++ decimal counts.resent ++ codes " resent"
+-- what a session counted
+abbrev pub counts_text : Traffic → List ℕ
+counts_text traffic =
+    decimal (packets_in traffic) ++ codes " packets, " ++ decimal (bytes_in traffic) ++ codes " bytes, " ++ decimal (lost_in traffic) ++ codes " lost, "
+    ++ decimal (resent_in traffic) ++ codes " resent"
 
 -- how a publisher's clock was followed
 abbrev pub clock_text : Option ClockDrift → List ℕ
@@ -59,10 +61,10 @@ clock_text None = []
 clock_text (Some clock) =
     codes ", clock drift " ++ signed_decimal clock.ppm ++ codes " ppm, correction " ++ signed_decimal clock.correction ++ codes " us"
 
-abbrev pub ended_text : Caller → EndReason → (lasted_ms : ℕ) → SessionCounts → Option ClockDrift → List ℕ
-ended_text caller reason lasted_ms counts clock =
+abbrev pub ended_text : Caller → EndReason → (lasted_ms : ℕ) → Traffic → Option ClockDrift → List ℕ
+ended_text caller reason lasted_ms traffic clock =
     caller_text caller ++ codes " ended, socket " ++ id_text caller.id ++ reason_text reason ++ codes ", after " ++ decimal lasted_ms ++ codes " ms, "
-    ++ counts_text counts ++ clock_text clock
+    ++ counts_text traffic ++ clock_text clock
 
 -- the number of a reason for a refusal, and its name
 abbrev pub code_text : (code : ℕ) → List ℕ
@@ -156,7 +158,7 @@ troubled_text caller trouble = caller_text caller ++ trouble_text trouble ++ id_
 abbrev pub event_text : LogEvent → List ℕ
 event_text (events.Started ip port routes workers memory) = started_text ip port routes workers memory
 event_text (events.Opened caller standby latency_ms) = session_opened_text caller standby latency_ms
-event_text (events.Ended caller reason lasted_ms counts clock) = ended_text caller reason lasted_ms counts clock
+event_text (events.Ended caller reason lasted_ms traffic clock) = ended_text caller reason lasted_ms traffic clock
 event_text (events.TookOver caller) = took_over_text caller
 event_text (events.Troubled caller trouble) = troubled_text caller trouble
 event_text (events.Refused code peer name by) = refused_text code peer name.now by

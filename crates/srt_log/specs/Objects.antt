@@ -5,8 +5,8 @@ use Rattle.srt_types.specs.declared.shared.Role.{Role}
 use Rattle.srt_types.specs.declared.shared.Role.TheVariants.{Publish, Request}
 use Rattle.srt_types.specs.declared.shared.NotAdmitted.{NotAdmitted}
 use Rattle.srt_types.specs.declared.shared.NotAdmitted.TheVariants as obstacles
+use Rattle.srt_route.specs.declared.view.Traffic.{Traffic}
 use Rattle.srt_log.specs.declared.events.Caller.{Caller}
-use Rattle.srt_log.specs.declared.events.SessionCounts.{SessionCounts}
 use Rattle.srt_log.specs.declared.events.ClockDrift.{ClockDrift}
 use Rattle.srt_log.specs.declared.events.EndReason.{EndReason}
 use Rattle.srt_log.specs.declared.events.EndReason.TheVariants.{Shutdown, DrainedTooLong, Silence, WindowLost, StreamEnd, RouteClosed, GatewayStops, Unknown}
@@ -18,6 +18,7 @@ use Rattle.srt_log.specs.declared.events.LogEvent.{LogEvent}
 use Rattle.srt_log.specs.declared.events.LogEvent.TheVariants as events
 use Rattle.srt_log.specs.Texts.{put, id_text, escaped_all}
 use Rattle.srt_log.specs.Peers.{ip_text, peer_text, socket_text}
+use Rattle.srt_log.specs.Snapshots.{packets_in, bytes_in, lost_in, resent_in}
 use Rattle.srt_log.specs.Events.{event_text}
 use Rattle.srt_log.specs.Members.{text_member, number_member, signed_member, flag_member, shown_member, number_if}
 use Rattle.srt_log.specs.ConfigObjects.{config_kind, config_members}
@@ -26,7 +27,7 @@ use Rattle.srt_log.specs.ConfigObjects.{config_kind, config_members}
 abbrev pub kind_of : LogEvent → List ℕ
 kind_of (events.Started ip port routes workers memory) = codes "started"
 kind_of (events.Opened caller standby latency_ms) = codes "opened"
-kind_of (events.Ended caller reason lasted_ms counts clock) = codes "ended"
+kind_of (events.Ended caller reason lasted_ms traffic clock) = codes "ended"
 kind_of (events.TookOver caller) = codes "took_over"
 kind_of (events.Troubled caller trouble) = codes "troubled"
 kind_of (events.Refused code peer name by) = codes "refused"
@@ -73,10 +74,10 @@ reason_name RouteClosed = codes "route_closed"
 reason_name GatewayStops = codes "gateway_stops"
 reason_name Unknown = codes "unknown"
 
-unfoldable pub counts_members : SessionCounts → List ℕ
-counts_members counts =
-    number_member (codes "packets") counts.packets ++ number_member (codes "bytes") counts.bytes ++ number_member (codes "lost") counts.lost
-    ++ number_member (codes "resent") counts.resent
+unfoldable pub counts_members : Traffic → List ℕ
+counts_members traffic =
+    number_member (codes "packets") (packets_in traffic) ++ number_member (codes "bytes") (bytes_in traffic)
+    ++ number_member (codes "lost") (lost_in traffic) ++ number_member (codes "resent") (resent_in traffic)
 
 unfoldable pub drift_members : ClockDrift → List ℕ
 drift_members clock =
@@ -86,10 +87,10 @@ abbrev pub clock_members : Option ClockDrift → List ℕ
 clock_members None = []
 clock_members (Some clock) = drift_members clock
 
-unfoldable pub ended_members : Caller → EndReason → (lasted_ms : ℕ) → SessionCounts → Option ClockDrift → List ℕ
-ended_members caller reason lasted_ms counts clock =
+unfoldable pub ended_members : Caller → EndReason → (lasted_ms : ℕ) → Traffic → Option ClockDrift → List ℕ
+ended_members caller reason lasted_ms traffic clock =
     caller_members caller ++ text_member (codes "reason") (reason_name reason) ++ number_member (codes "lasted_ms") lasted_ms
-    ++ counts_members counts ++ clock_members clock
+    ++ counts_members traffic ++ clock_members clock
 
 abbrev pub trouble_name : Trouble → List ℕ
 trouble_name troubles.Misdirected = codes "misdirected"
@@ -158,7 +159,7 @@ stop_name causes.Rounds = codes "rounds"
 abbrev pub event_members : LogEvent → List ℕ
 event_members (events.Started ip port routes workers memory) = started_members ip port routes workers memory
 event_members (events.Opened caller standby latency_ms) = opened_members caller standby latency_ms
-event_members (events.Ended caller reason lasted_ms counts clock) = ended_members caller reason lasted_ms counts clock
+event_members (events.Ended caller reason lasted_ms traffic clock) = ended_members caller reason lasted_ms traffic clock
 event_members (events.TookOver caller) = caller_members caller
 event_members (events.Troubled caller trouble) = troubled_members caller trouble
 event_members (events.Refused code peer name by) = refused_members code peer name.now by

@@ -8,7 +8,6 @@ use Rattle.srt_route.specs.declared.view.Traffic.{Traffic}
 use Rattle.srt_route.specs.declared.view.Traffic.TheVariants.{Received, Sent}
 use Rattle.srt_log.specs.declared.events.EndReason.{EndReason}
 use Rattle.srt_log.specs.declared.events.EndReason.TheVariants as reasons
-use Rattle.srt_log.specs.declared.events.SessionCounts.{SessionCounts}
 use Rattle.srt_log.specs.declared.events.ClockDrift.{ClockDrift}
 use Rattle.srt_log.specs.declared.events.Trouble.{Trouble}
 use Rattle.srt_log.specs.declared.events.Trouble.TheVariants.{Misdirected, FullWindow, LatePackets}
@@ -36,12 +35,23 @@ reason_of stops causes.WindowLost = reasons.WindowLost
 reason_of stops causes.FileEnded = reasons.StreamEnd
 reason_of stops causes.Closed = if stops then reasons.GatewayStops else reasons.RouteClosed
 
--- the counts of a session: of a publisher's, what was received, given up, and arrived in addition; of a subscriber's, what was sent, given
--- up, and sent again
-abbrev pub counts_of : Traffic → SessionCounts
-counts_of (Received x) =
-    record { packets = x.counts.received; bytes = x.counts.bytes; lost = x.counts.given_up; resent = x.counts.arrived - x.counts.received }
-counts_of (Sent x) = record { packets = x.sendings.fresh; bytes = x.counts.bytes; lost = x.counts.given_up; resent = x.sendings.resent }
+-- what a session counted: packets, each once, and their bytes; those given up; of a publisher's session packets that arrived in addition, of a
+-- subscriber's those sent again
+abbrev pub packets_in : Traffic → ℕ
+packets_in (Received x) = x.counts.received
+packets_in (Sent x) = x.sendings.fresh
+
+abbrev pub bytes_in : Traffic → ℕ
+bytes_in (Received x) = x.counts.bytes
+bytes_in (Sent x) = x.counts.bytes
+
+abbrev pub lost_in : Traffic → ℕ
+lost_in (Received x) = x.counts.given_up
+lost_in (Sent x) = x.counts.given_up
+
+abbrev pub resent_in : Traffic → ℕ
+resent_in (Received x) = x.counts.arrived - x.counts.received
+resent_in (Sent x) = x.sendings.resent
 
 -- a correction in parts per million of the time since the opening, in microseconds, rounded toward 0; 0 at the opening
 abbrev pub ppm_of : (correction : ℤ) → (elapsed : ℕ) → ℤ

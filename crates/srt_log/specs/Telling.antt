@@ -15,7 +15,7 @@ use Rattle.srt_log.specs.declared.snapshots.SlotSession.TheVariants as sessions
 use Rattle.srt_log.specs.declared.snapshots.RouteSnapshot.{RouteSnapshot}
 use Rattle.srt_log.specs.declared.changes.Change.{Change}
 use Rattle.srt_log.specs.declared.changes.Change.TheVariants.{Gone, Ended, Opened, TookOver, Troubled, Unseen}
-use Rattle.srt_log.specs.Snapshots.{view_of, counts_of, clock_of, reason_of, latency_of}
+use Rattle.srt_log.specs.Snapshots.{view_of, clock_of, reason_of, latency_of}
 use Rattle.srt_log.specs.Changes.{slot_at, is_same_view}
 
 -- the session in a slot
@@ -56,7 +56,7 @@ opened_event route view = events.Opened (caller_of route view) (stands_by view) 
 
 abbrev pub end_event : Bor (List ℕ) → (stops : Bool) → EndedSession → LogEvent
 end_event route stops x =
-    events.Ended (caller_of route x.view) (reason_of stops x.cause) ((x.moment - x.view.opened) / 1000) (counts_of x.view.traffic)
+    events.Ended (caller_of route x.view) (reason_of stops x.cause) ((x.moment - x.view.opened) / 1000) x.view.traffic
     (clock_of x.view.traffic (x.moment - x.view.opened))
 
 abbrev pub ended_event : Bor (List ℕ) → (stops : Bool) → SlotSession → Option LogEvent
@@ -65,7 +65,7 @@ ended_event route stops (sessions.Ended x) = Some (end_event route stops x)
 
 abbrev pub gone_event : Bor (List ℕ) → SessionView → (moment : ℕ) → LogEvent
 gone_event route view moment =
-    events.Ended (caller_of route view) reasons.Unknown ((moment - view.opened) / 1000) (counts_of view.traffic)
+    events.Ended (caller_of route view) reasons.Unknown ((moment - view.opened) / 1000) view.traffic
     (clock_of view.traffic (moment - view.opened))
 
 -- a session whose slot has another one since: by its end, if that is known

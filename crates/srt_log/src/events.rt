@@ -1,6 +1,7 @@
 //! The events of the log.
 
 use crate::config_events::ConfigEvent;
+use srt_route::Traffic;
 use srt_types::{NotAdmitted, Peer, Role};
 
 /// A session as a line names it.
@@ -14,19 +15,6 @@ pub struct Caller<'a> {
     pub peer: Peer,
     /// The socket ID of the session here.
     pub id: u32,
-}
-
-/// The counts of a session.
-#[derive(Clone, Copy)]
-pub struct SessionCounts {
-    /// Data packets, each counted once.
-    pub packets: u64,
-    /// The bytes that they carried.
-    pub bytes: u64,
-    /// Packets that were lost: those that a publisher's session dropped as missing, or a subscriber's as too late.
-    pub lost: u64,
-    /// Packets that were sent again; of a publisher's session, those that arrived in addition to the ones counted.
-    pub resent: u64,
 }
 
 /// How a publisher's clock was followed. Both numbers are positive for a clock that is slow.
@@ -114,8 +102,8 @@ pub enum LogEvent<'a> {
         reason: EndReason,
         /// How long it was open, in milliseconds.
         lasted_ms: u64,
-        /// Its counts.
-        counts: SessionCounts,
+        /// Its counts, as its snapshot has them.
+        traffic: Traffic,
         /// How its clock was followed; `None` where it isn't followed.
         clock: Option<ClockDrift>,
     },

@@ -8,7 +8,9 @@
 //! Types: [`LogEvent`] (`events.rt`) is the content of a line, [`ConfigEvent`] (`config_events.rt`) that of a line about a
 //! changed configuration. [`LineShares`] (`line_limits.rt`) is the limit of lines in a second, with
 //! a share for each kind. [`RouteSnapshot`] (`snapshots.rt`) has the sessions of a route at one time, each with its
-//! `srt_route::SessionView`. [`RefusalRepeats`] (`repeats.rt`) counts refusals of one caller. [`Change`] (`changes.rt`) is what changed between two snapshots.
+//! `srt_route::SessionView`; the event of an end has the session's `srt_route::Traffic`, of which `counts.rt` reads what a line
+//! shows. [`RefusalRepeats`] (`repeats.rt`) counts refusals of one caller. [`Change`] (`changes.rt`) is what changed between two
+//! snapshots.
 //!
 //! Calls: [`write_line`] (`writing.rt`, `config_lines.rt`) writes an event's line, [`event_line`] returns it, [`put_object`] (`objects.rt`,
 //! `config_objects.rt`) puts it as a JSON object, [`LineShares::line`] returns whether a line may be written,
@@ -20,6 +22,7 @@ mod changes;
 mod config_events;
 mod config_lines;
 mod config_objects;
+mod counts;
 mod dates;
 mod events;
 pub mod laws;
@@ -36,7 +39,7 @@ mod writing;
 
 pub use changes::{Change, STEPS, change_at};
 pub use config_events::{ChangeSummary, CloseCause, ConfigEvent};
-pub use events::{Caller, ClockDrift, EndReason, LogEvent, SessionCounts, StopCause, Trouble};
+pub use events::{Caller, ClockDrift, EndReason, LogEvent, StopCause, Trouble};
 pub use line_limits::{LineAllowance, LineKind, LineShares};
 pub use objects::put_object;
 pub use repeats::{MAX_REPEATS, Refusal, RefusalRepeats, Repeat, Telling};

@@ -1,8 +1,7 @@
 //! Objects as a program reads them.
 
-use crate::{
-    Caller, ChangeSummary, ClockDrift, ConfigEvent, EndReason, LogEvent, SessionCounts, put_object,
-};
+use crate::{Caller, ChangeSummary, ClockDrift, ConfigEvent, EndReason, LogEvent, put_object};
+use srt_route::Traffic;
 use srt_types::{NotAdmitted, Peer, Role};
 use std::process::Abort;
 use std::test::Fail;
@@ -56,12 +55,25 @@ fn object_of_an_end(rt: HostRuntime) -> Result<(), Fail> {
             caller: encoder(),
             reason: EndReason::Silence,
             lasted_ms: 3_600_123,
-            counts: SessionCounts {
-                packets: 1000,
-                bytes: 1_316_000,
-                lost: 3,
-                resent: 2,
-            },
+            traffic: Traffic::Received(srt_pub::Statistics {
+                counts: srt_pub::Counts {
+                    arrived: 1002,
+                    late: 1,
+                    ahead: 0,
+                    received: 1000,
+                    bytes: 1_316_000,
+                    delivered: 990,
+                    given_up: 3,
+                    naks: 4,
+                    reported_lost: 5,
+                    full_window_acks: 0,
+                },
+                in_use: 10,
+                available: 22,
+                rtt: 100_000,
+                variance: 50_000,
+                correction: Some(-29_999),
+            }),
             clock: Some(ClockDrift {
                 ppm: -499,
                 correction: -29_999,

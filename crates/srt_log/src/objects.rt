@@ -11,13 +11,15 @@ ghost use Rattle.srt_log.specs.Texts.{put};
 ghost use Rattle.srt_log.specs.Events.{event_text};
 
 use crate::config_objects::{config_kind, put_config};
-use crate::events::{Caller, ClockDrift, EndReason, LogEvent, SessionCounts, StopCause, Trouble};
+use crate::counts::{bytes_in, lost_in, packets_in, resent_in};
+use crate::events::{Caller, ClockDrift, EndReason, LogEvent, StopCause, Trouble};
 use crate::line::Line;
 use crate::members::{
     put, put_flag, put_micros, put_number, put_number_if, put_shown, put_signed, put_text,
 };
 use crate::peers::{put_ip, put_peer, put_socket};
 use crate::writing::put_event;
+use srt_route::Traffic;
 use srt_types::{NotAdmitted, Peer, Role};
 use std::alloc::AllocError;
 
@@ -123,14 +125,15 @@ fn reason_name(reason: EndReason) -> &'static str
     }
 }
 
+/// Puts what a session counted.
 #[tactic(auto, using(crate::proofs::Growing::joined), unfolding(crate::specs::Objects::counts_members))]
-fn put_counts(out: &mut Vec<u8>, counts: SessionCounts) -> Result<(), AllocError>
-    ensures { OnOk result (out.new.items ≡ out.old.items ++ counts_members counts) }
+fn put_counts(out: &mut Vec<u8>, traffic: &Traffic) -> Result<(), AllocError>
+    ensures { OnOk result (out.new.items ≡ out.old.items ++ counts_members traffic.now) }
 {
-    put_number(out, b"packets", counts.packets)?;
-    put_number(out, b"bytes", counts.bytes)?;
-    put_number(out, b"lost", counts.lost)?;
-    put_number(out, b"resent", counts.resent)
+    put_number(out, b"packets", packets_in(traffic))?;
+    put_number(out, b"bytes", bytes_in(traffic))?;
+    put_number(out, b"lost", lost_in(traffic))?;
+    put_number(out, b"resent", resent_in(traffic))
 }
 
 #[tactic(auto, using(crate::proofs::Growing::joined), unfolding(crate::specs::Objects::drift_members))]
@@ -158,15 +161,15 @@ fn put_ended(
     caller: Caller<'_>,
     reason: EndReason,
     lasted_ms: u64,
-    counts: SessionCounts,
+    traffic: &Traffic,
     clock: Option<ClockDrift>,
 ) -> Result<(), AllocError>
-    ensures { OnOk result (out.new.items ≡ out.old.items ++ ended_members caller.entry reason lasted_ms counts clock) }
+    ensures { OnOk result (out.new.items ≡ out.old.items ++ ended_members caller.entry reason lasted_ms traffic.now clock) }
 {
     put_caller(out, caller)?;
     put_text(out, b"reason", reason_name(reason).as_bytes())?;
     put_number(out, b"lasted_ms", lasted_ms)?;
-    put_counts(out, counts)?;
+    put_counts(out, traffic)?;
     put_clock(out, clock)
 }
 
@@ -352,9 +355,9 @@ fn put_members(out: &mut Vec<u8>, event: LogEvent<'_>) -> Result<(), AllocError>
             caller,
             reason,
             lasted_ms,
-            counts,
+            traffic,
             clock,
-        } => put_ended(out, caller, reason, lasted_ms, counts, clock),
+        } => put_ended(out, caller, reason, lasted_ms, &traffic, clock),
         LogEvent::TookOver { caller } => put_caller(out, caller),
         LogEvent::Troubled { caller, trouble } => put_troubled(out, caller, trouble),
         LogEvent::Refused {

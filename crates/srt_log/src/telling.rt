@@ -1,12 +1,12 @@
 //! What the log states of a change.
 
 ghost use Rattle.std.specs.Prelude.{◌≡◌};
-ghost use Rattle.srt_log.specs.Snapshots.{counts_of, ppm_of, clock_after, clock_of, reason_of, latency_of};
+ghost use Rattle.srt_log.specs.Snapshots.{ppm_of, clock_after, clock_of, reason_of, latency_of};
 ghost use Rattle.srt_log.specs.Telling.{session_at, last_end, if_same, end_between, caller_of, stands_by, opened_event, end_event, ended_event};
 ghost use Rattle.srt_log.specs.Telling.{gone_event, replaced_event, took_over_event, troubled_event, event_of};
 
 use crate::changes::{Change, is_same_view};
-use crate::events::{Caller, ClockDrift, EndReason, LogEvent, SessionCounts, Trouble};
+use crate::events::{Caller, ClockDrift, EndReason, LogEvent, Trouble};
 use crate::snapshots::{RouteSnapshot, SlotSession};
 use srt_route::{EndCause, EndedSession, SessionView, Traffic};
 use srt_types::Role;
@@ -29,30 +29,6 @@ fn reason_of(stops: bool, cause: EndCause) -> EndReason
                 EndReason::RouteClosed
             }
         }
-    }
-}
-
-// Returns the counts of a session. Of a publisher's, `resent` counts packets that arrived in addition to those received:
-// again, too late, or too far ahead.
-fn counts_of(traffic: &Traffic) -> SessionCounts
-    ensures { result ≡ counts_of traffic.now }
-{
-    match traffic {
-        Traffic::Received(statistics) => SessionCounts {
-            packets: statistics.counts.received,
-            bytes: statistics.counts.bytes,
-            lost: statistics.counts.given_up,
-            resent: statistics
-                .counts
-                .arrived
-                .saturating_sub(statistics.counts.received),
-        },
-        Traffic::Sent(statistics) => SessionCounts {
-            packets: statistics.sendings.fresh,
-            bytes: statistics.counts.bytes,
-            lost: statistics.counts.given_up,
-            resent: statistics.sendings.resent,
-        },
     }
 }
 
@@ -184,7 +160,7 @@ fn end_event<'a>(route: &'a [u8], stops: bool, ended: &EndedSession) -> LogEvent
         caller: caller_of(route, &ended.view),
         reason: reason_of(stops, ended.cause),
         lasted_ms: elapsed / 1000,
-        counts: counts_of(&ended.view.traffic),
+        traffic: ended.view.traffic,
         clock: clock_of(&ended.view.traffic, elapsed),
     }
 }
@@ -207,7 +183,7 @@ fn gone_event<'a>(route: &'a [u8], view: &SessionView, moment: u64) -> LogEvent<
         caller: caller_of(route, view),
         reason: EndReason::Unknown,
         lasted_ms: elapsed / 1000,
-        counts: counts_of(&view.traffic),
+        traffic: view.traffic,
         clock: clock_of(&view.traffic, elapsed),
     }
 }

@@ -2,8 +2,8 @@
 
 use crate::{
     Caller, Change, ChangeSummary, CloseCause, ConfigEvent, EndReason, LineKind, LineShares,
-    LogEvent, RouteSnapshot, STEPS, SessionCounts, SlotSession, StopCause, Trouble, change_at,
-    event_of, slot_of, write_line,
+    LogEvent, RouteSnapshot, STEPS, SlotSession, StopCause, Trouble, change_at, event_of, slot_of,
+    write_line,
 };
 use srt_config::FixedKeys;
 use srt_route::{EndCause, EndedSession, SessionView, Traffic};
@@ -86,10 +86,15 @@ fn lines_of_ends_and_take_overs(rt: HostRuntime) -> Result<(), Fail> {
         peer: far(9),
         id: 0xfedc_ba98,
     };
-    let counts = SessionCounts {
-        packets: 1000,
+    let counts = srt_sub::Counts {
+        queued: 1003,
         bytes: 1_316_000,
-        lost: 3,
+        naks: 1,
+        given_up: 3,
+        misdirected: 0,
+    };
+    let sendings = srt_sub::Sendings {
+        fresh: 1000,
         resent: 2,
     };
     assert_line(
@@ -99,7 +104,7 @@ fn lines_of_ends_and_take_overs(rt: HostRuntime) -> Result<(), Fail> {
             caller: player,
             reason: EndReason::Silence,
             lasted_ms: 3_600_123,
-            counts,
+            traffic: sent_of(counts, sendings),
             clock: None,
         },
         "studio: subscriber [2001:db8::1]:9 ended, socket 0xfedcba98, nothing arrived from its peer, after 3600123 ms, 1000 packets, 1316000 bytes, 3 lost, 2 resent\n",
@@ -118,12 +123,6 @@ fn assert_reason<R: Abort + AllocGlobal>(
     reason: EndReason,
     line: &str,
 ) -> Result<(), Fail> {
-    let counts = SessionCounts {
-        packets: 0,
-        bytes: 0,
-        lost: 0,
-        resent: 0,
-    };
     assert_line(
         rt,
         None,
@@ -131,7 +130,7 @@ fn assert_reason<R: Abort + AllocGlobal>(
             caller: encoder(),
             reason,
             lasted_ms: 0,
-            counts,
+            traffic: received(0, 0),
             clock: None,
         },
         line,
@@ -607,26 +606,33 @@ fn received(full_window_acks: u64, late: u64) -> Traffic {
     })
 }
 
-/// What a subscriber's session counts whose caller sent this many data packets.
-fn sent(misdirected: u64) -> Traffic {
+/// The state of a subscriber's session with these counts.
+fn sent_of(counts: srt_sub::Counts, sendings: srt_sub::Sendings) -> Traffic {
     Traffic::Sent(srt_sub::Statistics {
-        counts: srt_sub::Counts {
-            queued: 0,
-            bytes: 0,
-            naks: 0,
-            given_up: 0,
-            misdirected,
-        },
-        sendings: srt_sub::Sendings {
-            fresh: 0,
-            resent: 0,
-        },
+        counts,
+        sendings,
         room: 32,
         in_flight: 0,
         flow_window: 32,
         rtt: 100_000,
         variance: 50_000,
     })
+}
+
+/// What a subscriber's session counts whose caller sent this many data packets.
+fn sent(misdirected: u64) -> Traffic {
+    let counts = srt_sub::Counts {
+        queued: 0,
+        bytes: 0,
+        naks: 0,
+        given_up: 0,
+        misdirected,
+    };
+    let sendings = srt_sub::Sendings {
+        fresh: 0,
+        resent: 0,
+    };
+    sent_of(counts, sendings)
 }
 
 /// The state of a publisher's session with this socket ID.

@@ -10,11 +10,13 @@ ghost use Rattle.srt_log.specs.Events.{count_text, cause_text, event_text, time_
 ghost use Rattle.srt_log.specs.Events.{name_text, asked_text, refused_again_text};
 
 use crate::config_lines::put_config;
-use crate::events::{Caller, ClockDrift, EndReason, LogEvent, SessionCounts, StopCause, Trouble};
+use crate::counts::{bytes_in, lost_in, packets_in, resent_in};
+use crate::events::{Caller, ClockDrift, EndReason, LogEvent, StopCause, Trouble};
 use crate::line::Line;
 use crate::peers::{put_ip, put_peer, put_socket};
 use arrayvec::ArrayVec;
 use srt_hs::{RefusalCode, refusal_name};
+use srt_route::Traffic;
 use srt_types::product_limits::MAX_LOG_LINE;
 use srt_types::{NotAdmitted, Peer, Role};
 use std::io::{self, Write};
@@ -80,23 +82,18 @@ fn put_reason(line: &mut Line, reason: EndReason)
     }
 }
 
+/// Puts what a session counted.
 #[tactic(auto, using(crate::proofs::Puts::put_put))]
-fn put_counts(line: &mut Line, counts: SessionCounts)
-    ensures { line.new.text.items ≡ put line.old.text.items (counts_text counts) }
+fn put_counts(line: &mut Line, traffic: &Traffic)
+    ensures { line.new.text.items ≡ put line.old.text.items (counts_text traffic.now) }
 {
-    let SessionCounts {
-        packets,
-        bytes,
-        lost,
-        resent,
-    } = counts;
-    line.put_number(packets);
+    line.put_number(packets_in(traffic));
     line.put(b" packets, ");
-    line.put_number(bytes);
+    line.put_number(bytes_in(traffic));
     line.put(b" bytes, ");
-    line.put_number(lost);
+    line.put_number(lost_in(traffic));
     line.put(b" lost, ");
-    line.put_number(resent);
+    line.put_number(resent_in(traffic));
     line.put(b" resent");
 }
 
@@ -123,10 +120,10 @@ fn put_ended(
     caller: Caller<'_>,
     reason: EndReason,
     lasted_ms: u64,
-    counts: SessionCounts,
+    traffic: &Traffic,
     clock: Option<ClockDrift>,
 )
-    ensures { line.new.text.items ≡ put line.old.text.items (ended_text caller.entry reason lasted_ms counts clock) }
+    ensures { line.new.text.items ≡ put line.old.text.items (ended_text caller.entry reason lasted_ms traffic.now clock) }
 {
     put_caller(line, caller);
     line.put(b" ended, socket ");
@@ -135,7 +132,7 @@ fn put_ended(
     line.put(b", after ");
     line.put_number(lasted_ms);
     line.put(b" ms, ");
-    put_counts(line, counts);
+    put_counts(line, traffic);
     put_clock(line, clock);
 }
 
@@ -396,9 +393,9 @@ pub(crate) fn put_event(line: &mut Line, event: LogEvent<'_>)
             caller,
             reason,
             lasted_ms,
-            counts,
+            traffic,
             clock,
-        } => put_ended(line, caller, reason, lasted_ms, counts, clock),
+        } => put_ended(line, caller, reason, lasted_ms, &traffic, clock),
         LogEvent::TookOver { caller } => put_took_over(line, caller),
         LogEvent::Troubled { caller, trouble } => put_troubled(line, caller, trouble),
         LogEvent::Refused {
