@@ -5,3 +5,4 @@ pub mod Requested
 pub mod Minutes
 pub mod Trips
 pub mod Expected
+pub mod Rows

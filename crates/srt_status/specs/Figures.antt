@@ -6,6 +6,8 @@ use Rattle.srt_pub.specs.declared.statistics.Statistics.{Statistics as Publisher
 use Rattle.srt_sub.specs.declared.counts.Counts.{Counts as QueuedCounts}
 use Rattle.srt_sub.specs.declared.counts.Sendings.{Sendings}
 use Rattle.srt_sub.specs.declared.statistics.Statistics.{Statistics as SubscriberStatistics}
+use Rattle.srt_hs.specs.declared.refusal_codes.RefusalCode.{RefusalCode}
+use Rattle.srt_hs.specs.declared.refusal_codes.RefusalCode.TheVariants as reasons
 use Rattle.srt_route.specs.declared.view.SessionView.{SessionView}
 use Rattle.srt_route.specs.declared.view.Traffic.{Traffic}
 use Rattle.srt_route.specs.declared.view.Traffic.TheVariants.{Received, Sent}
@@ -23,8 +25,6 @@ use Rattle.srt_status.specs.declared.figures.Gauge.{Gauge}
 use Rattle.srt_status.specs.declared.figures.Gauge.TheVariants as gauges
 use Rattle.srt_status.specs.declared.figures.Total.{Total}
 use Rattle.srt_status.specs.declared.figures.Total.TheVariants as totals
-use Rattle.srt_status.specs.declared.figures.Reason.{Reason}
-use Rattle.srt_status.specs.declared.figures.Reason.TheVariants as reasons
 use Rattle.srt_status.specs.declared.figures.RouteFigure.{RouteFigure}
 use Rattle.srt_status.specs.declared.figures.RouteFigure.TheVariants as figures
 
@@ -374,32 +374,8 @@ all_totals =
     ∷ totals.NoName ∷ totals.UnknownName ∷ totals.PublishFrom ∷ totals.RequestFrom ∷ totals.PublishKey ∷ totals.RequestKey
     ∷ totals.ChangesTaken ∷ totals.ChangesRefused ∷ totals.Indexes ∷ []
 
--- the number and the name of a reason, as labels
-abbrev pub reason_labels : Reason → List ℕ
-reason_labels reasons.Peer = codes "code=\"1002\",reason=\"PEER\"} "
-reason_labels reasons.Resource = codes "code=\"1003\",reason=\"RESOURCE\"} "
-reason_labels reasons.Rogue = codes "code=\"1004\",reason=\"ROGUE\"} "
-reason_labels reasons.Version = codes "code=\"1008\",reason=\"VERSION\"} "
-reason_labels reasons.BadSecret = codes "code=\"1010\",reason=\"BADSECRET\"} "
-reason_labels reasons.Unsecure = codes "code=\"1011\",reason=\"UNSECURE\"} "
-reason_labels reasons.MessageApi = codes "code=\"1012\",reason=\"MESSAGEAPI\"} "
-reason_labels reasons.Filter = codes "code=\"1014\",reason=\"FILTER\"} "
-reason_labels reasons.Group = codes "code=\"1015\",reason=\"GROUP\"} "
-
--- the name of a reason
-abbrev pub reason_name : Reason → List ℕ
-reason_name reasons.Peer = codes "PEER"
-reason_name reasons.Resource = codes "RESOURCE"
-reason_name reasons.Rogue = codes "ROGUE"
-reason_name reasons.Version = codes "VERSION"
-reason_name reasons.BadSecret = codes "BADSECRET"
-reason_name reasons.Unsecure = codes "UNSECURE"
-reason_name reasons.MessageApi = codes "MESSAGEAPI"
-reason_name reasons.Filter = codes "FILTER"
-reason_name reasons.Group = codes "GROUP"
-
--- how many were refused for it
-abbrev pub refusal_count : Reason → RefusalCounts → ℕ
+-- how many conclusions were refused for a reason (section 4.3, table 7)
+abbrev pub refusal_count : RefusalCode → RefusalCounts → ℕ
 refusal_count reasons.Peer counts = counts.peer
 refusal_count reasons.Resource counts = counts.resource
 refusal_count reasons.Rogue counts = counts.rogue
@@ -411,7 +387,7 @@ refusal_count reasons.Filter counts = counts.filter
 refusal_count reasons.Group counts = counts.group
 
 -- all reasons, in the order of their numbers
-abbrev pub all_reasons : List Reason
+abbrev pub all_reasons : List RefusalCode
 all_reasons =
     reasons.Peer ∷ reasons.Resource ∷ reasons.Rogue ∷ reasons.Version ∷ reasons.BadSecret ∷ reasons.Unsecure ∷ reasons.MessageApi ∷ reasons.Filter
     ∷ reasons.Group ∷ []

@@ -16,14 +16,15 @@ use Rattle.srt_status.specs.declared.figures.Amount.{Amount}
 use Rattle.srt_status.specs.declared.figures.Count.{Count}
 use Rattle.srt_status.specs.declared.figures.Gauge.{Gauge}
 use Rattle.srt_status.specs.declared.figures.Total.{Total}
-use Rattle.srt_status.specs.declared.figures.Reason.{Reason}
+use Rattle.srt_hs.specs.declared.refusal_codes.RefusalCode.{RefusalCode}
+use Rattle.srt_hs.specs.Refusals.{name_of}
 use Rattle.srt_status.specs.declared.figures.RouteFigure.{RouteFigure}
 use Rattle.srt_status.specs.declared.process.ProcessFigure.{ProcessFigure}
 use Rattle.srt_status.specs.declared.labels.Ending.{Ending}
 use Rattle.srt_status.specs.Texts.{name_text, id_text, amount_text}
 use Rattle.srt_status.specs.Peers.{peer_text}
 use Rattle.srt_status.specs.Figures.{count_name, publisher_count, subscriber_count, session_count, gauge_name, gauge_amount}
-use Rattle.srt_status.specs.Figures.{total_name, total_value, reason_name, refusal_count, figure_name, route_figure, all_counts, all_gauges}
+use Rattle.srt_status.specs.Figures.{total_name, total_value, refusal_count, figure_name, route_figure, all_counts, all_gauges}
 use Rattle.srt_status.specs.Figures.{all_totals, all_reasons, all_figures}
 use Rattle.srt_status.specs.Process.{process_name, process_amount, all_process}
 use Rattle.srt_status.specs.Labels.{end_label, end_count, all_endings}
@@ -40,8 +41,8 @@ amount_json name amount = codes ",\"" ++ name ++ codes "\":" ++ amount_text amou
 unfoldable pub total_json : GatewayStatus → Total → List ℕ
 total_json gateway total = if_some (number_json (total_name total)) (total_value total gateway)
 
-unfoldable pub refusal_json : RefusalCounts → Reason → List ℕ
-refusal_json counts reason = codes ",\"refusals_" ++ reason_name reason ++ codes "\":" ++ decimal (refusal_count reason counts)
+unfoldable pub refusal_json : RefusalCounts → RefusalCode → List ℕ
+refusal_json counts reason = codes ",\"refusals_" ++ name_of reason ++ codes "\":" ++ decimal (refusal_count reason counts)
 
 unfoldable pub totals_json : GatewayStatus → List ℕ
 totals_json gateway = flat_map (total_json gateway) all_totals

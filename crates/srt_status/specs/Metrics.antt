@@ -3,6 +3,8 @@ use Rattle.std.specs.Prelude.{ℕ, Bool, true, false, List, [], ◌++◌, codes,
 use Rattle.std.specs.List.{flat_map, count_by}
 use Rattle.srt_types.specs.declared.shared.Role.{Role}
 use Rattle.srt_types.specs.declared.shared.Role.TheVariants.{Publish, Request}
+use Rattle.srt_hs.specs.declared.refusal_codes.RefusalCode.{RefusalCode}
+use Rattle.srt_hs.specs.Refusals.{number_of, name_of}
 use Rattle.srt_status.specs.declared.gateway.GatewayStatus.{GatewayStatus}
 use Rattle.srt_status.specs.declared.gateway.RefusalCounts.{RefusalCounts}
 use Rattle.srt_status.specs.declared.gateway.CauseCounts.{CauseCounts}
@@ -13,7 +15,6 @@ use Rattle.srt_status.specs.declared.figures.Amount.{Amount}
 use Rattle.srt_status.specs.declared.figures.Count.{Count}
 use Rattle.srt_status.specs.declared.figures.Gauge.{Gauge}
 use Rattle.srt_status.specs.declared.figures.Total.{Total}
-use Rattle.srt_status.specs.declared.figures.Reason.{Reason}
 use Rattle.srt_status.specs.declared.figures.RouteFigure.{RouteFigure}
 use Rattle.srt_status.specs.declared.process.ProcessFigure.{ProcessFigure}
 use Rattle.srt_status.specs.declared.labels.Cause.{Cause}
@@ -21,7 +22,7 @@ use Rattle.srt_status.specs.declared.labels.Ending.{Ending}
 use Rattle.srt_status.specs.Texts.{name_text, id_text, amount_text}
 use Rattle.srt_status.specs.Peers.{peer_text}
 use Rattle.srt_status.specs.Figures.{count_name, count_help, publisher_count, subscriber_count, session_count, gauge_name}
-use Rattle.srt_status.specs.Figures.{gauge_help, gauge_amount, total_name, total_help, total_kind, total_value, reason_labels}
+use Rattle.srt_status.specs.Figures.{gauge_help, gauge_amount, total_name, total_help, total_kind, total_value}
 use Rattle.srt_status.specs.Figures.{refusal_count, figure_name, figure_help, figure_kind, route_figure, all_counts, all_gauges, all_totals}
 use Rattle.srt_status.specs.Figures.{all_reasons, all_figures}
 use Rattle.srt_status.specs.Process.{process_name, process_help, process_kind, process_amount, all_process}
@@ -55,11 +56,15 @@ build_text version =
     head_text [] (codes "build_info") (codes "The version of the program.") (codes "gauge") ++ codes "srtgw_build_info{version=\"" ++ name_text version
     ++ codes "\"} 1\n"
 
+-- the number and the name of a reason for a refusal, as labels
+unfoldable pub reason_labels : RefusalCode → List ℕ
+reason_labels reason = codes "code=\"" ++ decimal (number_of reason) ++ codes "\",reason=\"" ++ name_of reason ++ codes "\"} "
+
 -- refusals before a route was known
 unfoldable pub lobby_start : List ℕ
 lobby_start = codes "srtgw_lobby_refusals_total{"
 
-unfoldable pub lobby_refusal : RefusalCounts → Reason → List ℕ
+unfoldable pub lobby_refusal : RefusalCounts → RefusalCode → List ℕ
 lobby_refusal counts reason = lobby_start ++ reason_labels reason ++ decimal (refusal_count reason counts) ++ codes "\n"
 
 unfoldable pub lobby_refusals : RefusalCounts → List ℕ
@@ -125,7 +130,7 @@ figures_text routes = flat_map (figure_family routes) all_figures
 unfoldable pub refusals_name : List ℕ
 refusals_name = codes "srtgw_route_refusals_total"
 
-unfoldable pub route_refusal : RouteStatus → Reason → List ℕ
+unfoldable pub route_refusal : RouteStatus → RefusalCode → List ℕ
 route_refusal route reason =
     refusals_name ++ route_label (string_bytes route.name) ++ codes "," ++ reason_labels reason
     ++ decimal (refusal_count reason route.refused) ++ codes "\n"

@@ -4,12 +4,13 @@ ghost use Rattle.std.specs.Prelude.{◌≡◌};
 ghost use Rattle.srt_status.specs.Figures.{count_name, count_help, publisher_count, subscriber_count, gauge_name, gauge_help, gauge_amount};
 ghost use Rattle.srt_status.specs.Figures.{publisher_amount, subscriber_amount, latency_amount, round_trip_of, variance_of, trip_amount, traffic_amount};
 ghost use Rattle.srt_status.specs.Figures.{correction_of, ppm_of, drift_amount, correction_amount, repeats_of, session_count, total_name};
-ghost use Rattle.srt_status.specs.Figures.{total_help, total_kind, total_value, reason_labels, reason_name, refusal_count, figure_name};
+ghost use Rattle.srt_status.specs.Figures.{total_help, total_kind, total_value, refusal_count, figure_name};
 ghost use Rattle.srt_status.specs.Figures.{figure_help, figure_kind, limit_figure, route_figure, one_if_some, absent_if};
 
 use crate::expectation::Expectation;
 use crate::gateway::{GatewayStatus, RefusalCounts};
 use crate::route_status::{LimitCounts, RouteStatus};
+use srt_hs::RefusalCode;
 use srt_route::{SessionView, Traffic};
 use srt_sub::Sendings;
 
@@ -575,81 +576,33 @@ pub(crate) fn total_value(total: Total, gateway: &GatewayStatus<'_>) -> Option<u
     }
 }
 
-/// A reason for a refusal.
-#[derive(Clone, Copy)]
-pub(crate) enum Reason {
-    Peer,
-    Resource,
-    Rogue,
-    Version,
-    BadSecret,
-    Unsecure,
-    MessageApi,
-    Filter,
-    Group,
-}
-
-/// All reasons, in the order of their numbers.
-pub(crate) const REASONS: [Reason; 9] = [
-    Reason::Peer,
-    Reason::Resource,
-    Reason::Rogue,
-    Reason::Version,
-    Reason::BadSecret,
-    Reason::Unsecure,
-    Reason::MessageApi,
-    Reason::Filter,
-    Reason::Group,
+/// All reasons for a refusal, in the order of their numbers.
+pub(crate) const REASONS: [RefusalCode; 9] = [
+    RefusalCode::Peer,
+    RefusalCode::Resource,
+    RefusalCode::Rogue,
+    RefusalCode::Version,
+    RefusalCode::BadSecret,
+    RefusalCode::Unsecure,
+    RefusalCode::MessageApi,
+    RefusalCode::Filter,
+    RefusalCode::Group,
 ];
 
-/// The number and the name of a reason, as labels.
-pub(crate) fn reason_labels(reason: Reason) -> &'static str
-    ensures { result.now ≡ reason_labels reason }
-{
-    match reason {
-        Reason::Peer => "code=\"1002\",reason=\"PEER\"} ",
-        Reason::Resource => "code=\"1003\",reason=\"RESOURCE\"} ",
-        Reason::Rogue => "code=\"1004\",reason=\"ROGUE\"} ",
-        Reason::Version => "code=\"1008\",reason=\"VERSION\"} ",
-        Reason::BadSecret => "code=\"1010\",reason=\"BADSECRET\"} ",
-        Reason::Unsecure => "code=\"1011\",reason=\"UNSECURE\"} ",
-        Reason::MessageApi => "code=\"1012\",reason=\"MESSAGEAPI\"} ",
-        Reason::Filter => "code=\"1014\",reason=\"FILTER\"} ",
-        Reason::Group => "code=\"1015\",reason=\"GROUP\"} ",
-    }
-}
-
-/// The name of a reason.
-pub(crate) fn reason_name(reason: Reason) -> &'static str
-    ensures { result.now ≡ reason_name reason }
-{
-    match reason {
-        Reason::Peer => "PEER",
-        Reason::Resource => "RESOURCE",
-        Reason::Rogue => "ROGUE",
-        Reason::Version => "VERSION",
-        Reason::BadSecret => "BADSECRET",
-        Reason::Unsecure => "UNSECURE",
-        Reason::MessageApi => "MESSAGEAPI",
-        Reason::Filter => "FILTER",
-        Reason::Group => "GROUP",
-    }
-}
-
 /// How many conclusions were refused for this reason.
-pub(crate) fn refusal_count(reason: Reason, counts: &RefusalCounts) -> u64
+pub(crate) fn refusal_count(reason: RefusalCode, counts: &RefusalCounts) -> u64
     ensures { result ≡ refusal_count reason counts.now }
 {
     match reason {
-        Reason::Peer => counts.peer,
-        Reason::Resource => counts.resource,
-        Reason::Rogue => counts.rogue,
-        Reason::Version => counts.version,
-        Reason::BadSecret => counts.bad_secret,
-        Reason::Unsecure => counts.unsecure,
-        Reason::MessageApi => counts.message_api,
-        Reason::Filter => counts.filter,
-        Reason::Group => counts.group,
+        RefusalCode::Peer => counts.peer,
+        RefusalCode::Resource => counts.resource,
+        RefusalCode::Rogue => counts.rogue,
+        RefusalCode::Version => counts.version,
+        RefusalCode::BadSecret => counts.bad_secret,
+        RefusalCode::Unsecure => counts.unsecure,
+        RefusalCode::MessageApi => counts.message_api,
+        RefusalCode::Filter => counts.filter,
+        RefusalCode::Group => counts.group,
     }
 }
 

@@ -13,9 +13,9 @@ ghost use Rattle.srt_status.specs.Json.{session_counts_json, gauges_json, figure
 ghost use Rattle.srt_status.specs.Json.{end_json, all_ends_json, ends_json};
 
 use crate::figures::{
-    Amount, COUNTS, Count, GAUGES, Gauge, REASONS, ROUTE_FIGURES, Reason, RouteFigure, TOTALS,
-    Total, count_name, figure_name, gauge_amount, gauge_name, publisher_count, reason_name,
-    refusal_count, route_figure, session_count, subscriber_count, total_name, total_value,
+    Amount, COUNTS, Count, GAUGES, Gauge, REASONS, ROUTE_FIGURES, RouteFigure, TOTALS, Total,
+    count_name, figure_name, gauge_amount, gauge_name, publisher_count, refusal_count,
+    route_figure, session_count, subscriber_count, total_name, total_value,
 };
 use crate::gateway::{GatewayStatus, RefusalCounts};
 use crate::labels::{ENDINGS, Ending, end_count, end_label};
@@ -23,6 +23,7 @@ use crate::peers::put_peer;
 use crate::process::{PROCESS_FIGURES, ProcessFigure, process_amount, process_name};
 use crate::route_status::{EndCounts, RouteStatus};
 use crate::text::{put, put_amount, put_id, put_name, put_number};
+use srt_hs::RefusalCode;
 use srt_route::{SessionView, Totals};
 use srt_types::{Mode, Role};
 use std::alloc::AllocError;
@@ -81,11 +82,15 @@ fn put_all_totals(out: &mut Vec<u8>, gateway: &GatewayStatus<'_>) -> Result<(), 
 }
 
 #[tactic(auto, using(crate::proofs::Puts::joined), unfolding(crate::specs::Json::refusal_json))]
-fn put_refusal(out: &mut Vec<u8>, counts: &RefusalCounts, reason: Reason) -> Result<(), AllocError>
+fn put_refusal(
+    out: &mut Vec<u8>,
+    counts: &RefusalCounts,
+    reason: RefusalCode,
+) -> Result<(), AllocError>
     ensures { OnOk result (out.new.items ≡ out.old.items ++ refusal_json counts.now reason) }
 {
     put(out, b",\"refusals_")?;
-    put(out, reason_name(reason).as_bytes())?;
+    put(out, reason.name().as_bytes())?;
     put(out, b"\":")?;
     put_number(out, refusal_count(reason, counts))
 }
@@ -94,7 +99,7 @@ fn put_refusal(out: &mut Vec<u8>, counts: &RefusalCounts, reason: Reason) -> Res
 fn put_refusals(
     out: &mut Vec<u8>,
     counts: &RefusalCounts,
-    reasons: &[Reason],
+    reasons: &[RefusalCode],
 ) -> Result<(), AllocError>
     ensures { OnOk result (out.new.items ≡ out.old.items ++ flat_map (refusal_json counts.now) reasons.now) }
 {

@@ -3,7 +3,7 @@
 ghost use Rattle.std.specs.Prelude.{◌≡◌, ◌++◌, OnOk, string_bytes};
 ghost use Rattle.std.specs.List.{flat_map};
 ghost use Rattle.srt_status.specs.Metrics.{lobby_start, route_prefix, refusals_name, sessions_name, session_prefix, if_some, head_line};
-ghost use Rattle.srt_status.specs.Metrics.{head_text, total_text, total_family, build_text, lobby_refusal, lobby_text, route_label};
+ghost use Rattle.srt_status.specs.Metrics.{head_text, total_text, total_family, build_text, reason_labels, lobby_refusal, lobby_text, route_label};
 ghost use Rattle.srt_status.specs.Metrics.{figure_sample, figure_text, figure_family, route_refusal, route_refusals, refusals_text};
 ghost use Rattle.srt_status.specs.Metrics.{role_label, plays, has_role, open_sessions, sessions_sample, route_sessions, sessions_text};
 ghost use Rattle.srt_status.specs.Metrics.{count_sample, route_count, count_family, session_labels, session_count_sample};
@@ -15,10 +15,10 @@ ghost use Rattle.srt_status.specs.Metrics.{process_head, process_text, process_f
 ghost use Rattle.srt_status.specs.Metrics.{end_samples, route_ends, ends_text};
 
 use crate::figures::{
-    Amount, COUNTS, Count, GAUGES, Gauge, REASONS, ROUTE_FIGURES, Reason, RouteFigure, TOTALS,
-    Total, count_help, count_name, figure_help, figure_kind, figure_name, gauge_amount, gauge_help,
-    gauge_name, publisher_count, reason_labels, refusal_count, route_figure, session_count,
-    subscriber_count, total_help, total_kind, total_name, total_value,
+    Amount, COUNTS, Count, GAUGES, Gauge, REASONS, ROUTE_FIGURES, RouteFigure, TOTALS, Total,
+    count_help, count_name, figure_help, figure_kind, figure_name, gauge_amount, gauge_help,
+    gauge_name, publisher_count, refusal_count, route_figure, session_count, subscriber_count,
+    total_help, total_kind, total_name, total_value,
 };
 use crate::gateway::{CauseCounts, GatewayStatus, RefusalCounts};
 use crate::labels::{
@@ -30,6 +30,7 @@ use crate::process::{
 };
 use crate::route_status::{EndCounts, RouteStatus};
 use crate::text::{put, put_amount, put_id, put_name, put_number};
+use srt_hs::RefusalCode;
 use srt_route::SessionView;
 use srt_types::Role;
 use std::alloc::AllocError;
@@ -141,6 +142,18 @@ fn put_build(out: &mut Vec<u8>, version: &str) -> Result<(), AllocError>
     put(out, b"\"} 1\n")
 }
 
+/// Puts the number and the name of a reason for a refusal, as labels.
+#[tactic(auto, using(crate::proofs::Puts::joined), unfolding(crate::specs::Metrics::reason_labels))]
+fn put_reason_labels(out: &mut Vec<u8>, reason: RefusalCode) -> Result<(), AllocError>
+    ensures { OnOk result (out.new.items ≡ out.old.items ++ reason_labels reason) }
+{
+    put(out, b"code=\"")?;
+    put_number(out, u64::from(reason.number()))?;
+    put(out, b"\",reason=\"")?;
+    put(out, reason.name().as_bytes())?;
+    put(out, b"\"} ")
+}
+
 #[tactic(auto, unfolding(crate::specs::Metrics::lobby_start))]
 fn put_lobby_start(out: &mut Vec<u8>) -> Result<(), AllocError>
     ensures { OnOk result (out.new.items ≡ out.old.items ++ lobby_start) }
@@ -152,12 +165,12 @@ fn put_lobby_start(out: &mut Vec<u8>) -> Result<(), AllocError>
 fn put_lobby_refusal(
     out: &mut Vec<u8>,
     counts: &RefusalCounts,
-    reason: Reason,
+    reason: RefusalCode,
 ) -> Result<(), AllocError>
     ensures { OnOk result (out.new.items ≡ out.old.items ++ lobby_refusal counts.now reason) }
 {
     put_lobby_start(out)?;
-    put(out, reason_labels(reason).as_bytes())?;
+    put_reason_labels(out, reason)?;
     put_number(out, refusal_count(reason, counts))?;
     put(out, b"\n")
 }
@@ -166,7 +179,7 @@ fn put_lobby_refusal(
 fn put_lobby_refusals(
     out: &mut Vec<u8>,
     counts: &RefusalCounts,
-    reasons: &[Reason],
+    reasons: &[RefusalCode],
 ) -> Result<(), AllocError>
     ensures { OnOk result (out.new.items ≡ out.old.items ++ flat_map (lobby_refusal counts.now) reasons.now) }
 {
@@ -434,14 +447,14 @@ fn put_refusals_name(out: &mut Vec<u8>) -> Result<(), AllocError>
 fn put_route_refusal(
     out: &mut Vec<u8>,
     route: &RouteStatus,
-    reason: Reason,
+    reason: RefusalCode,
 ) -> Result<(), AllocError>
     ensures { OnOk result (out.new.items ≡ out.old.items ++ route_refusal route.now reason) }
 {
     put_refusals_name(out)?;
     put_route_label(out, route.name.as_str())?;
     put(out, b",")?;
-    put(out, reason_labels(reason).as_bytes())?;
+    put_reason_labels(out, reason)?;
     put_number(out, refusal_count(reason, &route.refused))?;
     put(out, b"\n")
 }
@@ -450,7 +463,7 @@ fn put_route_refusal(
 fn put_refusals_of(
     out: &mut Vec<u8>,
     route: &RouteStatus,
-    reasons: &[Reason],
+    reasons: &[RefusalCode],
 ) -> Result<(), AllocError>
     ensures { OnOk result (out.new.items ≡ out.old.items ++ flat_map (route_refusal route.now) reasons.now) }
 {
