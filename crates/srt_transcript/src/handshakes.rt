@@ -2,6 +2,7 @@
 
 use crate::blocks::put_blocks;
 use crate::text::Words;
+use srt_hs::RefusalCode;
 use srt_types::read_word;
 
 /// The length of a handshake without extension blocks, in bytes.
@@ -10,18 +11,11 @@ const FIXED: usize = 48;
 /// The handshake type of a conclusion.
 const CONCLUSION: u32 = 0xffff_ffff;
 
-/// Puts the name of a reason for a refusal (section 4.3, table 7), if it has one.
-fn put_reason(words: &mut Words, code: u32) {
-    match code {
-        1002 => words.put(b" PEER"),
-        1003 => words.put(b" RESOURCE"),
-        1004 => words.put(b" ROGUE"),
-        1008 => words.put(b" VERSION"),
-        1011 => words.put(b" UNSECURE"),
-        1012 => words.put(b" MESSAGEAPI"),
-        1014 => words.put(b" FILTER"),
-        1015 => words.put(b" GROUP"),
-        _ => {}
+/// Puts the name of a reason for a refusal (section 4.3, table 7), if the gateway refuses for it.
+fn put_reason(words: &mut Words, number: u32) {
+    if let Some(reason) = RefusalCode::of_number(number) {
+        words.put(b" ");
+        words.put(reason.name().as_bytes());
     }
 }
 

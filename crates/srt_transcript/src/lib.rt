@@ -2,8 +2,8 @@
 //!
 //! It opens no file: the tape, the output of its replay and the writer are arguments. Lines and events are read by
 //! `srt_replay`, so a line is an event here exactly if `srtgw replay` takes it for one on a gateway with 511 routes. Packets
-//! are read by `srt_packet`. A handshake and a loss list are shown word by word, since a transcript also shows those that the
-//! gateway refuses.
+//! are read by `srt_packet`, and `srt_hs` names the reasons for a refusal. A handshake and a loss list are shown word by word,
+//! since a transcript also shows those that the gateway refuses.
 //!
 //! Types: [`TranscriptFault`], why a transcript ended early.
 //!

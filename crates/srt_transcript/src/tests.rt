@@ -155,6 +155,12 @@ fn handshakes_are_explained(rt: HostRuntime) -> Result<(), Fail> {
         &digits,
         "HANDSHAKE refused 1007 version 5, encryption 3, extension ab, initial 1, MTU 1500, window 8192, socket 00000007, cookie 00000009; timestamp 0, to 00000000",
     )?;
+    let digits = format!(in rt.alloc(); "{header}{fields}000003f2{others}")?;
+    assert_datagram(
+        &rt,
+        &digits,
+        "HANDSHAKE refused 1010 BADSECRET version 5, encryption 3, extension ab, initial 1, MTU 1500, window 8192, socket 00000007, cookie 00000009; timestamp 0, to 00000000",
+    )?;
     let blocks = "0001000300010401000001820000000000050001000000620008000900";
     let digits = format!(in rt.alloc(); "{header}{fields}ffffffff{others}{blocks}")?;
     assert_datagram(
