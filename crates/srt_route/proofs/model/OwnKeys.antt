@@ -310,7 +310,8 @@ read_goes (Err fault) e index clock d moment ss keys secured is alone h =
 
 item_goes : (e : Terms) (index clock : ℕ) (item : Item) (ss : List Session) (keys : RouteKeys) → secures e Request ≡ true → AreAlone e.sessions ss
     → HaveOwn ss keys.held
-    → HaveOwn (taken e index clock (heard_as (item_judged e index clock item ss keys).verdict item) ss).sessions (item_judged e index clock item ss keys).keys.held
+    → HaveOwn (taken e index clock (heard_as (item_judged e index clock item ss keys).verdict item) ss).sessions
+    (item_judged e index clock item ss keys).keys.held
 item_goes e index clock (Received d moment) ss keys secured alone h = read_goes (packet_in d.bytes) e index clock d moment ss keys secured refl alone h
 item_goes e index clock (Tick moment) ss keys secured alone h = h
 item_goes e index clock (Close moment) ss keys secured alone h = have_mapped ended ends e.sessions ss alone keys.held h

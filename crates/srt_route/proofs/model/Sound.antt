@@ -531,7 +531,12 @@ session_keyed keys e false clock s whole h = tt
 
 -- sessions
 aged_at_sound : (e : Terms) (lives : Bool) (time : ℕ) (s : Session) → IsSound s → IsSound (aged_at e lives time s)
-aged_at_sound e true time s h = record { past = expired_sound (terms_of e s) time s.past h.past; answer = h.answer; role = role_expired (terms_of e s) time s.past ∙ h.role }
+aged_at_sound e true time s h =
+    record {
+      past = expired_sound (terms_of e s) time s.past h.past;
+      answer = h.answer;
+      role = role_expired (terms_of e s) time s.past ∙ h.role;
+    }
 aged_at_sound e false time s h = record { past = h.past; answer = h.answer; role = h.role }
 
 aged_sound : (e : Terms) (clock : ℕ) (s : Session) → IsSound s → IsSound (aged e clock s)
@@ -656,7 +661,8 @@ arrived_sound e index clock peer p ss one h =
 
 opens_sound : (e : Terms) (index clock : ℕ) (peer : Peer) (stamp : ℕ) (c : Conclusion) (ss : List Session) (at : ℕ)
     → HasFewWords c.congestion → Each IsSound ss → IsSoundTaken (opens e index clock peer stamp c ss at)
-opens_sound e index clock peer stamp c ss at few h = record { sessions = (record { past = opened_sound c.role; answer = few; role = role_first c.role }, h); answers = (few, tt) }
+opens_sound e index clock peer stamp c ss at few h =
+    record { sessions = (record { past = opened_sound c.role; answer = few; role = role_first c.role }, h); answers = (few, tt) }
 
 considered_sound : (e : Terms) (index clock : ℕ) (peer : Peer) (stamp : ℕ) (c : Conclusion) (ss : List Session)
     (answer : Result ℕ RefusalCause)
