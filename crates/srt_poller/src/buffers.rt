@@ -1,8 +1,9 @@
 //! The buffers of datagrams that routes have processed, which return with replies. They are filled again, so that the copies
 //! of a steady stream seldom allocate: what one thread allocates and another one frees costs both a lock.
 
-ghost use Rattle.std.specs.Prelude.{◌≡◌, [], IfOk, OnErr};
-ghost use Rattle.srt_poller.specs.Buffers.{Allocates, kept_with, kept_without};
+ghost use Rattle.std.specs.Prelude.{◌≡◌, ◌≤◌, [], IfOk, OnErr};
+ghost use Rattle.srt_poller.specs.Buffers.{Allocates, IsCopiedAnew, kept_with, kept_without};
+ghost use Rattle.std.specs.Vec.{vec_capacity};
 
 use crate::memory::{MemoryRefused, append, buffer_with_room};
 use crate::tuning::SPARE_BUFFERS;
@@ -45,6 +46,7 @@ impl Buffers {
         ensures copied { IfOk result (λ buffer. buffer.items ≡ bytes.now) }
         ensures refused { OnErr result (Allocates self.old bytes.now) }
         ensures kept { self.new.kept.items ≡ kept_without bytes.now self.old.kept.items }
+        ensures room { IsCopiedAnew self.old bytes.now → IfOk result (λ buffer. 1456 ≤ vec_capacity buffer) }
     {
         if bytes.is_empty() {
             return Ok(Vec::new(alloc));

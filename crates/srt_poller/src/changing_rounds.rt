@@ -11,7 +11,7 @@ ghost use Rattle.srt_poller.specs.Changes.{PumpedChanging, ToldChanging};
 ghost use Rattle.srt_poller.specs.Takings.{recorded, facts_of, TookAllIn};
 
 use crate::context::PollerTask;
-use crate::devices::{Source, Wire};
+use crate::devices::Devices;
 use crate::ends::Ends;
 use crate::openings::Openings;
 use crate::pumping::Pumping;
@@ -32,12 +32,12 @@ use std::sync::Wait;
 ///
 /// Such a run keeps all promises of one that had all routes in advance, the added ones hidden, with other schedules. These
 /// differ for the routes that were requested to close or share their name with another route.
-pub fn pump_changing<R: Wait, S: Source, W: Wire, G: Signals, O: Openings>(
+pub fn pump_changing<R: Wait, D: Devices, G: Signals, O: Openings>(
     task: &PollerTask<R, G>,
     names: &mut Names,
     ends: &mut Vec<Ends>,
-    source: &mut S,
-    wire: &mut W,
+    source: &mut D::Source,
+    wire: &mut D::Wire,
     openings: &mut O,
 ) -> Pumping
     requires ends { length ends.old.items ≡ length (names_of names.old) }
@@ -47,14 +47,16 @@ pub fn pump_changing<R: Wait, S: Source, W: Wire, G: Signals, O: Openings>(
     ensures pumped { PumpedChanging (G.goes task.now.signals.now) (G.closes task.now.signals.now) (sorting task.now.secret.now) task.now.schedules.now
         result.rounds
         (route_reports (O.added openings.old) (O.requested openings.old)) (route_reports (O.added openings.new) (O.requested openings.new))
-        (before (names_of names.old) (heard (S.gave source.old) (S.calls source.old)) (carried (W.handed wire.old) (W.attempts wire.old)) ends.old.items)
-        (after (names_of names.new) (heard (S.gave source.new) (S.calls source.new)) (carried (W.handed wire.new) (W.attempts wire.new))
+        (before (names_of names.old) (heard (D.Source.gave source.old) (D.Source.calls source.old)) (carried (D.Wire.handed wire.old) (D.Wire.attempts wire.old))
+        ends.old.items)
+        (after (names_of names.new) (heard (D.Source.gave source.new) (D.Source.calls source.new)) (carried (D.Wire.handed wire.new) (D.Wire.attempts wire.new))
         ends.new.items result.report) }
     ensures told { ToldChanging (G.goes task.now.signals.now) (G.closes task.now.signals.now) (sorting task.now.secret.now) (G.knows task.now.signals.now)
         task.now.schedules.now result.rounds
         (route_reports (O.added openings.old) (O.requested openings.old)) (route_reports (O.added openings.new) (O.requested openings.new))
-        (before (names_of names.old) (heard (S.gave source.old) (S.calls source.old)) (carried (W.handed wire.old) (W.attempts wire.old)) ends.old.items)
-        (after (names_of names.new) (heard (S.gave source.new) (S.calls source.new)) (carried (W.handed wire.new) (W.attempts wire.new))
+        (before (names_of names.old) (heard (D.Source.gave source.old) (D.Source.calls source.old)) (carried (D.Wire.handed wire.old) (D.Wire.attempts wire.old))
+        ends.old.items)
+        (after (names_of names.new) (heard (D.Source.gave source.new) (D.Source.calls source.new)) (carried (D.Wire.handed wire.new) (D.Wire.attempts wire.new))
         ends.new.items result.report) }
     ensures taken { TookAllIn
         (facts_of (λ (o : O). recorded (O.answers o) (route_reports (O.added o) (O.requested o))) O.unchanged O.no_more O.none_to_close)
@@ -67,7 +69,7 @@ pub fn pump_changing<R: Wait, S: Source, W: Wire, G: Signals, O: Openings>(
 {
     let mut rounds = PollerRounds::new(task.alloc, names, task.schedules);
     let mut table = ChangingRoutes { ends, openings };
-    let made = rounds.make(task, &mut table, names, source, wire);
+    let made = rounds.make::<_, _, D, _>(task, &mut table, names, source, wire);
     let counts = rounds.poller.report();
     Pumping {
         report: counts,

@@ -4,6 +4,7 @@ ghost use Rattle.std.specs.Prelude.{◌≡◌, ◌<◌, ◌≤◌, ◌^◌, take
 
 use srt_types::Peer;
 use srt_types::protocol_limits::READ_ROOM;
+use std::marker::PhantomData;
 
 /// The outcome of a wait for datagrams.
 #[derive(Clone, Copy, Debug, PartialEq, Eq)]
@@ -101,6 +102,24 @@ pub trait Wire {
     /// The number of failed sends. Saturates at 2^64 - 1.
     fn failures(&self) -> u64
         ensures { result ≡ failures self.now };
+}
+
+/// The types of a poller's devices, as one type parameter.
+pub trait Devices {
+    /// Where it reads datagrams.
+    type Source: Source;
+
+    /// Where it sends datagrams.
+    type Wire: Wire;
+}
+
+/// Devices of these types. No value of it is made.
+pub struct DevicesOf<S, W>(PhantomData<(S, W)>);
+
+impl<S: Source, W: Wire> Devices for DevicesOf<S, W> {
+    type Source = S;
+
+    type Wire = W;
 }
 
 /// A clock.

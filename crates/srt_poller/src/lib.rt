@@ -53,7 +53,7 @@ mod visits;
 
 pub use changing_rounds::pump_changing;
 pub use context::PollerTask;
-pub use devices::{Clock, Polled, Read, Sent, Source, Wire};
+pub use devices::{Clock, Devices, DevicesOf, Polled, Read, Sent, Source, Wire};
 pub use ends::Ends;
 pub use memory::MemoryRefused;
 pub use openings::{AddedRoute, Openings};

@@ -1,6 +1,6 @@
 //! Evidence that an allocation was refused. Only the functions of this file make it, each where the allocator has just refused.
 
-ghost use Rattle.std.specs.Prelude.{◌≡◌, ◌<◌, ◌+◌, ◌++◌, ◌∷◌, [], IfOk, OnOk, OnErr, length};
+ghost use Rattle.std.specs.Prelude.{◌≡◌, ◌<◌, ◌≤◌, ◌+◌, ◌++◌, ◌∷◌, [], IfOk, OnOk, OnErr, length};
 ghost use Rattle.std.specs.Vec.{vec_capacity};
 ghost use Rattle.std.specs.Arc.{arc_value};
 ghost use Rattle.mio.specs.Events.{items as events_in, capacity as events_capacity};
@@ -34,6 +34,7 @@ pub(crate) fn buffer_with_room(alloc: Global, room: usize) -> Result<Vec<u8>, Me
 pub(crate) fn append(buffer: &mut Vec<u8>, bytes: &[u8]) -> Result<(), MemoryRefused>
     ensures appended { OnOk result (buffer.new.items ≡ buffer.old.items ++ bytes.now) }
     ensures refused { OnErr result (vec_capacity buffer.old < length buffer.old.items + length bytes.now) }
+    ensures room { vec_capacity buffer.old ≤ vec_capacity buffer.new }
 {
     match buffer.extend_from_slice(bytes) {
         Ok(()) => Ok(()),

@@ -8,7 +8,7 @@ ghost use Rattle.srt_poller.specs.Devices.{heard, carried};
 ghost use Rattle.srt_poller.specs.Pumped.{Pumped, PumpedUnder, ToldUnder, before, after};
 
 use crate::context::PollerTask;
-use crate::devices::{Source, Wire};
+use crate::devices::{DevicesOf, Source, Wire};
 use crate::ends::Ends;
 use crate::rounds::PollerRounds;
 use crate::signals::{Signals, Unsignalled};
@@ -105,7 +105,7 @@ pub fn pump_under<R: Wait, S: Source, W: Wire, G: Signals>(
 {
     let mut rounds = PollerRounds::new(task.alloc, names, task.schedules);
     let mut table = FixedRoutes { ends };
-    let made = rounds.make(task, &mut table, names, source, wire);
+    let made = rounds.make::<_, _, DevicesOf<S, W>, _>(task, &mut table, names, source, wire);
     let counts = rounds.poller.report();
     Pumping {
         report: counts,

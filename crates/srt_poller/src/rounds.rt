@@ -14,7 +14,7 @@ ghost use Rattle.srt_poller.specs.inside.Served.{IsServed};
 
 use crate::changing::Plans;
 use crate::context::{Classifier, PollerTask, RoundContext, RoundOrder};
-use crate::devices::{Source, Wire};
+use crate::devices::{Devices, Source, Wire};
 use crate::ends::Ends;
 use crate::poller::Poller;
 use crate::signals::{Orders, Signals};
@@ -119,13 +119,13 @@ impl PollerRounds {
 
     /// Makes at most the rounds of the task, and returns how many were made.
     #[inline(always)]
-    pub(crate) fn make<E: RouteTable, R: Wait, S: Source, W: Wire, G: Signals>(
+    pub(crate) fn make<E: RouteTable, R: Wait, D: Devices, G: Signals>(
         &mut self,
         task: &PollerTask<R, G>,
         table: &mut E,
         names: &mut Names,
-        source: &mut S,
-        wire: &mut W,
+        source: &mut D::Source,
+        wire: &mut D::Wire,
     ) -> u64
         requires ends { length (E.list table.old) ≡ length (names_of names.old) }
         requires plans { length (plans_in self.old.plans) ≡ length (names_of names.old) }
@@ -136,10 +136,11 @@ impl PollerRounds {
         ensures made { RoundsChanging (G.goes task.now.signals.now) (G.closes task.now.signals.now)
             (lobby_setting task.now.secret.now (G.knows task.now.signals.now)) self.old.next result
             (plans_in self.old.plans) (E.reports table.old) (E.reports table.new) (names_of names.old) (E.list table.old)
-            (λ ns es. listening (heard (S.gave source.old) (S.calls source.old)) (carried (W.handed wire.old) (W.attempts wire.old)) es self.old.poller
+            (λ ns es. listening (heard (D.Source.gave source.old) (D.Source.calls source.old))
+            (carried (D.Wire.handed wire.old) (D.Wire.attempts wire.old)) es self.old.poller
             (round_state ns self.old.next self.old.plans.latest.moment))
-            (listening (heard (S.gave source.new) (S.calls source.new)) (carried (W.handed wire.new) (W.attempts wire.new)) (E.list table.new)
-            self.new.poller (round_state (names_of names.new) (self.old.next + result) self.new.plans.latest.moment)) }
+            (listening (heard (D.Source.gave source.new) (D.Source.calls source.new)) (carried (D.Wire.handed wire.new) (D.Wire.attempts wire.new))
+            (E.list table.new) self.new.poller (round_state (names_of names.new) (self.old.next + result) self.new.plans.latest.moment)) }
         ensures taken { TookAllIn E.facts result (length (names_of names.old)) (length (names_of names.new))
             (recorded (E.answers table.old) (E.reports table.old)) (recorded (E.answers table.new) (E.reports table.new)) }
         ensures room { E.room table.new }

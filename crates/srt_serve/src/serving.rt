@@ -28,7 +28,9 @@ use crate::working::{WorkerEnded, work};
 use srt_cookie::Secret;
 use srt_lobby::Names;
 use srt_mailbox::{Gate, Seat, Serve};
-use srt_poller::{Ends, Openings, PollerTask, Pumping, Source, Wire, pump_changing, pump_under};
+use srt_poller::{
+    DevicesOf, Ends, Openings, PollerTask, Pumping, Source, Wire, pump_changing, pump_under,
+};
 use srt_supervision::{Answers, Watch};
 use srt_types::Schedule;
 use srt_wakeups::{ThreadName, Wakeups, name_thread};
@@ -318,7 +320,9 @@ fn poll<R: Wait, S: Source, W: Wire, O: Openings + Drop, C: Serve, G: Gate + Dro
         None => pump_under(&task, names, ends, source, wire),
         Some(_) => {
             let openings = &mut polling.openings;
-            pump_changing(&task, names, ends, source, wire, openings)
+            pump_changing::<_, DevicesOf<S, W>, _, _>(
+                &task, names, ends, source, wire, openings,
+            )
         }
     };
     polling.ended = Some(end_after(wakeups, Some(pumping)));

@@ -223,13 +223,28 @@ fn registered(poll: Poll, registration: io::Result<()>) -> Result<RegisteredPoll
     }
 }
 
+// The number of C's type int at the front of these bytes.
+fn number_in(value: [u8; 16]) -> u32
+    ensures { result ≡ word_in value }
+{
+    u32::from_ne_bytes([value[0], value[1], value[2], value[3]])
+}
+
+// The bytes of C's type int with this number, and zeros after them.
+fn int_value(number: u32) -> [u8; 16]
+    ensures { word_in result ≡ number }
+{
+    let [a, b, c, d] = number.to_ne_bytes();
+    [a, b, c, d, 0, 0, 0, 0, 0, 0, 0, 0, 0, 0, 0, 0]
+}
+
 // The size of the receive buffer in what a call of C with this status returned.
 fn room_in(status: i32, value: [u8; 16]) -> Option<u32>
     ensures some { IfSome result (λ room. (pos 0 ≤ℤ status) × (room ≡ word_in value)) }
     ensures none { IfNone result (status <ℤ pos 0) }
 {
     match status_of(status) {
-        Ok(()) => Some(u32::from_ne_bytes([value[0], value[1], value[2], value[3]])),
+        Ok(()) => Some(number_in(value)),
         Err(_) => None,
     }
 }
@@ -289,15 +304,15 @@ impl Socket {
         (answer, evidence(&[BIND_IPV6, end], name, &[]))
     }
 
-    /// C's `setsockopt`: SO_RCVBUF has this size.
+    /// C's `setsockopt`: SO_RCVBUF has this size. The evidence has the number in the bytes that the call was given.
     pub(super) fn ask_for_room(&self, size: u32) -> (i32, Called)
         ensures { IsEvidence (room_note size) result.1 }
     {
-        let mut value = [0; 16];
-        value[..4].copy_from_slice(&size.to_ne_bytes());
+        let value = int_value(size);
         let fd = self.socket.as_raw_fd();
         let status = unsafe { net::setsockopt(fd, net::SOL_SOCKET, net::SO_RCVBUF, &value, 4) };
-        (status, evidence_of(&[ASK_FOR_ROOM, u64::from(size)]))
+        let given = number_in(value);
+        (status, evidence_of(&[ASK_FOR_ROOM, u64::from(given)]))
     }
 
     /// C's `getsockopt`: SO_RCVBUF, if the system gives it, by `room_in`.

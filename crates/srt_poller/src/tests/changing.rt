@@ -12,7 +12,8 @@ use super::{ALWAYS, ROUTES, SECRET, Serving, assert_handed, comes, entry, named,
 use crate::rounds::PollerRounds;
 use crate::tables::ChangingRoutes;
 use crate::{
-    AddedRoute, Ends, Openings, Order, PollerTask, Report, SourceStep, WireScript, pump_changing,
+    AddedRoute, DevicesOf, Ends, Openings, Order, PollerTask, Report, SourceStep, WireScript,
+    pump_changing,
 };
 use srt_cookie::Secret;
 use srt_lobby::NewName;
@@ -223,7 +224,13 @@ fn assert_changed(
         ends: &mut ends,
         openings: &mut openings,
     };
-    let made = rounds.make(&task, &mut table, &mut names, &mut source, &mut wire);
+    let made = rounds.make::<_, _, DevicesOf<_, _>, _>(
+        &task,
+        &mut table,
+        &mut names,
+        &mut source,
+        &mut wire,
+    );
     assert_eq!(rt; made, 6);
     assert_eq!(rt; rounds.poller.report(), wanted);
     assert_eq!(rt; source.applied, applied);
@@ -474,7 +481,7 @@ fn a_run_without_changes_is_as_before(rt: HostRuntime) -> Result<(), Fail> {
         rounds: 6,
         signals: &asking,
     };
-    let pumping = pump_changing(
+    let pumping = pump_changing::<_, DevicesOf<_, _>, _, _>(
         &task,
         &mut names,
         &mut ends,

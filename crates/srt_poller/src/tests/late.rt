@@ -6,7 +6,7 @@ use super::rounds::{AGAIN, Coming, LATER, MANY_CONCLUSIONS, script};
 use super::{ALWAYS, ROUTES, SECRET, Serving, assert_handed, entry, named, scheduled};
 use crate::rounds::PollerRounds;
 use crate::tables::FixedRoutes;
-use crate::{PollerTask, Report, Unsignalled, WireScript};
+use crate::{DevicesOf, PollerTask, Report, Unsignalled, WireScript};
 use srt_cookie::Secret;
 use srt_types::Schedule;
 use std::alloc::Global;
@@ -60,7 +60,13 @@ fn assert_late(
     let mut table = FixedRoutes {
         ends: &mut routes.ends,
     };
-    let made = rounds.make(&task, &mut table, &mut names, &mut source, &mut wire);
+    let made = rounds.make::<_, _, DevicesOf<_, _>, _>(
+        &task,
+        &mut table,
+        &mut names,
+        &mut source,
+        &mut wire,
+    );
     assert_eq!(rt; made, 6);
     assert_eq!(rt; rounds.poller.report(), wanted);
     assert_eq!(rt; source.applied, applied);

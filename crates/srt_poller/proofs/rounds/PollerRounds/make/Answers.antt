@@ -15,8 +15,8 @@ loop-made-init g c =
       rw same (made_none c.args.task.now.secret.now (g.G.PollerObserver.knows c.args.task.now.signals.now) c.args.self.now.next
           (plans_in c.args.self.now.plans) (g.E.RouteTable.reports c.args.table.now)
           (names_of c.args.names.now) (g.E.RouteTable.list c.args.table.now)
-          (λ ns es phase. world_of (heard (g.S.Source.gave c.args.source.now) (g.S.Source.calls c.args.source.now))
-          (carried (g.W.Wire.handed c.args.wire.now) (g.W.Wire.attempts c.args.wire.now)) es
+          (λ ns es phase. world_of (heard (g.D.Source.Source.gave c.args.source.now) (g.D.Source.Source.calls c.args.source.now))
+          (carried (g.D.Wire.Wire.handed c.args.wire.now) (g.D.Wire.Wire.attempts c.args.wire.now)) es
           (round_state ns c.args.self.now.next c.args.self.now.plans.latest.moment) phase c.args.self.now.poller) c.requires.plans c.requires.timely),
       rw same c.requires.rest,
       c.requires.plans,
@@ -52,12 +52,12 @@ loop-made-preserved g c =
     now.plans.latest.moment (plans_in c.args.self.now.plans) (plans_in was.plans) went.between (plans_in now.plans)
     (reports c.args.table.now) (reports c.loop-made.table) (reports c.round.new.self) (names_of c.args.names.now) (names_of c.loop-made.names)
     went.these (names_of c.round.new.names) (list c.args.table.now) (list c.loop-made.table) went.those (list c.round.new.self)
-    (heard (g.S.Source.gave c.args.source.now) (g.S.Source.calls c.args.source.now))
-    (heard (g.S.Source.gave c.loop-made.source) (g.S.Source.calls c.loop-made.source))
-    (heard (g.S.Source.gave c.round.new.source) (g.S.Source.calls c.round.new.source))
-    (carried (g.W.Wire.handed c.args.wire.now) (g.W.Wire.attempts c.args.wire.now))
-    (carried (g.W.Wire.handed c.loop-made.wire) (g.W.Wire.attempts c.loop-made.wire))
-    (carried (g.W.Wire.handed c.round.new.wire) (g.W.Wire.attempts c.round.new.wire)) c.args.self.now.poller was.poller now.poller
+    (heard (g.D.Source.Source.gave c.args.source.now) (g.D.Source.Source.calls c.args.source.now))
+    (heard (g.D.Source.Source.gave c.loop-made.source) (g.D.Source.Source.calls c.loop-made.source))
+    (heard (g.D.Source.Source.gave c.round.new.source) (g.D.Source.Source.calls c.round.new.source))
+    (carried (g.D.Wire.Wire.handed c.args.wire.now) (g.D.Wire.Wire.attempts c.args.wire.now))
+    (carried (g.D.Wire.Wire.handed c.loop-made.wire) (g.D.Wire.Wire.attempts c.loop-made.wire))
+    (carried (g.D.Wire.Wire.handed c.round.new.wire) (g.D.Wire.Wire.attempts c.round.new.wire)) c.args.self.now.poller was.poller now.poller
     c.in-Some.closes_all c.loop-made.invariant.0 (rw c.loop-made.invariant.4 at went.took)
     (rw c.loop-made.invariant.4 at went.rests) (rw c.loop-made.invariant.4 at went.went) c.requires.timely
     c.loop-made.invariant.2 c.requires.ends c.in-Some.ensures.round.0 c.in-Some.ensures.round.1 c.report_counts.ensures in (

@@ -14,10 +14,11 @@ invariant-loop-made g l =
     l.fn.self.next l.made
     (plans_in l.fn.self.plans) (plans_in l.self.plans) (g.E.RouteTable.reports l.fn.table) (g.E.RouteTable.reports l.table)
     (names_of l.fn.names) (names_of l.names) (g.E.RouteTable.list l.fn.table)
-    (λ ns es phase. world_of (heard (g.S.Source.gave l.fn.source) (g.S.Source.calls l.fn.source))
-    (carried (g.W.Wire.handed l.fn.wire) (g.W.Wire.attempts l.fn.wire)) es (round_state ns l.fn.self.next l.fn.self.plans.latest.moment) phase
+    (λ ns es phase. world_of (heard (g.D.Source.Source.gave l.fn.source) (g.D.Source.Source.calls l.fn.source))
+    (carried (g.D.Wire.Wire.handed l.fn.wire) (g.D.Wire.Wire.attempts l.fn.wire)) es (round_state ns l.fn.self.next l.fn.self.plans.latest.moment) phase
     l.fn.self.poller)
-    (λ phase. world_of (heard (g.S.Source.gave l.source) (g.S.Source.calls l.source)) (carried (g.W.Wire.handed l.wire) (g.W.Wire.attempts l.wire))
+    (λ phase. world_of (heard (g.D.Source.Source.gave l.source) (g.D.Source.Source.calls l.source))
+    (carried (g.D.Wire.Wire.handed l.wire) (g.D.Wire.Wire.attempts l.wire))
     (g.E.RouteTable.list l.table) (round_state (names_of l.names) (l.fn.self.next + l.made) l.self.plans.latest.moment) phase l.self.poller)
     × RestBetween (l.fn.self.next + l.made) l.self.plans.due (plans_in l.self.plans) (names_of l.names)
     × (length (plans_in l.self.plans) ≡ length (names_of l.names))
