@@ -5,10 +5,10 @@ use Rattle.srt_types.specs.Access.{AccessTerms}
 use Rattle.srt_types.specs.Terms.{Terms}
 use Rattle.srt_types.specs.declared.shared.Role.TheVariants.{Publish, Request}
 use Rattle.srt_explain.specs.declared.warnings.Warning.{Warning}
-use Rattle.srt_explain.specs.declared.warnings.Warning.TheVariants.{ExampleSecret, OpenKey}
+use Rattle.srt_explain.specs.declared.warnings.Warning.TheVariants.{ExampleSecret, OpenKey, ShortPassphrase, SharedPassphrase, ClearPlayers}
 use Rattle.srt_explain.specs.Warnings.{given, number_warnings, has_open_key, key_warnings, rule_warnings, default_admission, default_limits, route_table}
 use Rattle.srt_explain.specs.Warnings.{route_warnings, routes_warnings, has_example_secret, status_warnings, with_key, with_role_key, with_keys}
-use Rattle.srt_explain.specs.Warnings.{WarnsOfNoKey}
+use Rattle.srt_explain.specs.Warnings.{short_warnings, pair_warnings, AreAsLong, WarnsOfNoKey, WarnsOfNoPassphrase}
 
 still_given : (key : List ℕ) (old : Option (List ℕ)) → is_some (with_key key old) ≡ is_some old
 still_given key None = refl
@@ -26,7 +26,8 @@ same_keys publish request route access =
 same_route : (publish request : List ℕ) (route : ℕ) (table : Members) (t : Terms) →
     route_warnings route table (with_keys publish request t) ≡ route_warnings route table t
 same_route publish request route table t =
-    ap (λ (ks : List Warning). (((number_warnings route t ++ ks) ++ rule_warnings route t) ++ default_admission route table t) ++ default_limits route table t)
+    ap (λ (ks : List Warning). (((number_warnings route t ++ ((ks ++ short_warnings route t.access) ++ pair_warnings route t.access))
+    ++ rule_warnings route t) ++ default_admission route table t) ++ default_limits route table t)
     (same_keys publish request route t.access)
 
 same_routes : (publish request : List ℕ) (table : Members) (route : ℕ) (routes : List Terms) →
@@ -42,3 +43,9 @@ pub warns_of_no_key : WarnsOfNoKey
 warns_of_no_key table status routes publish request =
     ap (λ (ws : List Warning). given (has_example_secret table) ExampleSecret ++ status_warnings status ++ ws)
     (same_routes publish request table 1 routes)
+
+-- the warnings tell of passphrases only that they are short or the same
+pub warns_of_no_passphrase : WarnsOfNoPassphrase
+warns_of_no_passphrase route one other h =
+    λ i. (given (h.publish i) (ShortPassphrase route Publish) ++ given (h.request i) (ShortPassphrase route Request))
+    ++ (given (h.same i) (SharedPassphrase route) ++ given (h.clear i) (ClearPlayers route))

@@ -48,8 +48,8 @@ is_fault_private BadSecret = true
 is_fault_private (BadAddress key) = is_private key
 is_fault_private OutOfMemory = true
 
--- a hint has nothing of a value: neither bytes of it, nor a number that is written there. The count of a text's characters and the place of
--- one of them are no part of the text
+-- a hint has nothing of a value: neither bytes of it, nor a number that is written there. The count of a text's characters or bytes and the
+-- place of one of them are no part of the text
 abbrev pub is_hint_private : Hint → Bool
 is_hint_private hints.Nothing = true
 is_hint_private (hints.Place place) = false
@@ -69,6 +69,8 @@ is_hint_private hints.EmptyName = false
 is_hint_private (hints.LongName count) = false
 is_hint_private (hints.Character character) = false
 is_hint_private (hints.SameName number) = false
+is_hint_private (hints.Bytes count) = true
+is_hint_private hints.NoPassphrase = true
 is_hint_private (hints.Characters count) = true
 is_hint_private (hints.NoDigit number) = true
 is_hint_private hints.NoPort = true

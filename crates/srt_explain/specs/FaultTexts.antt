@@ -4,7 +4,6 @@ use Rattle.std.specs.Prelude.{Option, None, Some, nat_eq, nat_le, string_bytes, 
 use Rattle.std.specs.Fmt.{debug_char, debug_str, ◌++?◌}
 use Rattle.std.specs.Fmt.InlineText.{inline_text}
 use Rattle.std.specs.List.{list_all, ends_with}
-use Rattle.std.specs.Str.{bytes_eq}
 use Rattle.srt_types.specs.Entries.{is_between}
 use Rattle.srt_config.specs.declared.config.faults.ConfigFault.{ConfigFault}
 use Rattle.srt_config.specs.declared.config.faults.ConfigFault.TheVariants as faults
@@ -62,6 +61,9 @@ allowed_with keys.PublishFrom limits = networks_text limits
 allowed_with keys.RequestFrom limits = networks_text limits
 allowed_with keys.PublishKey limits = range_text limits ++ codes " letters, digits, -, _, . and ~ in quotes"
 allowed_with keys.RequestKey limits = range_text limits ++ codes " letters, digits, -, _, . and ~ in quotes"
+allowed_with keys.PublishPassphrase limits = range_text limits ++ codes " bytes in quotes"
+allowed_with keys.RequestPassphrase limits = range_text limits ++ codes " bytes in quotes"
+allowed_with keys.Pbkeylen limits = codes "16, 24 and 32"
 allowed_with key limits = range_text limits
 
 unfoldable pub allowed_text : Key → List ℕ
@@ -105,21 +107,22 @@ of_table_text key parts.Defaults = written_key key ++? Some (codes ": unknown ke
 of_table_text key (parts.Route route) = displaced_text key (parts.Route route)
 
 -- a key that isn't known in its table
-abbrev pub asks_for_encryption : List ℕ → Bool
-asks_for_encryption key = ends_with nat_eq key (codes "passphrase") || bytes_eq key (codes "pbkeylen")
+abbrev pub is_passphrase : List ℕ → Bool
+is_passphrase key = ends_with nat_eq key (codes "passphrase")
 
-abbrev pub encryption_text : List ℕ → Option (List ℕ)
-encryption_text key = written_key key ++? Some (codes ": unknown key; this version encrypts nothing, and refuses callers with a passphrase")
+abbrev pub passphrase_text : List ℕ → Option (List ℕ)
+passphrase_text key =
+    written_key key ++? Some (codes ": unknown key; a route has publish_passphrase for encoders and request_passphrase for players")
 
-abbrev pub not_known_text : (key : List ℕ) → Part → Hint → Option (List ℕ)
-not_known_text key part (hints.Resembles meant) =
-    written_key key ++? Some (codes ": unknown key; did you mean ") ++? Some (key_name meant) ++? Some (codes "?")
-not_known_text key part (hints.OfTable meant) = of_table_text key part
-not_known_text key part (hints.OfRoute meant) = displaced_text key part
-not_known_text key part hint = None
+abbrev pub unlike_text : (key : List ℕ) → Option (List ℕ)
+unlike_text key = if is_passphrase key then passphrase_text key else None
 
 abbrev pub unknown_text : (key : List ℕ) → Part → Hint → Option (List ℕ)
-unknown_text key part hint = if asks_for_encryption key then encryption_text key else not_known_text key part hint
+unknown_text key part (hints.Resembles meant) =
+    written_key key ++? Some (codes ": unknown key; did you mean ") ++? Some (key_name meant) ++? Some (codes "?")
+unknown_text key part (hints.OfTable meant) = of_table_text key part
+unknown_text key part (hints.OfRoute meant) = displaced_text key part
+unknown_text key part hint = unlike_text key
 
 abbrev pub missing_text : Key → List ℕ
 missing_text key = key_name key ++ (codes " is missing; allowed are " ++ allowed_text key)
@@ -175,6 +178,13 @@ abbrev pub meant_text : Key → (value meant : List ℕ) → List ℕ
 meant_text key value meant =
     key_name key ++ (codes " = " ++ (value ++ (codes ": allowed are " ++ (allowed_text key ++ (codes "; did you mean \"" ++ (meant ++ codes "\"?"))))))
 
+abbrev pub long_text : Key → (count : ℕ) → List ℕ
+long_text key count = key_name key ++ (codes ": allowed are " ++ (allowed_text key ++ (codes "; it has " ++ decimal count)))
+
+abbrev pub no_passphrase_text : Key → (value : List ℕ) → List ℕ
+no_passphrase_text key value =
+    key_name key ++ (codes " = " ++ (value ++ codes ": it is of a route with a passphrase; write publish_passphrase or request_passphrase, or leave it out"))
+
 abbrev pub out_of_range_text : Key → (value : List ℕ) → Hint → Option (List ℕ)
 out_of_range_text key value (hints.Routes count) = Some (codes "route: there are " ++ (decimal count ++ (codes "; allowed are " ++ allowed_text key)))
 out_of_range_text key value (hints.Opens opens) = None
@@ -182,6 +192,8 @@ out_of_range_text key value (hints.Sessions sessions) = Some (reserved_text valu
 out_of_range_text key value (hints.Choice meant) = Some (meant_text key value meant.now)
 out_of_range_text key value (hints.Members count) =
     Some (key_name key ++ (codes ": it has " ++ (decimal count ++ (codes " values; allowed are " ++ allowed_text key))))
+out_of_range_text key value (hints.Bytes count) = Some (long_text key count)
+out_of_range_text key value hints.NoPassphrase = Some (no_passphrase_text key value)
 out_of_range_text key value hint = Some (limited_text key value)
 
 -- a name of the wrong form

@@ -15,13 +15,17 @@ risk_number risks.SmallWindow = 1
 risk_number risks.OneSession = 2
 risk_number risks.OpenPublishKey = 3
 risk_number risks.OpenRequestKey = 4
-risk_number risks.UnusedTakeover = 5
-risk_number risks.UnusedAddressLimit = 6
-risk_number risks.OneUnreserved = 7
-risk_number risks.NoCallers = 8
-risk_number risks.NoReserved = 9
-risk_number risks.NoTakeover = 10
-risk_number risks.NoResendLimit = 11
+risk_number risks.ShortPublishPassphrase = 5
+risk_number risks.ShortRequestPassphrase = 6
+risk_number risks.SharedPassphrase = 7
+risk_number risks.ClearPlayers = 8
+risk_number risks.UnusedTakeover = 9
+risk_number risks.UnusedAddressLimit = 10
+risk_number risks.OneUnreserved = 11
+risk_number risks.NoCallers = 12
+risk_number risks.NoReserved = 13
+risk_number risks.NoTakeover = 14
+risk_number risks.NoResendLimit = 15
 
 -- the key that it is about
 abbrev pub risk_key : RouteRisk → List ℕ
@@ -30,6 +34,10 @@ risk_key risks.SmallWindow = codes "buffer"
 risk_key risks.OneSession = codes "sessions"
 risk_key risks.OpenPublishKey = codes "publish_key"
 risk_key risks.OpenRequestKey = codes "request_key"
+risk_key risks.ShortPublishPassphrase = codes "publish_passphrase"
+risk_key risks.ShortRequestPassphrase = codes "request_passphrase"
+risk_key risks.SharedPassphrase = codes "request_passphrase"
+risk_key risks.ClearPlayers = codes "publish_passphrase"
 risk_key risks.UnusedTakeover = codes "takeover_ms"
 risk_key risks.UnusedAddressLimit = codes "sessions_per_address"
 risk_key risks.OneUnreserved = codes "reserved"
@@ -48,6 +56,10 @@ risk_of (warnings.SmallWindow route buffer packets millis) = Some risks.SmallWin
 risk_of (warnings.OneSession route) = Some risks.OneSession
 risk_of (warnings.OpenKey route Publish) = Some risks.OpenPublishKey
 risk_of (warnings.OpenKey route Request) = Some risks.OpenRequestKey
+risk_of (warnings.ShortPassphrase route Publish) = Some risks.ShortPublishPassphrase
+risk_of (warnings.ShortPassphrase route Request) = Some risks.ShortRequestPassphrase
+risk_of (warnings.SharedPassphrase route) = Some risks.SharedPassphrase
+risk_of (warnings.ClearPlayers route) = Some risks.ClearPlayers
 risk_of (warnings.UnusedTakeover route) = Some risks.UnusedTakeover
 risk_of (warnings.UnusedAddressLimit route limit sessions) = Some risks.UnusedAddressLimit
 risk_of (warnings.OneUnreserved route reserved sessions) = Some risks.OneUnreserved
@@ -85,6 +97,7 @@ more_of list risk = given (nat_lt 3 (count_of list risk)) (warnings.MoreRoutes r
 abbrev pub all_risks : List RouteRisk
 all_risks =
     risks.SmallOutbox ∷ risks.SmallWindow ∷ risks.OneSession ∷ risks.OpenPublishKey ∷ risks.OpenRequestKey ∷
+    risks.ShortPublishPassphrase ∷ risks.ShortRequestPassphrase ∷ risks.SharedPassphrase ∷ risks.ClearPlayers ∷
     risks.UnusedTakeover ∷ risks.UnusedAddressLimit ∷ risks.OneUnreserved ∷ risks.NoCallers ∷ risks.NoReserved ∷
     risks.NoTakeover ∷ risks.NoResendLimit ∷ []
 

@@ -9,7 +9,7 @@ use Rattle.srt_types.specs.Access.{is_mapped}
 use Rattle.srt_types.specs.Terms.{Terms}
 use Rattle.srt_config.specs.declared.config.address.BindAddress.{BindAddress}
 use Rattle.srt_config.specs.declared.config.keys.Key.{Key}
-use Rattle.srt_config.specs.declared.config.keys.Key.TheVariants.{PublishFrom, RequestFrom, PublishKey, RequestKey}
+use Rattle.srt_config.specs.declared.config.keys.Key.TheVariants.{PublishFrom, RequestFrom, PublishKey, RequestKey, PublishPassphrase, RequestPassphrase}
 use Rattle.srt_config.specs.KeyTable.{key_name}
 use Rattle.srt_explain.specs.declared.warnings.Warning.{Warning}
 use Rattle.srt_explain.specs.declared.warnings.Warning.TheVariants as warnings
@@ -60,8 +60,24 @@ list_of Request = RequestFrom
 
 unfoldable pub open_key_text : Role → List ℕ
 open_key_text role =
-    (key_name (key_of role) ++ codes ": nothing is encrypted, so who reads it on its way can use it from anywhere; ")
+    (key_name (key_of role) ++ codes ": a Stream ID isn't encrypted, so who reads it on its way can use it from anywhere; ")
     ++ (codes "write " ++ key_name (list_of role) ++ codes " too, if the callers' addresses are known")
+
+-- the passphrase of a role
+abbrev pub passphrase_of : Role → Key
+passphrase_of Publish = PublishPassphrase
+passphrase_of Request = RequestPassphrase
+
+unfoldable pub short_passphrase_text : Role → List ℕ
+short_passphrase_text role =
+    key_name (passphrase_of role) ++ codes ": it has fewer than 16 bytes, so who records the opening of a session can find it by trial; write 16 or more"
+
+unfoldable pub shared_passphrase_text : List ℕ
+shared_passphrase_text = codes "request_passphrase: it is publish_passphrase too, so who may receive may also publish; write another one"
+
+unfoldable pub clear_players_text : List ℕ
+clear_players_text =
+    codes "publish_passphrase: publishers encrypt, and players get the stream in clear; " ++ codes "write request_passphrase too, if it is to stay encrypted"
 
 unfoldable pub small_outbox_text : (outbox replies : ℕ) → List ℕ
 small_outbox_text outbox replies =
@@ -126,6 +142,9 @@ warning_text (warnings.SmallOutbox route outbox replies) = small_outbox_text out
 warning_text (warnings.SmallWindow route buffer packets millis) = small_window_text buffer packets millis
 warning_text (warnings.OneSession route) = one_session_text
 warning_text (warnings.OpenKey route role) = open_key_text role
+warning_text (warnings.ShortPassphrase route role) = short_passphrase_text role
+warning_text (warnings.SharedPassphrase route) = shared_passphrase_text
+warning_text (warnings.ClearPlayers route) = clear_players_text
 warning_text (warnings.UnusedTakeover route) = unused_takeover_text
 warning_text (warnings.UnusedAddressLimit route limit sessions) = unused_limit_text limit sessions
 warning_text (warnings.OneUnreserved route reserved sessions) = one_unreserved_text reserved sessions

@@ -1,16 +1,17 @@
 -- The risks of a valid configuration (our choice).
 use Rattle.std.specs.Prelude.{◌≡◌, ℕ, suc, ◌+◌, ◌-◌, ◌*◌, ◌/◌, ◌==◌, nat_lt, nat_le, Bool, true, false, not, codes, List, [], ◌∷◌, ◌++◌, map}
-use Rattle.std.specs.Prelude.{slice_index, slice_get, min, Option, None, Some, is_some, is_none, ◌&&◌, ◌||◌, if◌then◌else◌}
+use Rattle.std.specs.Prelude.{slice_index, slice_get, length, min, Option, None, Some, is_some, is_none, ◌&&◌, ◌||◌, if◌then◌else◌}
 use Rattle.std.specs.Str.{bytes_eq}
 use Rattle.toml.specs.Data.{Data, Items, no_items, get_item, Members, no_members, get_member, as_str, as_array, as_table}
 use Rattle.srt_types.specs.declared.shared.Role.TheVariants.{Publish, Request}
-use Rattle.srt_types.specs.Access.{RoleTerms, AccessTerms, is_mapped}
+use Rattle.srt_types.specs.Access.{RoleTerms, AccessTerms, is_secured, is_mapped}
 use Rattle.srt_types.specs.Terms.{Terms}
 use Rattle.srt_types.specs.declared.shared.Mode.{Mode}
 use Rattle.srt_types.specs.declared.shared.Mode.TheVariants as mode
 use Rattle.srt_config.specs.declared.config.address.BindAddress.{BindAddress}
 use Rattle.srt_explain.specs.declared.warnings.Warning.{Warning}
 use Rattle.srt_explain.specs.declared.warnings.Warning.TheVariants.{ExampleSecret, ExposedStatus, SmallOutbox, SmallWindow, OneSession, OpenKey}
+use Rattle.srt_explain.specs.declared.warnings.Warning.TheVariants.{ShortPassphrase, SharedPassphrase, ClearPlayers}
 use Rattle.srt_explain.specs.declared.warnings.Warning.TheVariants.{UnusedTakeover, UnusedAddressLimit, OneUnreserved}
 use Rattle.srt_explain.specs.declared.warnings.Warning.TheVariants.{NoCallers, NoReserved, NoTakeover, NoResendLimit, MoreRoutes}
 use Rattle.srt_explain.specs.declared.grouping.RouteRisk.{RouteRisk}
@@ -73,6 +74,46 @@ has_open_key role = is_some role.key && not (is_some role.from)
 -- the warnings about the keys of the roles
 abbrev pub key_warnings : (route : ℕ) → AccessTerms → List Warning
 key_warnings route access = given (has_open_key access.publish) (OpenKey route Publish) ++ given (has_open_key access.request) (OpenKey route Request)
+
+-- a passphrase that is found by trial: one of fewer than 16 bytes
+abbrev pub is_short : Option (List ℕ) → Bool
+is_short (Some passphrase) = nat_lt (length passphrase) 16
+is_short None = false
+
+-- the roles have the same passphrase: who may receive may publish too
+abbrev pub are_same : (one other : Option (List ℕ)) → Bool
+are_same (Some one) (Some other) = bytes_eq one other
+are_same (Some one) None = false
+are_same None other = false
+
+-- what publishers encrypt is sent to subscribers in clear
+abbrev pub has_clear_players : AccessTerms → Bool
+has_clear_players access = is_secured access.publish && not (is_secured access.request)
+
+-- the warnings about the passphrases of the roles: of each alone, and of both
+abbrev pub short_warnings : (route : ℕ) → AccessTerms → List Warning
+short_warnings route access =
+    given (is_short access.publish.passphrase) (ShortPassphrase route Publish) ++
+    given (is_short access.request.passphrase) (ShortPassphrase route Request)
+
+abbrev pub pair_warnings : (route : ℕ) → AccessTerms → List Warning
+pair_warnings route access =
+    given (are_same access.publish.passphrase access.request.passphrase) (SharedPassphrase route) ++ given (has_clear_players access) (ClearPlayers route)
+
+abbrev pub access_warnings : (route : ℕ) → AccessTerms → List Warning
+access_warnings route access = (key_warnings route access ++ short_warnings route access) ++ pair_warnings route access
+
+-- the warnings about passphrases tell of one only whether it is there, whether it is short, and whether the other role has it too
+pub record AreAsLong (one other : AccessTerms) : Type 0 where
+  pub publish : is_short one.publish.passphrase ≡ is_short other.publish.passphrase
+  pub request : is_short one.request.passphrase ≡ is_short other.request.passphrase
+  pub same : are_same one.publish.passphrase one.request.passphrase ≡ are_same other.publish.passphrase other.request.passphrase
+  pub clear : has_clear_players one ≡ has_clear_players other
+
+abbrev pub WarnsOfNoPassphrase : Type 0
+WarnsOfNoPassphrase =
+    (route : ℕ) (one other : AccessTerms) → AreAsLong one other →
+    short_warnings route one ++ pair_warnings route one ≡ short_warnings route other ++ pair_warnings route other
 
 abbrev pub if_buffer : Mode → Bool → Bool
 if_buffer mode.Live holds = false
@@ -153,7 +194,7 @@ default_limits route table t = given (lacks_takeover table t) (NoTakeover route)
 
 -- the warnings about the values of a route
 abbrev pub value_warnings : (route : ℕ) → Terms → List Warning
-value_warnings route t = (number_warnings route t ++ key_warnings route t.access) ++ rule_warnings route t
+value_warnings route t = (number_warnings route t ++ access_warnings route t.access) ++ rule_warnings route t
 
 -- all warnings about the route of this number, which has this table
 abbrev pub route_warnings : (route : ℕ) → Members → Terms → List Warning
@@ -202,6 +243,9 @@ route_of (SmallOutbox route outbox replies) = Some route
 route_of (SmallWindow route buffer packets millis) = Some route
 route_of (OneSession route) = Some route
 route_of (OpenKey route role) = Some route
+route_of (ShortPassphrase route role) = Some route
+route_of (SharedPassphrase route) = Some route
+route_of (ClearPlayers route) = Some route
 route_of (UnusedTakeover route) = Some route
 route_of (UnusedAddressLimit route limit sessions) = Some route
 route_of (OneUnreserved route reserved sessions) = Some route

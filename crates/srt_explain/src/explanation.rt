@@ -67,6 +67,10 @@ pub enum Hint {
     Character(char),
     /// The route of this number, counted from 1, has the same name.
     SameName(usize),
+    /// The passphrase has this many bytes.
+    Bytes(usize),
+    /// The length of keys is in a route without a passphrase.
+    NoPassphrase,
     /// The secret has this many characters.
     Characters(usize),
     /// The character of this number, counted from 1, is no hexadecimal digit.
@@ -107,7 +111,7 @@ pub struct Explanation {
     /// `Toml`, whose place is in the hint, and if the part isn't written in lines of its own.
     pub line: Option<usize>,
     /// The value that is wrong, as TOML writes it, or its beginning; at the fault `Toml` the message of the TOML reader.
-    /// Empty if there is none, and for an unknown key, the secret and the keys of roles, which are printed nowhere.
+    /// Empty if there is none, and for an unknown key, the secret, the keys and the passphrases of roles, which are printed nowhere.
     pub value: InlineText<96>,
     /// What may help.
     pub hint: Hint,

@@ -7,9 +7,9 @@ ghost use Rattle.std.specs.Fmt.InlineText.{inline_text};
 ghost use Rattle.srt_config.specs.KeyTable.{both_texts, key_name};
 ghost use Rattle.srt_explain.specs.FaultTexts.{is_plain_byte, is_plain, written_key, choices_text, range_text, networks_text, allowed_with, allowed_text};
 ghost use Rattle.srt_explain.specs.FaultTexts.{route_text, part_text, line_text, placed_text, unread_text, displaced_text, of_table_text};
-ghost use Rattle.srt_explain.specs.FaultTexts.{asks_for_encryption, encryption_text, not_known_text, unknown_text, missing_text};
+ghost use Rattle.srt_explain.specs.FaultTexts.{is_passphrase, passphrase_text, unlike_text, unknown_text, missing_text};
 ghost use Rattle.srt_explain.specs.FaultTexts.{other_routes_text, no_list_text, no_text_text, quotes_text, wrong_kind_of, wrong_kind_text};
-ghost use Rattle.srt_explain.specs.FaultTexts.{few_slots_text, reserved_text, limited_text, meant_text, out_of_range_text};
+ghost use Rattle.srt_explain.specs.FaultTexts.{few_slots_text, reserved_text, limited_text, meant_text, long_text, no_passphrase_text, out_of_range_text};
 ghost use Rattle.srt_explain.specs.FaultTexts.{name_hint_text, bad_name_text, repeated_name_text, secret_hint_text, bad_secret_text};
 ghost use Rattle.srt_explain.specs.FaultTexts.{in_network_text, network_text, bad_network_text, address_before_port, address_hint_text};
 ghost use Rattle.srt_explain.specs.FaultTexts.{allowed_address_text, socket_address_text, bad_address_of, bad_address_text, fault_text};
@@ -137,6 +137,8 @@ fn write_allowed<W: fmt::Write>(f: &mut fmt::Formatter<W>, key: Key, limits: Lim
         Key::PublishKey | Key::RequestKey => {
             write!(f, "{range} letters, digits, -, _, . and ~ in quotes")
         }
+        Key::PublishPassphrase | Key::RequestPassphrase => write!(f, "{range} bytes in quotes"),
+        Key::Pbkeylen => f.write_str("16, 24 and 32"),
         _ => write!(f, "{range}"),
     }
 }
@@ -301,46 +303,39 @@ fn keys_of(part: Part) -> &'static [Key] {
     }
 }
 
-/// Whether a key asks for encryption, by one of its usual names.
-fn asks_for_encryption(key: &str) -> bool
-    ensures { result ≡ asks_for_encryption key.now }
+/// Whether a key is a passphrase, by its name.
+fn is_passphrase(key: &str) -> bool
+    ensures { result ≡ is_passphrase key.now }
 {
-    key.as_bytes().ends_with(b"passphrase") || key == "pbkeylen"
+    key.as_bytes().ends_with(b"passphrase")
 }
 
-/// Writes that a key asks for encryption.
-fn write_encryption<W: fmt::Write>(f: &mut fmt::Formatter<W>, key: KeyText<'_>) -> fmt::Result
-    ensures { DisplaysOnOk W.write_str_gives f.old result (encryption_text key.entry.0.now) f.new }
+/// Writes which passphrases a route has.
+fn write_passphrase<W: fmt::Write>(f: &mut fmt::Formatter<W>, key: KeyText<'_>) -> fmt::Result
+    ensures { DisplaysOnOk W.write_str_gives f.old result (passphrase_text key.entry.0.now) f.new }
 {
     write!(
         f,
-        "{key}: unknown key; this version encrypts nothing, and refuses callers with a passphrase"
+        "{key}: unknown key; a route has publish_passphrase for encoders and request_passphrase for players"
     )
 }
 
-/// Writes that a key isn't known, and which may be meant.
-fn write_not_known<W: fmt::Write>(
+/// Writes that a key isn't known, which resembles none.
+fn write_unlike<W: fmt::Write>(
     f: &mut fmt::Formatter<W>,
     key: KeyText<'_>,
     part: Part,
-    hint: Hint,
 ) -> fmt::Result
-    ensures { DisplaysOnOk W.write_str_gives f.old result (not_known_text key.entry.0.now part hint) f.new }
+    ensures { DisplaysOnOk W.write_str_gives f.old result (unlike_text key.entry.0.now) f.new }
 {
-    match hint {
-        Hint::Resembles(meant) => {
-            let meant = KeyName(meant);
-            write!(f, "{key}: unknown key; did you mean {meant}?")
-        }
-        Hint::OfTable(_) => write_of_table(f, key, part),
-        Hint::OfRoute(_) => write_displaced(f, key, part),
-        _ => {
-            let keys = Keys(keys_of(part));
-            write!(f, "{key}: unknown key; the keys here are {keys}")
-        }
+    if is_passphrase(key.0) {
+        return write_passphrase(f, key);
     }
+    let keys = Keys(keys_of(part));
+    write!(f, "{key}: unknown key; the keys here are {keys}")
 }
 
+/// Writes that a key isn't known, and which may be meant.
 fn write_unknown<W: fmt::Write>(
     f: &mut fmt::Formatter<W>,
     key: &str,
@@ -349,11 +344,16 @@ fn write_unknown<W: fmt::Write>(
 ) -> fmt::Result
     ensures { DisplaysOnOk W.write_str_gives f.old result (unknown_text key.now part hint) f.new }
 {
-    let text = KeyText(key);
-    if asks_for_encryption(key) {
-        return write_encryption(f, text);
+    let key = KeyText(key);
+    match hint {
+        Hint::Resembles(meant) => {
+            let meant = KeyName(meant);
+            write!(f, "{key}: unknown key; did you mean {meant}?")
+        }
+        Hint::OfTable(_) => write_of_table(f, key, part),
+        Hint::OfRoute(_) => write_displaced(f, key, part),
+        _ => write_unlike(f, key, part),
     }
-    write_not_known(f, text, part, hint)
 }
 
 fn write_missing<W: fmt::Write>(f: &mut fmt::Formatter<W>, key: Key) -> fmt::Result
@@ -517,6 +517,21 @@ fn write_limited<W: fmt::Write>(f: &mut fmt::Formatter<W>, key: Key, value: &str
     write!(f, "{name} = {value}: allowed are {allowed}")
 }
 
+/// Writes that a length of keys is of no route that has no passphrase.
+fn write_no_passphrase<W: fmt::Write>(
+    f: &mut fmt::Formatter<W>,
+    key: Key,
+    value: &str,
+) -> fmt::Result
+    ensures { DisplaysOnOk W.write_str_gives f.old result (Some (no_passphrase_text key value.now)) f.new }
+{
+    let name = KeyName(key);
+    write!(
+        f,
+        "{name} = {value}: it is of a route with a passphrase; write publish_passphrase or request_passphrase, or leave it out"
+    )
+}
+
 fn write_out_of_range<W: fmt::Write>(
     f: &mut fmt::Formatter<W>,
     key: Key,
@@ -537,6 +552,8 @@ fn write_out_of_range<W: fmt::Write>(
             )
         }
         Hint::Members(count) => write!(f, "{name}: it has {count} values; allowed are {allowed}"),
+        Hint::Bytes(count) => write!(f, "{name}: allowed are {allowed}; it has {count}"),
+        Hint::NoPassphrase => write_no_passphrase(f, key, value),
         _ => write_limited(f, key, value),
     }
 }

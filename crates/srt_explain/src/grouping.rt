@@ -26,6 +26,14 @@ pub enum RouteRisk {
     OpenPublishKey,
     /// Subscribers have a key and no list.
     OpenRequestKey,
+    /// The passphrase of publishers is short.
+    ShortPublishPassphrase,
+    /// The passphrase of subscribers is short.
+    ShortRequestPassphrase,
+    /// Publishers and subscribers have the same passphrase.
+    SharedPassphrase,
+    /// What publishers encrypt is sent to subscribers in clear.
+    ClearPlayers,
     /// Its `takeover_ms` has no effect.
     UnusedTakeover,
     /// Its `sessions_per_address` has no effect.
@@ -58,12 +66,16 @@ impl RouteRisk {
 }
 
 /// All of them, in the order of warnings.
-const RISKS: [RouteRisk; 12] = [
+const RISKS: [RouteRisk; 16] = [
     RouteRisk::SmallOutbox,
     RouteRisk::SmallWindow,
     RouteRisk::OneSession,
     RouteRisk::OpenPublishKey,
     RouteRisk::OpenRequestKey,
+    RouteRisk::ShortPublishPassphrase,
+    RouteRisk::ShortRequestPassphrase,
+    RouteRisk::SharedPassphrase,
+    RouteRisk::ClearPlayers,
     RouteRisk::UnusedTakeover,
     RouteRisk::UnusedAddressLimit,
     RouteRisk::OneUnreserved,
@@ -86,13 +98,17 @@ fn risk_number(risk: RouteRisk) -> u8
         RouteRisk::OneSession => 2,
         RouteRisk::OpenPublishKey => 3,
         RouteRisk::OpenRequestKey => 4,
-        RouteRisk::UnusedTakeover => 5,
-        RouteRisk::UnusedAddressLimit => 6,
-        RouteRisk::OneUnreserved => 7,
-        RouteRisk::NoCallers => 8,
-        RouteRisk::NoReserved => 9,
-        RouteRisk::NoTakeover => 10,
-        RouteRisk::NoResendLimit => 11,
+        RouteRisk::ShortPublishPassphrase => 5,
+        RouteRisk::ShortRequestPassphrase => 6,
+        RouteRisk::SharedPassphrase => 7,
+        RouteRisk::ClearPlayers => 8,
+        RouteRisk::UnusedTakeover => 9,
+        RouteRisk::UnusedAddressLimit => 10,
+        RouteRisk::OneUnreserved => 11,
+        RouteRisk::NoCallers => 12,
+        RouteRisk::NoReserved => 13,
+        RouteRisk::NoTakeover => 14,
+        RouteRisk::NoResendLimit => 15,
     }
 }
 
@@ -106,6 +122,10 @@ pub(crate) fn risk_key(risk: RouteRisk) -> &'static str
         RouteRisk::OneSession => "sessions",
         RouteRisk::OpenPublishKey => "publish_key",
         RouteRisk::OpenRequestKey => "request_key",
+        RouteRisk::ShortPublishPassphrase => "publish_passphrase",
+        RouteRisk::ShortRequestPassphrase => "request_passphrase",
+        RouteRisk::SharedPassphrase => "request_passphrase",
+        RouteRisk::ClearPlayers => "publish_passphrase",
         RouteRisk::UnusedTakeover => "takeover_ms",
         RouteRisk::UnusedAddressLimit => "sessions_per_address",
         RouteRisk::OneUnreserved => "reserved",
@@ -133,6 +153,16 @@ fn risk_of(warning: Warning) -> Option<RouteRisk>
             role: Role::Request,
             ..
         } => Some(RouteRisk::OpenRequestKey),
+        Warning::ShortPassphrase {
+            role: Role::Publish,
+            ..
+        } => Some(RouteRisk::ShortPublishPassphrase),
+        Warning::ShortPassphrase {
+            role: Role::Request,
+            ..
+        } => Some(RouteRisk::ShortRequestPassphrase),
+        Warning::SharedPassphrase { .. } => Some(RouteRisk::SharedPassphrase),
+        Warning::ClearPlayers { .. } => Some(RouteRisk::ClearPlayers),
         Warning::UnusedTakeover { .. } => Some(RouteRisk::UnusedTakeover),
         Warning::UnusedAddressLimit { .. } => Some(RouteRisk::UnusedAddressLimit),
         Warning::OneUnreserved { .. } => Some(RouteRisk::OneUnreserved),

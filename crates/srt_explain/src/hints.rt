@@ -8,8 +8,8 @@ use crate::explanation::Hint;
 use crate::places::{line_at, place_after};
 use crate::resemblance::resembled;
 use crate::values::{
-    first_named, first_no_network, first_no_text, members_at, opening_of, routes_of, sessions_of,
-    text_or_empty, value_at,
+    first_named, first_no_network, first_no_text, members_at, number_at, opening_of, routes_of,
+    sessions_of, text_or_empty, value_at,
 };
 use srt_config::{
     DEFAULT_KEYS, Key, Place, ROUTE_KEYS, TOP_KEYS, ValueKind, read_network, read_number,
@@ -240,6 +240,14 @@ fn of_reserved(route: &Table) -> Hint {
     }
 }
 
+/// Returns the hint for a length of keys that isn't allowed: if it is one, the route has no passphrase.
+fn of_key_length(route: &Table) -> Hint {
+    match number_at(route, Key::Pbkeylen) {
+        Some(16 | 24 | 32) => Hint::NoPassphrase,
+        _ => Hint::Nothing,
+    }
+}
+
 /// Returns the hint for a value outside its limits.
 pub(crate) fn of_range(table: &Table, key: Key) -> Hint
     ensures { is_private key ≡ true → is_hint_private result ≡ true }
@@ -250,6 +258,10 @@ pub(crate) fn of_range(table: &Table, key: Key) -> Hint
         Key::CloseRound => Hint::Opens(opening_of(table)),
         Key::Reserved => of_reserved(table),
         Key::PublishFrom | Key::RequestFrom => Hint::Members(members_at(table, key).len()),
+        Key::PublishPassphrase | Key::RequestPassphrase => {
+            Hint::Bytes(text_or_empty(table, key).len())
+        }
+        Key::Pbkeylen => of_key_length(table),
         _ => Hint::Nothing,
     }
 }

@@ -3,7 +3,7 @@
 ghost use Rattle.std.specs.Prelude.{◌≡◌, Some};
 ghost use Rattle.std.specs.Fmt.{DisplaysOnOk};
 ghost use Rattle.srt_explain.specs.Texts.{octets_text, address_text, host_text, exposed_text, loopback_text, exposed_status_text};
-ghost use Rattle.srt_explain.specs.Texts.{open_key_text, small_outbox_text};
+ghost use Rattle.srt_explain.specs.Texts.{open_key_text, short_passphrase_text, shared_passphrase_text, clear_players_text, small_outbox_text};
 ghost use Rattle.srt_explain.specs.Texts.{brought_text, enough_text, small_window_text, one_session_text};
 ghost use Rattle.srt_explain.specs.Texts.{unused_takeover_text, unused_limit_text, one_unreserved_text, no_callers_text, no_reserved_text};
 ghost use Rattle.srt_explain.specs.Texts.{no_takeover_text, no_resend_limit_text, example_secret_text, warning_text, route_text, warning_line};
@@ -111,9 +111,41 @@ fn write_open_key<W: fmt::Write>(f: &mut fmt::Formatter<W>, role: Role) -> fmt::
     };
     write!(
         f,
-        "{key}: nothing is encrypted, so who reads it on its way can use it from anywhere; "
+        "{key}: a Stream ID isn't encrypted, so who reads it on its way can use it from anywhere; "
     )?;
     write!(f, "write {list} too, if the callers' addresses are known")
+}
+
+/// Writes the risk of a short passphrase.
+#[tactic(auto, unfolding(crate::specs::Texts::short_passphrase_text))]
+fn write_short_passphrase<W: fmt::Write>(f: &mut fmt::Formatter<W>, role: Role) -> fmt::Result
+    ensures { DisplaysOnOk W.write_str_gives f.old result (Some (short_passphrase_text role)) f.new }
+{
+    let key = match role {
+        Role::Publish => Key::PublishPassphrase.name(),
+        Role::Request => Key::RequestPassphrase.name(),
+    };
+    write!(
+        f,
+        "{key}: it has fewer than 16 bytes, so who records the opening of a session can find it by trial; write 16 or more"
+    )
+}
+
+#[tactic(auto, unfolding(crate::specs::Texts::shared_passphrase_text))]
+fn write_shared_passphrase<W: fmt::Write>(f: &mut fmt::Formatter<W>) -> fmt::Result
+    ensures { DisplaysOnOk W.write_str_gives f.old result (Some shared_passphrase_text) f.new }
+{
+    f.write_str(
+        "request_passphrase: it is publish_passphrase too, so who may receive may also publish; write another one",
+    )
+}
+
+#[tactic(auto, unfolding(crate::specs::Texts::clear_players_text))]
+fn write_clear_players<W: fmt::Write>(f: &mut fmt::Formatter<W>) -> fmt::Result
+    ensures { DisplaysOnOk W.write_str_gives f.old result (Some clear_players_text) f.new }
+{
+    f.write_str("publish_passphrase: publishers encrypt, and players get the stream in clear; ")?;
+    f.write_str("write request_passphrase too, if it is to stay encrypted")
 }
 
 #[tactic(auto, unfolding(crate::specs::Texts::small_outbox_text))]
@@ -295,6 +327,9 @@ fn write_warning<W: fmt::Write>(f: &mut fmt::Formatter<W>, warning: Warning) -> 
         } => write_small_window(f, buffer, packets, millis),
         Warning::OneSession { .. } => write_one_session(f),
         Warning::OpenKey { role, .. } => write_open_key(f, role),
+        Warning::ShortPassphrase { role, .. } => write_short_passphrase(f, role),
+        Warning::SharedPassphrase { .. } => write_shared_passphrase(f),
+        Warning::ClearPlayers { .. } => write_clear_players(f),
         Warning::UnusedTakeover { .. } => write_unused_takeover(f),
         Warning::UnusedAddressLimit {
             limit,

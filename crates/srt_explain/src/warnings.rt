@@ -1,12 +1,13 @@
 //! The risks of a valid configuration.
 
-ghost use Rattle.std.specs.Prelude.{◌≡◌, ◌++◌, ◌^◌, ◌<◌, map, IfOk, OnOk};
+ghost use Rattle.std.specs.Prelude.{◌≡◌, ◌++◌, ◌^◌, ◌<◌, map, option_map, string_bytes, IfOk, OnOk};
 ghost use Rattle.toml.specs.View.{table_view};
 ghost use Rattle.srt_types.specs.Access.{access_of, role_access_of};
 ghost use Rattle.srt_types.specs.Terms.{terms_of};
 ghost use Rattle.srt_explain.specs.Warnings.{replies_of, packets_of, millis_of, if_live, is_small_outbox, is_small_window, has_one_session};
 ghost use Rattle.srt_explain.specs.Warnings.{outbox_warning, window_warning, given, has_example_secret, is_loopback, status_warnings};
 ghost use Rattle.srt_explain.specs.Warnings.{number_warnings, has_open_key, key_warnings, has_unused_takeover, has_unused_limit};
+ghost use Rattle.srt_explain.specs.Warnings.{is_short, are_same, has_clear_players, short_warnings, pair_warnings, access_warnings};
 ghost use Rattle.srt_explain.specs.Warnings.{limit_warning, has_one_unreserved, unreserved_warning, rule_warnings, route_warnings, routes_warnings};
 ghost use Rattle.srt_explain.specs.Warnings.{route_table, lacks, advised_slots, lacks_reserved, reserved_warning, lacks_takeover};
 ghost use Rattle.srt_explain.specs.Warnings.{default_admission, default_limits, value_warnings};
@@ -61,6 +62,24 @@ pub enum Warning {
         route: usize,
         /// The role.
         role: Role,
+    },
+    /// A role of a route has a passphrase of fewer than 16 bytes: who records the opening of a session can find it by trial.
+    ShortPassphrase {
+        /// The route.
+        route: usize,
+        /// The role.
+        role: Role,
+    },
+    /// Both roles of a route have the same passphrase: who may receive may publish too.
+    SharedPassphrase {
+        /// The route.
+        route: usize,
+    },
+    /// The publishers of a route have a passphrase, and its subscribers have none: what is encrypted on its way to the gateway is
+    /// sent on in clear.
+    ClearPlayers {
+        /// The route.
+        route: usize,
     },
     /// A route in buffer mode has a time after which the standby publisher takes over: it has no effect there.
     UnusedTakeover {
@@ -129,6 +148,9 @@ impl Warning {
             | Warning::SmallWindow { route, .. }
             | Warning::OneSession { route }
             | Warning::OpenKey { route, .. }
+            | Warning::ShortPassphrase { route, .. }
+            | Warning::SharedPassphrase { route }
+            | Warning::ClearPlayers { route }
             | Warning::UnusedTakeover { route }
             | Warning::UnusedAddressLimit { route, .. }
             | Warning::OneUnreserved { route, .. }
@@ -163,6 +185,9 @@ pub struct WarningText<'a> {
     /// The route's name; empty for a warning about no route.
     pub name: &'a str,
 }
+
+/// The least number of bytes of a passphrase that isn't short.
+const MANY_BYTES: usize = 16;
 
 /// The secret of examples/gateway.toml.
 const EXAMPLE_SECRET: &str = "000102030405060708090a0b0c0d0e0f101112131415161718191a1b1c1d1e1f";
@@ -298,6 +323,74 @@ fn push_keys(list: &mut Vec<Warning>, route: usize, access: &Access) -> Result<(
     Ok(())
 }
 
+/// Whether a passphrase is found by trial.
+fn is_short(passphrase: &Option<String>) -> bool
+    ensures { result ≡ is_short (option_map string_bytes passphrase.now) }
+{
+    match passphrase {
+        Some(text) => text.len() < MANY_BYTES,
+        None => false,
+    }
+}
+
+/// Whether these are the same passphrase.
+fn are_same(one: &Option<String>, other: &Option<String>) -> bool
+    ensures { result ≡ are_same (option_map string_bytes one.now) (option_map string_bytes other.now) }
+{
+    match (one, other) {
+        (Some(one), Some(other)) => one.as_str() == other.as_str(),
+        _ => false,
+    }
+}
+
+/// Whether what publishers encrypt is sent to subscribers in clear.
+fn has_clear_players(access: &Access) -> bool
+    ensures { result ≡ has_clear_players (access_of access.now) }
+{
+    access.publish.passphrase.is_some() && access.request.passphrase.is_none()
+}
+
+/// Adds the warnings about each of the passphrases of the roles of the route of this number.
+fn push_short(list: &mut Vec<Warning>, route: usize, access: &Access) -> Result<(), AllocError>
+    ensures { OnOk result (list.new.items ≡ list.old.items ++ short_warnings route (access_of access.now)) }
+{
+    let publish = Warning::ShortPassphrase {
+        route,
+        role: Role::Publish,
+    };
+    push_if(list, is_short(&access.publish.passphrase), publish)?;
+    let request = Warning::ShortPassphrase {
+        route,
+        role: Role::Request,
+    };
+    push_if(list, is_short(&access.request.passphrase), request)?;
+    Ok(())
+}
+
+/// Adds the warnings about both of them.
+fn push_pair(list: &mut Vec<Warning>, route: usize, access: &Access) -> Result<(), AllocError>
+    ensures { OnOk result (list.new.items ≡ list.old.items ++ pair_warnings route (access_of access.now)) }
+{
+    let same = are_same(&access.publish.passphrase, &access.request.passphrase);
+    push_if(list, same, Warning::SharedPassphrase { route })?;
+    push_if(
+        list,
+        has_clear_players(access),
+        Warning::ClearPlayers { route },
+    )?;
+    Ok(())
+}
+
+/// Adds the warnings about the keys and the passphrases of the roles of the route of this number.
+fn push_access(list: &mut Vec<Warning>, route: usize, access: &Access) -> Result<(), AllocError>
+    ensures { OnOk result (list.new.items ≡ list.old.items ++ access_warnings route (access_of access.now)) }
+{
+    push_keys(list, route, access)?;
+    push_short(list, route, access)?;
+    push_pair(list, route, access)?;
+    Ok(())
+}
+
 /// Whether a route in buffer mode has a time of a take-over.
 fn has_unused_takeover(entry: &Entry) -> bool
     ensures { result ≡ has_unused_takeover (terms_of entry.now) }
@@ -427,7 +520,7 @@ fn push_values(list: &mut Vec<Warning>, route: usize, entry: &Entry) -> Result<(
     ensures { OnOk result (list.new.items ≡ list.old.items ++ value_warnings route (terms_of entry.now)) }
 {
     push_numbers(list, route, entry)?;
-    push_keys(list, route, &entry.access)?;
+    push_access(list, route, &entry.access)?;
     push_rules(list, route, entry)?;
     Ok(())
 }
