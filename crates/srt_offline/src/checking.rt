@@ -11,7 +11,7 @@ ghost use Rattle.srt_offline.specs.Ends.{IsConfigFault, IsCheckFault};
 use crate::configurations::read_configuration;
 use crate::faults::OfflineFault;
 use srt_config::{Config, ConfigFault, read_config};
-use srt_explain::{Explained, Faults, explain};
+use srt_explain::{Explained, FaultLines, Faults, explain};
 use std::alloc::Global;
 use std::io::{self, Write};
 use std::rt::Files;
@@ -45,15 +45,7 @@ pub fn config_at(rt: &(impl Files + AllocGlobal), path: &str) -> Result<Config, 
 
 /// Prints what is wrong with a configuration, a line for each fault, on standard error.
 fn print_faults(rt: &impl Eprint, path: &str, faults: &Faults) {
-    let first = &faults.first;
-    let _ = eprintln!(rt; "srtgw: {path}: {first}");
-    for other in faults.others.iter() {
-        let _ = eprintln!(rt; "srtgw: {path}: {other}");
-    }
-    let more = faults.more;
-    if more > 0 {
-        let _ = eprintln!(rt; "srtgw: {path}: and {more} more");
-    }
+    let _ = rt.eprint(FaultLines { path, faults });
 }
 
 /// A configuration's explanation from the bytes of its file. What is wrong is explained on standard error.
