@@ -3,6 +3,7 @@ pub mod Machines
 pub mod Log
 pub mod Writes
 pub mod Shares
+pub mod Rests
 pub mod Draining
 pub mod Losses
 pub mod FirstLines

@@ -1,6 +1,7 @@
 -- How the write of a log's line ended.
 use Rattle.std.specs.Prelude.{◌≡◌, ◌⊎◌, ℕ, ◌+◌, ◌==◌, nat_lt, Bool, true, false, List, [], Result, Ok, Err, if◌then◌else◌}
 use Rattle.std.specs.IoError.{error_kind}
+use Rattle.std.specs.declared.io.Error.{Error}
 use Rattle.std.specs.declared.io.ErrorKind.{ErrorKind}
 use Rattle.std.specs.declared.io.ErrorKind.TheVariants.{WouldBlock, OutOfMemory}
 use Rattle.srt_status.specs.Events.{HasKept}
@@ -48,6 +49,16 @@ pub data AreKept (old : List Event) : (new : List Event) → Type 0 where
   KeptNone : (new : List Event) → new ≡ old → AreKept old new
   KeptMore : (middle new : List Event) (moment : ℕ) (is_refusal : Bool) (text : List ℕ) → AreKept old middle → HasKept middle new moment is_refusal text →
       AreKept old new
+
+-- what only a call of the writer that ended with an error ensures is known of that error; of memory that was refused there is evidence
+abbrev pub IsFailureOf : (failed : Error → Type 0) → NotWritten → Type 0
+IsFailureOf failed (ByWriter error) = failed error
+IsFailureOf failed (NoMemory want) = Unit {0}
+
+-- A call of the writer ended with some error.
+pub record HasFailed (failed : Error → Type 0) : Type 0 where
+  pub error : Error
+  pub has_failed : failed error
 
 -- The number of calls of a writer with a line, after the line of an event was to be written: one more. Only if memory for an object was refused
 -- there is none.

@@ -46,6 +46,7 @@ mod page_interface;
 mod prepared_change;
 mod reasons;
 mod refusals;
+mod rests;
 mod route_lines;
 mod showing;
 mod steering;
@@ -53,6 +54,7 @@ mod stopping;
 mod watched_file;
 mod watched_routes;
 mod watcher;
+mod writer_calls;
 
 pub use config_file::{ConfigFile, FileStamp, MAX_REASON};
 pub use first_lines::Start;

@@ -7,12 +7,13 @@ ghost use Rattle.srt_status.specs.Events.{HasKept};
 ghost use Rattle.srt_watch.specs.Log.{IsStamp, IsTimeOf, LogState, HasState, Wrote, Logged, most, missed_of, after_missed};
 ghost use Rattle.srt_watch.specs.Log.{line_at, line_if, left_out_text, said};
 ghost use Rattle.srt_watch.specs.Log.{Offered, Always, Polled, Missed, Looked, Closed, is_refusal};
-ghost use Rattle.srt_watch.specs.Draining.{IsDrained};
+ghost use Rattle.srt_watch.specs.Draining.{IsDrained, HasClosed};
 ghost use Rattle.srt_watch.specs.Writes.{lines_of, HasRefused, HasKeptIf, AreKept, HasKeptOf, given_if, given_some, given_by};
 ghost use Rattle.srt_log.specs.declared.events.LogEvent.TheVariants.{Stopped, LeftOut};
 
 use crate::machine::Machine;
-use crate::output::Output;
+use crate::output::{Flushed, Output};
+use crate::rests::Rests;
 use srt_log::{LineKind, LineShares, LogEvent, event_line, utc_text};
 use srt_status::EventRing;
 use std::alloc::Global;
@@ -125,14 +126,21 @@ fn is_refusal(event: LogEvent<'_>) -> bool
 const MAX_RESTS: u32 = 100;
 
 /// How the wait for a log's writer ended.
-#[derive(Clone, Copy)]
+#[derive(Drop)]
 pub(crate) enum Drained {
     /// All is out: nothing waits, and each line that wasn't written was counted in one that was.
-    All,
+    All(Flushed),
     /// The time was over, at this moment.
     Over(u64),
-    /// After this number of rests the clock hadn't come to the end of the time.
-    Rested(u32),
+    /// After these rests the clock hadn't come to the end of the time.
+    Rested(Rests),
+}
+
+/// How the two waits at the end of a log ended: the one before its last line, and the one after it.
+#[derive(Drop)]
+pub(crate) struct Closing {
+    first: Drained,
+    last: Drained,
 }
 
 /// A log, and its pace.
@@ -142,6 +150,8 @@ pub(crate) struct LogWriter<W: Drop> {
     pace: LogPace,
     // the last lines, for the page
     events: EventRing,
+    // how it ended; nothing reads it
+    closing: Option<Closing>,
     ghost counted: { pace.is_whole ≡ true → out.refused ≡ 0 },
 }
 
@@ -157,6 +167,7 @@ impl<W: Write + Drop> LogWriter<W> {
             out: Output::new(alloc, out),
             pace: LogPace::new(),
             events: EventRing::new(),
+            closing: None,
         }
     }
 
@@ -279,21 +290,21 @@ impl<W: Write + Drop> LogWriter<W> {
     }
 
     // Lets the writer write what waits in it, and then writes how many lines it had no room for, if some were and there
-    // is room again. Returns whether all is out: nothing waits in the writer, and it has had no line without room since the
+    // is room again. Returns evidence if all is out: nothing waits in the writer, and it has had no line without room since the
     // last such number.
-    fn catch_up(&mut self, when: When) -> bool
+    fn catch_up(&mut self, when: When) -> Option<Flushed>
         ensures logged { Logged (W.contents self.old.out.out) (W.contents self.new.out.out) self.old.pace self.new.pace [] }
-        ensures told { result ≡ true → (self.old.out.refused ≡ 0) × (self.new.out.refused ≡ 0) }
+        ensures told { IfSome result (λ _. (self.old.out.refused ≡ 0) × (self.new.out.refused ≡ 0)) }
         ensures refused { HasRefused 0 self.new.out.refused self.old.out.refused }
         ensures given { self.new.out.given ≡ given_some self.old.out.refused self.old.out.given }
         ensures flushes { self.new.out.flushes ≡ most (self.old.out.flushes + 1) }
         ensures kept { HasKeptIf (nat_lt 0 self.old.out.refused) self.old.events.events.items self.new.events.events.items when.moment true
             (put [] (event_text (LeftOut self.old.out.refused))) }
     {
-        let is_flushed = self.out.flush();
+        let flushed = self.out.flush();
         let count = self.out.take_refused();
         self.append_left_out(when, count);
-        is_flushed && count == 0
+        if count == 0 { flushed } else { None }
     }
 
     /// Lets the writer write what waits in it, and then writes how many lines it had no room for, if some were. In each turn.
@@ -317,17 +328,16 @@ impl<W: Write + Drop> LogWriter<W> {
         ensures machine { M.says machine.new ≡ M.says machine.old }
         ensures drained { IsDrained M.facts ends self.new.out.refused result }
     {
-        let mut rests = 0u32;
-        while rests < MAX_RESTS {
-            if self.catch_up(when) {
-                return Drained::All;
+        let mut rests = Rests::none();
+        while rests.rests() < MAX_RESTS {
+            if let Some(flushed) = self.catch_up(when) {
+                return Drained::All(flushed);
             }
             let moment = machine.moment();
             if moment >= ends {
                 return Drained::Over(moment);
             }
-            machine.rest();
-            rests += 1;
+            rests.rest(machine);
         }
         Drained::Rested(rests)
     }
@@ -347,19 +357,20 @@ impl<W: Write + Drop> LogWriter<W> {
     }
 
     /// Ends the log: writes how many lines the current second has left out so far, then, once what waits is out, the last
-    /// line, and rests until that is out too; for a second at most. Returns how that wait ended.
-    pub fn close<M: Machine>(&mut self, machine: &mut M, when: When) -> Drained
+    /// line, and rests until that is out too; for a second at most.
+    pub fn close<M: Machine>(&mut self, machine: &mut M, when: When)
         ensures logged { Logged (W.contents self.old.out.out) (W.contents self.new.out.out) self.old.pace self.new.pace
             (Closed when ∷ Always when (said Stopped) ∷ []) }
         ensures events { AreKept self.old.events.events.items self.new.events.events.items }
         ensures machine { M.says machine.new ≡ M.says machine.old }
-        ensures drained { IsDrained M.facts (most (when.moment + 1_000_000)) self.new.out.refused result }
+        ensures closed { HasClosed M.facts (most (when.moment + 1_000_000)) self.new.out.refused self.new.closing }
     {
         let ends = when.moment.saturating_add(SECOND);
         self.end(when);
-        let _ = self.drain(machine, when, ends);
+        let first = self.drain(machine, when, ends);
         self.append_always(when, LogEvent::Stopped);
-        self.drain(machine, when, ends)
+        let last = self.drain(machine, when, ends);
+        self.closing = Some(Closing { first, last });
     }
 }
 

@@ -15,10 +15,12 @@ pub trait Machine {
     ghost says: { Self → Option MachineState } = { λ _. None };
 
     /// Rests for some milliseconds.
-    fn rest(&self);
+    fn rest(&self)
+        ensures { facts.has_rested };
 
     /// Rests for a millisecond.
-    fn pause(&self);
+    fn pause(&self)
+        ensures { facts.has_paused };
 
     /// Reads the routes' clock, in microseconds.
     fn moment(&mut self) -> u64

@@ -1,16 +1,17 @@
 //! Where the lines of a log are written, which calls the writer got, and how many lines found no room there.
 
-ghost use Rattle.std.specs.Prelude.{◌≡◌, ◌≤◌, ◌+◌, true, OnOk};
+ghost use Rattle.std.specs.Prelude.{◌≡◌, ◌≤◌, ◌+◌, true, OnOk, IfErr, IfSome, IfNone};
 ghost use Rattle.std.specs.Io.KnownBytes.{Appends, Keeps};
 ghost use Rattle.srt_log.specs.Objects.{object_text};
 ghost use Rattle.srt_watch.specs.Log.{most, words_at, object_at, line_at, said};
-ghost use Rattle.srt_watch.specs.Writes.{is_passing, refused_after, lines_of, GotObject, GotLine};
+ghost use Rattle.srt_watch.specs.Writes.{is_passing, refused_after, lines_of, GotObject, GotLine, IsFailureOf, HasFailed};
 
 use crate::log::When;
 use crate::memory::{WantOfMemory, or_want_of_memory};
-use srt_log::{LogEvent, put_object, write_line};
+use crate::writer_calls::WriterCalls;
+use srt_log::{LogEvent, put_object};
 use std::alloc::Global;
-use std::io::{self, Error, ErrorKind, Write};
+use std::io::{self, Error, ErrorKind};
 use std::mem;
 
 /// Where the lines of a log are written.
@@ -60,47 +61,61 @@ fn lines_of(event: LogEvent<'_>) -> u64
 }
 
 // Calls the writer with the line of an event, and counts that.
-fn put_words<W: Write>(
+fn put_words<W: WriterCalls>(
     out: &mut W,
     writes: &mut u64,
     when: When,
     event: LogEvent<'_>,
 ) -> io::Result<()>
-    ensures line { OnOk result (Appends (W.contents out.old) (W.contents out.new) (words_at when.stamp (said event.entry))) }
+    ensures line { OnOk result (Appends (W.holds out.old) (W.holds out.new) (words_at when.stamp (said event.entry))) }
+    ensures failed { IfErr result W.has_failed }
     ensures writes { writes.new ≡ most (writes.old + 1) }
 {
     *writes = writes.saturating_add(1);
-    write_line(out, when.stamp, event)
+    out.put_line(when.stamp, event)
 }
 
 // Calls the writer with these bytes, and counts that.
-fn put_bytes<W: Write>(out: &mut W, writes: &mut u64, bytes: &[u8]) -> io::Result<()>
-    ensures bytes { OnOk result (Appends (W.contents out.old) (W.contents out.new) bytes.now) }
+fn put_bytes<W: WriterCalls>(out: &mut W, writes: &mut u64, bytes: &[u8]) -> io::Result<()>
+    ensures bytes { OnOk result (Appends (W.holds out.old) (W.holds out.new) bytes.now) }
+    ensures failed { IfErr result W.has_failed }
     ensures writes { writes.new ≡ most (writes.old + 1) }
 {
     *writes = writes.saturating_add(1);
-    out.write_all(bytes)
+    out.put_bytes(bytes)
 }
 
-// Calls the writer to write what waits in it, and counts that. Returns whether nothing waits.
-fn flush_once<W: Write>(out: &mut W, flushes: &mut u64) -> bool
-    ensures bytes { Keeps (W.contents out.old) (W.contents out.new) }
+/// Evidence that nothing waited in a writer, once: a call of it said so. It counts for one wait, and can't be copied.
+#[derive(Drop)]
+pub(crate) struct Flushed {
+    marker: (),
+}
+
+// Calls the writer to write what waits in it, and counts that. Returns evidence if nothing waits.
+fn flush_once<W: WriterCalls>(out: &mut W, flushes: &mut u64) -> Option<Flushed>
+    ensures bytes { Keeps (W.holds out.old) (W.holds out.new) }
+    ensures flushed { IfSome result (λ _. W.has_flushed) }
+    ensures failed { IfNone result (HasFailed W.has_failed) }
     ensures flushes { flushes.new ≡ most (flushes.old + 1) }
 {
     *flushes = flushes.saturating_add(1);
-    out.flush().is_ok()
+    match out.let_out() {
+        Ok(()) => Some(Flushed { marker: () }),
+        Err(_) => None,
+    }
 }
 
 // Makes the object of an event in place of another one, and calls the writer with it. Only if memory for it is refused the writer isn't called.
 #[tactic(auto, unfolding(srt_log::specs::Objects::object_text))]
-fn put_json<W: Write>(
+fn put_json<W: WriterCalls>(
     out: &mut W,
     writes: &mut u64,
     object: &mut Vec<u8>,
     when: When,
     event: LogEvent<'_>,
 ) -> Result<(), NotWritten>
-    ensures line { OnOk result (Appends (W.contents out.old) (W.contents out.new) (object_at when.stamp (said event.entry))) }
+    ensures line { OnOk result (Appends (W.holds out.old) (W.holds out.new) (object_at when.stamp (said event.entry))) }
+    ensures failed { IfErr result (IsFailureOf W.has_failed) }
     ensures writes { GotObject result writes.old writes.new }
 {
     object.clear();
@@ -113,7 +128,7 @@ fn put_json<W: Write>(
     }
 }
 
-impl<W: Write + Drop> Output<W> {
+impl<W: WriterCalls + Drop> Output<W> {
     /// Returns one that was given no line yet.
     pub(crate) fn new(alloc: Global, out: W) -> Output<W>
         ensures out { result.out ≡ out }
@@ -131,7 +146,8 @@ impl<W: Write + Drop> Output<W> {
 
     // Makes the line of an event, and writes it. An error is the writer's, or that memory for an object was refused.
     fn put_line(&mut self, when: When, event: LogEvent<'_>) -> Result<(), NotWritten>
-        ensures line { OnOk result (Appends (W.contents self.old.out) (W.contents self.new.out) (line_at when (said event.entry))) }
+        ensures line { OnOk result (Appends (W.holds self.old.out) (W.holds self.new.out) (line_at when (said event.entry))) }
+        ensures failed { IfErr result (IsFailureOf W.has_failed) }
         ensures refused { self.new.refused ≡ self.old.refused }
         ensures given { self.new.given ≡ self.old.given }
         ensures writes { GotLine when.is_json result self.old.writes self.new.writes }
@@ -171,7 +187,8 @@ impl<W: Write + Drop> Output<W> {
     /// Writes the line of an event, and returns how that ended. If there was no room for it now, or no memory, the lines that it stands for
     /// are counted.
     pub(crate) fn write(&mut self, when: When, event: LogEvent<'_>) -> Result<(), NotWritten>
-        ensures line { OnOk result (Appends (W.contents self.old.out) (W.contents self.new.out) (line_at when (said event.entry))) }
+        ensures line { OnOk result (Appends (W.holds self.old.out) (W.holds self.new.out) (line_at when (said event.entry))) }
+        ensures failed { IfErr result (IsFailureOf W.has_failed) }
         ensures refused { self.new.refused ≡ refused_after result self.old.refused (lines_of event.entry) }
         ensures grows { self.old.refused ≤ self.new.refused }
         ensures given { self.new.given ≡ most (self.old.given + 1) }
@@ -184,9 +201,11 @@ impl<W: Write + Drop> Output<W> {
         outcome
     }
 
-    /// Lets the writer write what waits in it. Returns whether nothing waits.
-    pub(crate) fn flush(&mut self) -> bool
-        ensures bytes { Keeps (W.contents self.old.out) (W.contents self.new.out) }
+    /// Lets the writer write what waits in it. Returns evidence if nothing waits.
+    pub(crate) fn flush(&mut self) -> Option<Flushed>
+        ensures bytes { Keeps (W.holds self.old.out) (W.holds self.new.out) }
+        ensures flushed { IfSome result (λ _. W.has_flushed) }
+        ensures failed { IfNone result (HasFailed W.has_failed) }
         ensures refused { self.new.refused ≡ self.old.refused }
         ensures given { self.new.given ≡ self.old.given }
         ensures flushes { self.new.flushes ≡ most (self.old.flushes + 1) }

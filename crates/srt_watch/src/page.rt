@@ -1,12 +1,14 @@
 //! The status page, and the rests of the watcher, in which the page is served.
 
-ghost use Rattle.std.specs.Prelude.{◌≡◌, [], ◌∷◌};
-ghost use Rattle.srt_watch.specs.Pages.{page_at, with_pages, ShowedPages};
+ghost use Rattle.std.specs.Prelude.{◌≡◌, ◌<◌, [], ◌∷◌};
+ghost use Rattle.srt_watch.specs.Pages.{page_at, with_pages, ShowedPage, HasRested};
+ghost use Rattle.srt_watch.specs.Rests.{with_pause};
 ghost use Rattle.srt_watch.specs.Routes.{used_of};
 
 use crate::machine::Machine;
 use crate::overview::Overview;
 use crate::page_interface::StatusServer;
+use crate::rests::Rests;
 use crate::watched_routes::WatchedRoutes;
 use srt_status::{ChangeCounts, EventRing};
 
@@ -21,6 +23,8 @@ const MAX_PAUSING: u64 = 20_000;
 pub(crate) struct Page<P: Drop> {
     pub(crate) server: P,
     version: &'static str,
+    // how the watcher rested last; nothing reads it after that
+    rested: Rests,
 }
 
 impl<P: StatusServer + Drop> Page<P> {
@@ -28,7 +32,11 @@ impl<P: StatusServer + Drop> Page<P> {
         ensures server { result.server ≡ server }
         ensures version { result.version ≡ version.entry }
     {
-        Page { server, version }
+        Page {
+            server,
+            version,
+            rested: Rests::none(),
+        }
     }
 
     /// Serves the page, with the last snapshots and the last lines of the log.
@@ -41,6 +49,7 @@ impl<P: StatusServer + Drop> Page<P> {
         events: &EventRing,
     )
         ensures version { self.new.version ≡ self.old.version }
+        ensures rested { self.new.rested ≡ self.old.rested }
         ensures shown { P.shown self.new.server ≡ with_pages (P.shown self.old.server)
             (page_at overview.now counts self.old.version routes.now.shown.items (used_of routes.now.routes.items)
             events.now.events.items moment ∷ []) }
@@ -63,19 +72,22 @@ impl<P: StatusServer + Drop> Page<P> {
         routes: &WatchedRoutes,
         events: &EventRing,
     ) -> u64
+        requires { self.old.rested.pauses < 1_000 }
         ensures version { self.new.version ≡ self.old.version }
         ensures machine { M.says machine.new ≡ M.says machine.old }
-        ensures shown { ShowedPages M.facts (P.shown self.old.server) (P.shown self.new.server) overview.now counts self.old.version routes.now.shown.items
+        ensures rested { self.new.rested ≡ with_pause self.old.rested }
+        ensures known { M.facts.was_moment result }
+        ensures shown { ShowedPage M.facts (P.shown self.old.server) (P.shown self.new.server) overview.now counts self.old.version routes.now.shown.items
             (used_of routes.now.routes.items) events.now.events.items }
     {
-        machine.pause();
+        self.rested.pause(machine);
         let moment = machine.moment();
         self.show(moment, overview, counts, routes, events);
         machine.moment()
     }
 
     /// Rests. While a client is connected to the page, rests by pauses, and serves the page after each.
-    #[tactic(auto, using(crate::proofs::PagesShown::showed_none, crate::proofs::PagesShown::showed_both))]
+    #[tactic(auto, using(crate::proofs::PagesShown::showed_none, crate::proofs::PagesShown::showed_next, crate::proofs::PagesShown::rested_once))]
     pub(crate) fn rest<M: Machine>(
         &mut self,
         machine: &mut M,
@@ -86,17 +98,18 @@ impl<P: StatusServer + Drop> Page<P> {
     )
         ensures version { self.new.version ≡ self.old.version }
         ensures machine { M.says machine.new ≡ M.says machine.old }
-        ensures shown { ShowedPages M.facts (P.shown self.old.server) (P.shown self.new.server) overview.now counts self.old.version routes.now.shown.items
-            (used_of routes.now.routes.items) events.now.events.items }
+        ensures rested { HasRested M.facts (P.awaits self.old.server) self.new.rested (P.shown self.old.server) (P.shown self.new.server) overview.now counts
+            self.old.version routes.now.shown.items (used_of routes.now.routes.items) events.now.events.items }
     {
-        if !self.server.is_awaited() {
-            machine.rest();
+        self.rested = Rests::none();
+        let is_awaited = self.server.is_awaited();
+        if !is_awaited {
+            self.rested.rest(machine);
             return;
         }
-        let ends = machine.moment().saturating_add(MAX_PAUSING);
-        let mut pauses = 0u32;
-        while pauses < MAX_PAUSES {
-            pauses += 1;
+        let began = machine.moment();
+        let ends = began.saturating_add(MAX_PAUSING);
+        while self.rested.pauses() < MAX_PAUSES {
             let moment = self.pause(machine, overview, counts, routes, events);
             if moment >= ends {
                 return;

@@ -1,10 +1,11 @@
 //! A watcher: its rests and snapshots, the changes that it requests of the run, and how it stops the gateway.
 
-ghost use Rattle.std.specs.Prelude.{◌≡◌, [], ◌∷◌, true, false, None, Some, IfOk, OnOk, is_some, length, map, option_map};
+ghost use Rattle.std.specs.Prelude.{◌≡◌, ◌+◌, [], ◌∷◌, true, false, None, Some, IfOk, OnOk, is_some, length, map, option_map};
 ghost use Rattle.std.specs.Option.{ForSome};
 ghost use Rattle.srt_watch.specs.Answers.{IsAnswer};
+ghost use Rattle.srt_watch.specs.Draining.{HasClosed};
 ghost use Rattle.srt_watch.specs.Course.{first_course, begun, is_due, after_due, is_stopping};
-ghost use Rattle.srt_watch.specs.Log.{HasState, Logged, Missed};
+ghost use Rattle.srt_watch.specs.Log.{HasState, Logged, Missed, most};
 ghost use Rattle.srt_watch.specs.Losses.{no_losses, with_faults, with_missed, more_missed};
 ghost use Rattle.srt_types.specs.Terms.{terms_of};
 ghost use Rattle.srt_watch.specs.Expecting.{AreExpecting};
@@ -414,7 +415,7 @@ where
         ensures others { (self.new.steering ≡ self.old.steering) × (self.new.changes ≡ self.old.changes) × (self.new.first_lines ≡ self.old.first_lines)
             × (self.new.overview ≡ self.old.overview) × (self.new.losses ≡ self.old.losses) }
         ensures kept { (self.new.routes ≡ self.old.routes) × (self.new.following ≡ self.old.following) × (self.new.form ≡ self.old.form)
-            × (self.new.page.version ≡ self.old.page.version) × (self.new.repeats ≡ self.old.repeats) }
+            × (self.new.page.version ≡ self.old.page.version) × (self.new.page.rested ≡ self.old.page.rested) × (self.new.repeats ≡ self.old.repeats) }
         ensures shown { ShowedPage M.facts (P.shown self.old.page.server) (P.shown self.new.page.server) self.old.overview self.old.changes.counts
             self.old.page.version self.old.routes.shown.items (used_of self.old.routes.routes.items) self.old.changes.log.events.events.items }
     {
@@ -433,9 +434,10 @@ where
     pub fn end(&mut self)
         ensures kept { (self.new.routes ≡ self.old.routes) × (self.new.following ≡ self.old.following) × (self.new.form ≡ self.old.form)
             × (self.new.changes.counts ≡ self.old.changes.counts) × (self.new.page ≡ self.old.page) }
-        ensures ended { ShowedAt (M.says self.old.machine) self.old.form (HasEnded (M.says self.old.machine) (is_stopping self.old.steering.course)
-            self.old.losses (known_by self.old.repeats) (W.contents self.old.changes.log.out.out) (W.contents self.new.changes.log.out.out)
-            self.old.changes.log.pace self.new.changes.log.pace) }
+        ensures ended { ShowedAt (M.says self.old.machine) self.old.form (λ when. HasEnded (M.says self.old.machine)
+            (is_stopping self.old.steering.course) self.old.losses (known_by self.old.repeats) (W.contents self.old.changes.log.out.out)
+            (W.contents self.new.changes.log.out.out) self.old.changes.log.pace self.new.changes.log.pace when
+            × HasClosed M.facts (most (when.moment + 1_000_000)) self.new.changes.log.out.refused self.new.changes.log.closing) }
     {
         let when = When::now(&mut self.machine, self.form);
         let by = rounds_unless(self.steering.is_stopping());
@@ -468,9 +470,10 @@ where
             × HasTurned (M.says self.old.machine) self.old.first_lines self.old.losses self.old.steering.lasts self.old.steering.course
             self.new.steering.course (W.contents self.old.changes.log.out.out) (W.contents self.new.changes.log.out.out) self.old.changes.log.pace
             self.new.changes.log.pace when (length self.old.routes.shown.items) status) }
-        ensures pages { ShowedTwice M.facts (P.shown self.old.page.server) (P.shown self.new.page.server) self.old.overview self.new.overview
-            self.old.changes.counts self.old.page.version self.old.routes.shown.items (used_of self.old.routes.routes.items)
-            self.old.changes.log.events.events.items self.new.changes.log.events.events.items }
+        ensures pages { ShowedTwice M.facts (P.awaits self.old.page.server) self.new.page.rested (P.shown self.old.page.server)
+            (P.shown self.new.page.server) self.old.overview self.new.overview self.old.changes.counts self.old.page.version
+            self.old.routes.shown.items (used_of self.old.routes.routes.items) self.old.changes.log.events.events.items
+            self.new.changes.log.events.events.items }
         ensures kept { (self.new.routes ≡ self.old.routes) × (self.new.following ≡ self.old.following) × (self.new.form ≡ self.old.form)
             × (self.new.changes.counts ≡ self.old.changes.counts) × (self.new.page.version ≡ self.old.page.version)
             × (self.new.repeats ≡ self.old.repeats) × (self.new.steering.lasts ≡ None) }

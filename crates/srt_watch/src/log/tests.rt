@@ -1,6 +1,6 @@
 //! A writer whose reader takes nothing for a while, at the end of a log.
 
-use crate::log::{Drained, LogWriter, When};
+use crate::log::{Closing, Drained, LogWriter, When};
 use crate::machine::Machine;
 use arrayvec::ArrayVec;
 use srt_log::{LineKind, LogEvent};
@@ -108,7 +108,16 @@ fn the_end_waits_for_a_reader(rt: HostRuntime) -> Result<(), Fail> {
     for count in 1..4u64 {
         log.append(WHEN, LineKind::Session, LogEvent::SocketFaults { count });
     }
-    assert!(rt; matches!(log.close(&mut machine, WHEN), Drained::All));
+    log.close(&mut machine, WHEN);
+    assert!(rt;
+        matches!(
+            log.closing,
+            Some(Closing {
+                last: Drained::All(_),
+                ..
+            })
+        )
+    );
     assert_eq!(rt;
         log.out.out.read.as_slice(),
         "socket faults 1\nsocket faults 2\nlines left out 1\nstopped\n".as_bytes()
@@ -123,7 +132,16 @@ fn the_end_waits_a_second_at_most(rt: HostRuntime) -> Result<(), Fail> {
     let mut log = LogWriter::new(rt.alloc(), Slow::of(10_000));
     log.append(WHEN, LineKind::Session, LogEvent::Unblocked);
     let _ = log.out.out.held.try_extend_from_slice(STOPPED);
-    assert!(rt; matches!(log.close(&mut machine, WHEN), Drained::Over(4_020_000)));
+    log.close(&mut machine, WHEN);
+    assert!(rt;
+        matches!(
+            log.closing,
+            Some(Closing {
+                last: Drained::Over(4_020_000),
+                ..
+            })
+        )
+    );
     assert!(rt; log.out.out.read.is_empty());
     Ok(())
 }
