@@ -47,15 +47,15 @@ pub fn pump_changing<R: Wait, D: Devices, G: Signals, O: Openings>(
     ensures pumped { PumpedChanging (G.goes task.now.signals.now) (G.closes task.now.signals.now) (sorting task.now.secret.now) task.now.schedules.now
         result.rounds
         (route_reports (O.added openings.old) (O.requested openings.old)) (route_reports (O.added openings.new) (O.requested openings.new))
-        (before (names_of names.old) (heard (D.Source.gave source.old) (D.Source.calls source.old)) (carried (D.Wire.handed wire.old) (D.Wire.attempts wire.old))
-        ends.old.items)
+        (before (names_of names.old) (heard (D.Source.gave source.old) (D.Source.calls source.old))
+        (carried (D.Wire.handed wire.old) (D.Wire.attempts wire.old)) ends.old.items)
         (after (names_of names.new) (heard (D.Source.gave source.new) (D.Source.calls source.new)) (carried (D.Wire.handed wire.new) (D.Wire.attempts wire.new))
         ends.new.items result.report) }
     ensures told { ToldChanging (G.goes task.now.signals.now) (G.closes task.now.signals.now) (sorting task.now.secret.now) (G.knows task.now.signals.now)
         task.now.schedules.now result.rounds
         (route_reports (O.added openings.old) (O.requested openings.old)) (route_reports (O.added openings.new) (O.requested openings.new))
-        (before (names_of names.old) (heard (D.Source.gave source.old) (D.Source.calls source.old)) (carried (D.Wire.handed wire.old) (D.Wire.attempts wire.old))
-        ends.old.items)
+        (before (names_of names.old) (heard (D.Source.gave source.old) (D.Source.calls source.old))
+        (carried (D.Wire.handed wire.old) (D.Wire.attempts wire.old)) ends.old.items)
         (after (names_of names.new) (heard (D.Source.gave source.new) (D.Source.calls source.new)) (carried (D.Wire.handed wire.new) (D.Wire.attempts wire.new))
         ends.new.items result.report) }
     ensures taken { TookAllIn
