@@ -354,16 +354,12 @@ fn has_clear_players(access: &Access) -> bool
 fn push_short(list: &mut Vec<Warning>, route: usize, access: &Access) -> Result<(), AllocError>
     ensures { OnOk result (list.new.items ≡ list.old.items ++ short_warnings route (access_of access.now)) }
 {
-    let publish = Warning::ShortPassphrase {
-        route,
-        role: Role::Publish,
-    };
-    push_if(list, is_short(&access.publish.passphrase), publish)?;
-    let request = Warning::ShortPassphrase {
-        route,
-        role: Role::Request,
-    };
-    push_if(list, is_short(&access.request.passphrase), request)?;
+    let role = Role::Publish;
+    let publish = is_short(&access.publish.passphrase);
+    push_if(list, publish, Warning::ShortPassphrase { route, role })?;
+    let role = Role::Request;
+    let request = is_short(&access.request.passphrase);
+    push_if(list, request, Warning::ShortPassphrase { route, role })?;
     Ok(())
 }
 

@@ -320,9 +320,7 @@ fn poll<R: Wait, S: Source, W: Wire, O: Openings + Drop, C: Serve, G: Gate + Dro
         None => pump_under(&task, names, ends, source, wire),
         Some(_) => {
             let openings = &mut polling.openings;
-            pump_changing::<_, DevicesOf<S, W>, _, _>(
-                &task, names, ends, source, wire, openings,
-            )
+            pump_changing::<_, DevicesOf<S, W>, _, _>(&task, names, ends, source, wire, openings)
         }
     };
     polling.ended = Some(end_after(wakeups, Some(pumping)));
