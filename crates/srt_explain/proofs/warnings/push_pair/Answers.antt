@@ -9,6 +9,6 @@ pub returns : goal.returns
 returns c =
     let access = access_of c.args.access.now in
     two_given c.args.list.now.items c.push_if.new.list.items c.push_if-2.new.list.items
-    c.are_same.result (are_same access.publish.passphrase access.request.passphrase) c.has_clear_players.result (has_clear_players access)
+    c.are_same-same.result (are_same access.publish.passphrase access.request.passphrase) c.has_clear_players.result (has_clear_players access)
     (SharedPassphrase c.args.route) (SharedPassphrase c.args.route) (ClearPlayers c.args.route) (ClearPlayers c.args.route)
-    c.in_ok-push_if.ensures c.in_ok-push_if-2.ensures c.are_same.ensures refl c.has_clear_players.ensures refl
+    c.in_ok-push_if.ensures c.in_ok-push_if-2.ensures c.are_same-same.ensures refl c.has_clear_players.ensures refl

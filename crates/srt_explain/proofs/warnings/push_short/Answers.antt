@@ -11,7 +11,7 @@ returns c =
     let publish = role_access_of c.args.access.now.publish in
     let request = role_access_of c.args.access.now.request in
     two_given c.args.list.now.items c.push_if.new.list.items c.push_if-2.new.list.items
-    c.is_short.result (is_short publish.passphrase) c.is_short-2.result (is_short request.passphrase)
+    c.is_short-publish.result (is_short publish.passphrase) c.is_short-request.result (is_short request.passphrase)
     (ShortPassphrase c.args.route Publish) (ShortPassphrase c.args.route Publish)
     (ShortPassphrase c.args.route Request) (ShortPassphrase c.args.route Request)
-    c.in_ok-push_if.ensures c.in_ok-push_if-2.ensures c.is_short.ensures refl c.is_short-2.ensures refl
+    c.in_ok-push_if.ensures c.in_ok-push_if-2.ensures c.is_short-publish.ensures refl c.is_short-request.ensures refl
