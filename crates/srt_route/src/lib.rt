@@ -25,8 +25,9 @@
 //!   refusal, `refusals.rt` has the causes, `agreement.rt` the negotiated values and `answer_writing.rt` the answer. If a
 //!   role has a passphrase, `secured.rt` judges a conclusion before.
 //! - 4: `delivery.rt` delivers payloads, and `draining.rt` ends sessions that have drained.
-//! - 5 and 6: `transmit.rt` sends the publishers' packets and then the subscribers'. `encrypted_transmit.rt` has what a
-//!   subscriber's session with keys sends; no event calls it yet.
+//! - 5: `transmit.rt` sends the publishers' packets.
+//! - 6: `subscriber_transmit.rt` sends the subscribers' packets, by `transmit.rt` without keys, and by `encrypted_transmit.rt`
+//!   those of a session with keys of its own.
 //!
 //! Other modules: `resting.rt` opens a route that continues where another one rests; `files.rt` has the end of a file,
 //! and which subscribers have all of it; `standby.rt`, which of two publishers is active; `socket_ids.rt`, the socket

@@ -1,5 +1,5 @@
-//! Steps 5 and 6 of an event, what sessions send at its end: each publisher's packets, then each subscriber's, in
-//! ascending order of slots, or the SHUTDOWN that ends a subscriber's session at the end of a file.
+//! What sessions send at the end of an event: step 5, each publisher's packets, and step 6 of a route whose subscribers have no
+//! keys, each subscriber's, in ascending order of slots, or the SHUTDOWN that ends a subscriber's session at the end of a file.
 
 ghost use Rattle.std.specs.Prelude.{◌≡◌, ◌<◌, ◌^◌, [], true, false, map, length};
 ghost use Rattle.srt_route.specs.Sessions.{speaks};
