@@ -39,6 +39,7 @@ FULL = {
     "latency_ms": "120", "buffer": "1024", "sessions": "5", "inbox": "16", "outbox": "334", "open_round": "0", "close_round": "5",
     "callers": '"libsrt"', "publish_from": '["192.0.2.7"]', "request_from": '["192.0.2.7"]', "publish_key": '"a"', "request_key": '"b"',
     "reserved": "1", "sessions_per_address": "2", "takeover_ms": "500", "resend_percent": "50", "expect": "true",
+    "publish_passphrase": '"correct horse battery"', "request_passphrase": '"hold the line please"', "pbkeylen": "16",
 }
 REQUIRED = ("secret", "bind", "workers", "name", "mode", "latency_ms", "buffer", "sessions", "inbox", "outbox")
 WRONG_KINDS = {
@@ -128,6 +129,10 @@ def values_of(key: Key) -> Iterator[tuple[str, int]]:
     elif "hexadecimal digits" in key.limits:
         count = int(key.limits.split()[0])
         yield from ((f'"{"aF" * (count // 2)}"', 0), (f'"{"a" * (count - 1)}"', 8), (f'"{"a" * (count + 1)}"', 8), (f'"{"a" * (count - 1)}g"', 8))
+    elif "any characters" in key.limits:
+        low, high = between(key)
+        yield from ((f'"{"a" * low}"', 0), (f'"{"Z" * high}"', 0), (f'"{"a" * (low - 1)}"', 5), (f'"{"a" * (high + 1)}"', 5))
+        yield from ((f'"{"é" * (low // 2)}"', 0), (f'"{"é" * (high // 2 + 1)}"', 5), (f"'{string.punctuation.replace(chr(39), '')}'", 0))
     else:
         low, high = between(key)
         fault = 6 if key.name == "name" else 5
@@ -164,6 +169,10 @@ def tries_of_pairs(keys: list[Key]) -> Iterator[Try]:
     yield Try("reserved below sessions", text_of(keys, {**FULL, "sessions": "3", "reserved": "2"}), "routes 1")
     yield Try("close_round at open_round", text_of(keys, {**FULL, "open_round": "5", "close_round": "5"}), "config fault 5 close_round")
     yield Try("close_round after open_round", text_of(keys, {**FULL, "open_round": "5", "close_round": "6"}), "routes 1")
+    yield from (Try(f"pbkeylen = {it}", text_of(keys, {**FULL, "pbkeylen": str(it)}), "routes 1" if it == 24 else "config fault 5 pbkeylen") for it in (20, 24, 28))
+    for role in ("publish_passphrase", "request_passphrase", None):
+        some = {it: value for it, value in FULL.items() if not it.endswith("_passphrase") or it == role}
+        yield Try(f"pbkeylen with {role}", text_of(keys, some), "routes 1" if role else "config fault 5 pbkeylen")
     yield Try("a name twice", text_of(keys, FULL) + "[[route]]\n" + text_of([it for it in keys if it.of == "route"], FULL).partition("\n")[2], "config fault 7 name")
 
 
@@ -295,7 +304,11 @@ ADVISED = dict(callers='"libsrt"', reserved="2", takeover_ms="500", resend_perce
 RISKS: list[tuple[str, dict[str, str | None]]] = [
     ("secret", dict(secret='"000102030405060708090a0b0c0d0e0f101112131415161718191a1b1c1d1e1f"')), ("status", dict(status='"0.0.0.0:1"')),
     ("outbox", dict(outbox="333")), ("buffer", dict(buffer="189")), ("sessions", dict(sessions="1", outbox="70", reserved="0")),
-    ("publish_key", dict(publish_key='"a"')), ("request_key", dict(request_key='"a"')), ("takeover_ms", dict(mode='"buffer"')),
+    ("publish_key", dict(publish_key='"a"')), ("request_key", dict(request_key='"a"')),
+    ("publish_passphrase", dict(publish_passphrase='"0123456789abcde"', request_passphrase='"hold the line please"')),
+    ("request_passphrase", dict(request_passphrase='"0123456789abcde"')),
+    ("request_passphrase", dict(publish_passphrase='"correct horse battery"', request_passphrase='"correct horse battery"')),
+    ("publish_passphrase", dict(publish_passphrase='"correct horse battery"')), ("takeover_ms", dict(mode='"buffer"')),
     ("sessions_per_address", dict(sessions_per_address="5")), ("reserved", dict(sessions="3")),
     *((key, {key: None}) for key in ADVISED),
 ]
