@@ -3,6 +3,7 @@
 pub mod Lists
 pub mod Found
 pub mod Changes
+pub mod GivingUp
 pub mod Standbys
 pub mod Marking
 pub mod TakeOver

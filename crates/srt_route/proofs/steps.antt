@@ -17,6 +17,7 @@ pub mod Saying
 pub mod Encrypting
 pub mod Serving
 pub mod Transmitting
+pub mod GivingUp
 pub mod Refreshing
 pub mod Securing
 pub mod Stepping

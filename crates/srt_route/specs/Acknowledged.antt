@@ -16,7 +16,7 @@ use Rattle.srt_pub.specs.Stands.{Each}
 use Rattle.srt_route.specs.Past.{Past, Publishes, Subscribes, is_shutdown}
 use Rattle.srt_route.specs.Queues.{payload_in, queue_in}
 use Rattle.srt_route.specs.Sessions.{Session, advanced, is_active, is_draining, passed, settled, terms_of, time_in, took}
-use Rattle.srt_route.specs.Route.{Route, after, clock_after, delivered, delivery, drain_of, gives_some, is_for, least_room, room_if, taken_by}
+use Rattle.srt_route.specs.Route.{Route, after, clock_after, delivered, delivery, drain_of, gives_some, is_for, least_room, room_if, route_before, taken_by}
 
 -- the acknowledgement point in a report, if it is a Full or a Light ACK
 abbrev pub points_in : Report → List ℕ
@@ -68,7 +68,7 @@ DeliversOn e s = DeliversOnIn (terms_of e s).publisher s.past
 abbrev pub DeliversInOrder : Type 0
 DeliversInOrder =
     (e : Terms) (index : ℕ) (items : List Item) (item : Item)
-    → e.mode ≡ Buffer → Each (DeliversOn e) (taken_by e index item (after e index items)).sessions
+    → e.mode ≡ Buffer → Each (DeliversOn e) (taken_by e index item (route_before e index item items)).sessions
 
 -- the session that was opened after k others
 abbrev pub opened_as : (k : ℕ) → List Session → Option Session
@@ -94,7 +94,7 @@ numbers_at false e index item m k =
 abbrev pub numbers_delivered : Terms → (index : ℕ) → List Item → (k : ℕ) → List ℕ
 numbers_delivered e index [] k = []
 numbers_delivered e index (item ∷ items) k =
-    let m = after e index items in numbers_delivered e index items k ++ numbers_at m.is_closed e index item m k
+    let m = route_before e index item items in numbers_delivered e index items k ++ numbers_at m.is_closed e index item m k
 
 -- in buffer mode these are all numbers below its front, in order and each once
 abbrev pub AreAllBelow : (numbers : List ℕ) → Past → Type 0
@@ -150,7 +150,7 @@ EndsAtOnce =
     (e : Terms) (index : ℕ) (items : List Item) (item : Item) (peer : Peer) (packet : Packet) (s : Session)
     → e.mode ≡ Buffer → e.rules.callers ≡ Libsrt
     → let clock = clock_after item (after e index items) in
-    let sessions = advanced e clock (after e index items).sessions in
+    let sessions = advanced e clock (route_before e index item items).sessions in
     let drains = drain_of e clock packet.body sessions (Some s) in
     find (is_for index peer packet.dest) sessions ≡ Some s → is_active sessions s ≡ true → is_shutdown packet.body ≡ true
     → (took drains e clock packet.stamp packet.body s).is_open ≡ false → HasDelivered (took drains e clock packet.stamp packet.body s)
@@ -165,5 +165,5 @@ EndsDrained =
     (e : Terms) (index : ℕ) (items : List Item) (item : Item)
     → e.mode ≡ Buffer
     → let clock = clock_after item (after e index items) in
-    let sessions = (taken_by e index item (after e index items)).sessions in
+    let sessions = (taken_by e index item (route_before e index item items)).sessions in
     Each (EndsWithAll e (gives_some e clock sessions) clock) (delivered e clock sessions)

@@ -3,7 +3,7 @@ use Rattle.std.specs.Prelude.{◌≡◌, ℕ, Bool, true, false, Some, List, ◌
 use Rattle.srt_types.specs.Terms.{Terms}
 use Rattle.srt_types.specs.Items.{Item}
 use Rattle.srt_route.specs.Sessions.{Session, active, aged, is_active, is_open_in, is_publisher, marked, open_publishers, standby, takes_over}
-use Rattle.srt_route.specs.Route.{after, clock_after, passed_by}
+use Rattle.srt_route.specs.Route.{after, clock_after, passed_by, route_before}
 
 -- whether an open session is the active publisher's
 abbrev pub is_active_publisher : List Session → Session → Bool
@@ -18,7 +18,7 @@ OneIsActive = (e : Terms) (index : ℕ) (items : List Item) → OneIsActiveAmong
 
 -- while an event delivers exactly one of the open publishers is active, if any is open
 abbrev pub OneDelivers : Type 0
-OneDelivers = (e : Terms) (index : ℕ) (items : List Item) (item : Item) → OneIsActiveAmong (passed_by e index item (after e index items))
+OneDelivers = (e : Terms) (index : ℕ) (items : List Item) (item : Item) → OneIsActiveAmong (passed_by e index item (route_before e index item items))
 
 -- as time advances the active publisher stays active while its session is open
 abbrev pub StaysActive : Type 0
@@ -43,7 +43,7 @@ abbrev pub ActiveGoesOn : Type 0
 ActiveGoesOn =
     (e : Terms) (index : ℕ) (items : List Item) (item : Item) (s t : Session)
     → active (after e index items).sessions ≡ Some s
-    → takes_over e (clock_after item (after e index items)) (map (aged e (clock_after item (after e index items))) (after e index items).sessions) ≡ false
+    → (let clock = clock_after item (after e index items) in takes_over e clock (map (aged e clock) (route_before e index item items).sessions)) ≡ false
     → (after e index items).is_closed ≡ false
     → find (is_open_in s.slot) (after e index (item ∷ items)).sessions ≡ Some t → t.generation ≡ s.generation
     → active (after e index (item ∷ items)).sessions ≡ Some t

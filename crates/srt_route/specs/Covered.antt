@@ -8,7 +8,7 @@ use Rattle.srt_route.specs.EncryptedOutput as keyed
 use Rattle.srt_route.specs.EncryptedOutput.{KeyedOutput}
 use Rattle.srt_route.specs.Past.{Report, ToPublisher, ToSubscriber}
 use Rattle.srt_route.specs.RouteKeys.{secures}
-use Rattle.srt_route.specs.Route.{Output, Answers, AnswersWithKeys, Says, Ends, Responds, SaysWithKeys, after, replies_to}
+use Rattle.srt_route.specs.Route.{Output, Answers, AnswersWithKeys, Says, Ends, Responds, SaysWithKeys, replies_to, route_before}
 
 -- a packet to a subscriber that brings no payload
 abbrev pub BringsNone : subscriber.Report → Type 0
@@ -40,4 +40,4 @@ IsCovered (SaysWithKeys output) = IsCoveredOutput output
 abbrev pub PayloadsAreCovered : Type 0
 PayloadsAreCovered =
     (e : Terms) (index : ℕ) (items : List Item) (item : Item)
-    → secures e Request ≡ true → All (λ reply. IsCovered reply.packet) (replies_to e index item (after e index items))
+    → secures e Request ≡ true → All (λ reply. IsCovered reply.packet) (replies_to e index item (route_before e index item items))

@@ -3,6 +3,7 @@ pub mod Conclusions
 pub mod Past
 pub mod Sessions
 pub mod RouteKeys
+pub mod GivingUp
 pub mod Shifted
 pub mod Decryption
 pub mod KeyRefresh

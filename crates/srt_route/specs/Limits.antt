@@ -7,7 +7,7 @@ use Rattle.srt_route.specs.declared.conclusion_reading.Conclusion.{Conclusion}
 use Rattle.srt_route.specs.declared.refusals.RefusalCause.TheVariants as causes
 use Rattle.srt_route.specs.Opening.{fault_of}
 use Rattle.srt_route.specs.Sessions.{advanced, free_slots, open_publishers, publishes, sessions_from}
-use Rattle.srt_route.specs.Route.{after, decision}
+use Rattle.srt_route.specs.Route.{after, decision, giving_up}
 
 -- the free slots and the open publishers are together at least as many as the slots reserved for publishers
 abbrev pub KeepsSlots : Type 0
@@ -19,14 +19,14 @@ KeepsSlots =
 abbrev pub PublishersHaveSlots : Type 0
 PublishersHaveSlots =
     (e : Terms) (index clock : ℕ) (items : List Item) (peer : Peer) (c : Conclusion) → fault_of e index ≡ None → publishes c.role ≡ true
-    → decision e peer c (advanced e clock (after e index items).sessions) ≡ Err causes.Resource
-    → e.rules.reserved ≤ open_publishers (advanced e clock (after e index items).sessions)
+    → decision e peer c (advanced e clock (giving_up e clock (after e index items)).sessions) ≡ Err causes.Resource
+    → e.rules.reserved ≤ open_publishers (advanced e clock (giving_up e clock (after e index items)).sessions)
 
 -- no publisher is refused because the free slots are reserved
 abbrev pub NoneIsKeptFromPublishers : Type 0
 NoneIsKeptFromPublishers =
     (e : Terms) (index clock : ℕ) (items : List Item) (peer : Peer) (c : Conclusion) → publishes c.role ≡ true
-    → decision e peer c (advanced e clock (after e index items).sessions) ≡ Err causes.Reserved → ⊥
+    → decision e peer c (advanced e clock (giving_up e clock (after e index items)).sessions) ≡ Err causes.Reserved → ⊥
 
 -- the site of an IP address has at most as many open sessions as the route allows for one
 abbrev pub FewOfAnAddress : Type 0

@@ -5,7 +5,7 @@ use Rattle.srt_types.specs.Items.{Item}
 use Rattle.srt_sendbuf.specs.Sending.{Queued}
 use Rattle.srt_route.specs.Past.{Past, Publishes, Subscribes}
 use Rattle.srt_route.specs.Sessions.{Session}
-use Rattle.srt_route.specs.Route.{Route, after, clock_after, delivery, least_room, taken_by}
+use Rattle.srt_route.specs.Route.{Route, after, clock_after, delivery, least_room, route_before, taken_by}
 
 -- all payloads that were ever queued for a session; the number of each is its index
 abbrev pub queue_in : Past → List Queued
@@ -53,5 +53,5 @@ delivery_by e index item m =
 abbrev pub QueuesGoOn : Type 0
 QueuesGoOn =
     (e : Terms) (index : ℕ) (items : List Item) (item : Item)
-    → AreContinued (delivery_by e index item (after e index items)) (after e index items).sessions (after e index (item ∷ items)).sessions
-    ⊎ HasOpened (delivery_by e index item (after e index items)) (after e index items).sessions (after e index (item ∷ items)).sessions
+    → AreContinued (delivery_by e index item (route_before e index item items)) (after e index items).sessions (after e index (item ∷ items)).sessions
+    ⊎ HasOpened (delivery_by e index item (route_before e index item items)) (after e index items).sessions (after e index (item ∷ items)).sessions

@@ -38,6 +38,7 @@ use Rattle.srt_route.specs.RouteKeys.{Brought, KeysOpened, RouteKeys, SlotKeys, 
 use Rattle.srt_route.specs.RouteKeys.{OfPublisher, OfSubscriber, own_in, passphrase_of, request_of, secures, with_slot}
 use Rattle.srt_route.specs.Decryption.{clear_bytes}
 use Rattle.srt_route.specs.EncryptedOutput.{KeyedOutput, keyed_text, keys_reported}
+use Rattle.srt_route.specs.GivingUp.{given_up_if}
 use Rattle.srt_route.specs.KeyRefresh.{answer_by, refreshed, request_in}
 use Rattle.srt_route.specs.KeyRefresh.{Confirmation, confirmation_in, confirmed_by}
 use Rattle.srt_route.specs.Past.{Past, Publishes, Subscribes}
@@ -57,6 +58,12 @@ pub record Route : Type 0 where
 
 abbrev pub opened : Route
 opened = record { clock = 0; sessions = []; is_closed = false; keys = first_keys }
+
+-- a route at this clock, before its time advances: the subscribers' sessions whose key isn't confirmed in time are given
+-- up. Nothing changes if subscribers' sessions aren't encrypted, or if the route was closed
+abbrev pub giving_up : Terms → (clock : ℕ) → Route → Route
+giving_up e clock route =
+    record route { sessions = given_up_if (secures e Request && not route.is_closed) (own_in e route.keys) clock route.sessions }
 
 -- what is sent to the socket with ID `caller`: the answer to its handshake, the same with the contents of a KMREQ block,
 -- a report of a session with this initial number, the SHUTDOWN that ends a session, a KMRSP with these contents, or what a
@@ -99,13 +106,14 @@ nothing_taken sessions = record { sessions = sessions; answers = [] }
 abbrev pub shutdown_to : (clock : ℕ) → Session → Reply
 shutdown_to clock s = record { peer = s.peer; packet = Ends s.conclusion.caller (time_in s clock) }
 
--- on a route for libsrt callers, a session that ends by silence or by a lost window sends a SHUTDOWN (our choice)
+-- on a route for libsrt callers, a session that ends by silence or by a lost window, or is given up, sends a SHUTDOWN (our
+-- choice)
 abbrev pub notified_if : Callers → (ends : Bool) → (clock : ℕ) → Session → List Reply
 notified_if Draft ends clock s = []
 notified_if Libsrt true clock s = shutdown_to clock s ∷ []
 notified_if Libsrt false clock s = []
 
--- the SHUTDOWNs of the sessions that end by silence, in ascending order of slots
+-- the SHUTDOWNs of the sessions that end by silence or are given up, in ascending order of slots
 abbrev pub idle_notified : Terms → (clock : ℕ) → List Session → List Reply
 idle_notified e clock sessions = flat_map (λ s. notified_if e.rules.callers (is_idle s clock) clock s) (by_slot e sessions)
 
@@ -182,6 +190,7 @@ session_opened clock peer stamp c slot generation =
       drains = None;
       took_over = false;
       file_ended = false;
+      is_given_up = false;
       past = past_of c.role;
     }
 
@@ -661,15 +670,23 @@ with_input e index item route =
       keys = keys_at route.is_closed e index item route;
     }
 
+-- the route as an item finds it: sessions may be given up then
+abbrev pub found_by : Terms → Item → Route → Route
+found_by e item route = giving_up e (clock_after item route) route
+
 -- the route after these items
 abbrev pub after : Terms → (index : ℕ) → List Item → Route
 after e index [] = opened
-after e index (item ∷ items) = with_input e index item (after e index items)
+after e index (item ∷ items) = with_input e index item (found_by e item (after e index items))
+
+-- the route as the newest item finds it
+abbrev pub route_before : Terms → (index : ℕ) → Item → List Item → Route
+route_before e index item items = found_by e item (after e index items)
 
 -- the replies to the newest item
 abbrev pub reply : Terms → (index : ℕ) → List Item → List Datagram
 reply e index [] = []
-reply e index (item ∷ items) = map sent (replies_to e index item (after e index items))
+reply e index (item ∷ items) = map sent (replies_to e index item (route_before e index item items))
 
 -- all replies to these items, the oldest first
 abbrev pub solo : Terms → (index : ℕ) → List Item → List Datagram

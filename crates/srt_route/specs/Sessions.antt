@@ -1,6 +1,6 @@
 -- The sessions of a route: every one that was ever opened, the newest first.
 use Rattle.std.specs.Prelude.{ℕ, ◌+◌, ◌-◌, ◌*◌, ◌%◌, ◌^◌, Bool, true, false, Option, None, Some, List, [], ◌∷◌, length, min, max, filter}
-use Rattle.std.specs.Prelude.{find, filter_map, map, not, nat_le, nat_lt, ◌==◌, ◌&&◌, if◌then◌else◌}
+use Rattle.std.specs.Prelude.{find, filter_map, map, not, nat_le, nat_lt, ◌==◌, ◌&&◌, ◌||◌, if◌then◌else◌}
 use Rattle.std.specs.List.{list_any}
 use Rattle.std.specs.Option.{is_some, option_or}
 use Rattle.std.specs.Str.{bytes_eq}
@@ -45,6 +45,8 @@ pub record Session : Type 0 where
   -- whether publishers' sessions ended while it was open, the last of them by its own SHUTDOWN; on a route for libsrt
   -- callers only
   pub file_ended : Bool
+  -- whether it is a subscriber's that didn't confirm its own key in time
+  pub is_given_up : Bool
   -- what it received and sent
   pub past : Past
 
@@ -213,16 +215,17 @@ abbrev pub is_silent_at : (drains : Option ℕ) → (heard clock : ℕ) → Bool
 is_silent_at None heard clock = has_fallen_silent heard clock
 is_silent_at (Some until) heard clock = false
 
+-- whether a session ends as one whose peer fell silent: because it did, or because the session is given up
 abbrev pub is_idle : Session → (clock : ℕ) → Bool
-is_idle s clock = is_silent_at s.drains s.heard clock
+is_idle s clock = s.is_given_up || is_silent_at s.drains s.heard clock
 
--- whether a session has expired: its peer is idle, or it drained for too long
+-- whether a session has expired: its peer is idle, it drained for too long, or it is given up
 abbrev pub is_over_at : (drains : Option ℕ) → (heard clock : ℕ) → Bool
 is_over_at None heard clock = has_fallen_silent heard clock
 is_over_at (Some until) heard clock = nat_le until clock
 
 abbrev pub is_over : Session → (clock : ℕ) → Bool
-is_over s clock = is_over_at s.drains s.heard clock
+is_over s clock = s.is_given_up || is_over_at s.drains s.heard clock
 
 -- a session after its time has advanced: an expired one ends, any other drops what is too late
 abbrev pub aged_at : Terms → (lives : Bool) → (time : ℕ) → Session → Session

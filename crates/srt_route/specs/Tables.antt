@@ -1,6 +1,6 @@
 -- The sessions that a route's table represents.
-use Rattle.std.specs.Prelude.{◌≡◌, ℕ, ◌%◌, ◌^◌, ◌<◌, Bool, true, false, Option, None, Some, List, [], ◌∷◌, map, length, find}
-use Rattle.std.specs.Prelude.{slice_index_or, option_map, not, ◌==◌, ◌&&◌, if◌then◌else◌, ⊤}
+use Rattle.std.specs.Prelude.{◌≡◌, ℕ, ◌-◌, ◌%◌, ◌^◌, ◌<◌, Bool, true, false, Option, None, Some, List, [], ◌∷◌, map, length, find}
+use Rattle.std.specs.Prelude.{slice_index_or, option_map, not, ◌==◌, ◌&&◌, ◌||◌, if◌then◌else◌, ⊤}
 use Rattle.std.specs.Option.{is_some, option_to_list}
 use Rattle.srt_types.specs.declared.shared.Peer.{Peer}
 use Rattle.srt_types.specs.declared.shared.Mode.{Mode}
@@ -21,11 +21,13 @@ use Rattle.srt_route.specs.Written.{written}
 use Rattle.srt_route.specs.Sessions.{Session, is_same_peer, session_id, answer_of, publishes, is_publisher, active, is_open_in, generation_of}
 use Rattle.srt_route.specs.Sessions.{is_over_at, is_recent_at, is_silent_at, renewed}
 use Rattle.srt_route.specs.Route.{Taken, Answers, is_of, sent}
+use Rattle.srt_session_keys.specs.Subscriber.{Subscriber as Keys}
+use Rattle.srt_route.specs.GivingUp.{is_unconfirmed}
 use Rattle.srt_route.specs.Buffers.{IsSeated}
 use Rattle.srt_route.specs.declared.publisher_buffers.PublisherBuffers.{PublisherBuffers}
 use Rattle.srt_route.specs.declared.publisher_buffers.PublisherBuffers.TheVariants.{First}
 use Rattle.srt_route.specs.Seats.{has_publisher, session_passes}
-use Rattle.srt_route.specs.Parts.{RecordsEnd, buffers_used, part_after, part_extended, part_with_end, role_of, until_of}
+use Rattle.srt_route.specs.Parts.{RecordsEnd, buffers_used, is_given_up, part_after, part_extended, part_given_up, part_with_end, role_of, until_of}
 use Rattle.srt_route.specs.PublisherBuffers.{place_of, is_same}
 
 -- the stored session is this one; its end and its past aren't stored in it, nor the end of a file in a publisher's
@@ -38,6 +40,7 @@ pub record IsSession (e : Terms) (index : ℕ) (t : TheSession) (s : Session) : 
   pub heard_is : t.heard ≡ s.heard
   pub drains_is : (until_of t.part) ≡ s.drains
   pub file_is : RecordsEnd t.part s.file_ended
+  pub given_up_is : is_given_up t.part ≡ s.is_given_up
   pub answer_is : t.answer ≡ answer_of e index s
 
 abbrev pub IsStored : Terms → (index : ℕ) → Option TheSession → Option Session → Type 0
@@ -204,12 +207,20 @@ stored_end by_shutdown t = record t { part = part_with_end by_shutdown t.part }
 abbrev pub seat_with_end : (by_shutdown : Bool) → Seat → Seat
 seat_with_end by_shutdown seat = with_stored (option_map (stored_end by_shutdown) seat.session) seat
 
--- whether a stored session has expired (our choice), and whether because its peer sent nothing for 5 s
+-- whether a stored session has expired (our choice), and whether because its peer sent nothing for 5 s or because it is
+-- given up
 abbrev pub is_stored_over : (clock : ℕ) → TheSession → Bool
-is_stored_over clock t = is_over_at (until_of t.part) t.heard clock
+is_stored_over clock t = is_given_up t.part || is_over_at (until_of t.part) t.heard clock
 
 abbrev pub peer_idle : (clock : ℕ) → TheSession → Bool
-peer_idle clock t = is_silent_at (until_of t.part) t.heard clock
+peer_idle clock t = is_given_up t.part || is_silent_at (until_of t.part) t.heard clock
+
+-- a seat with these keys at this clock: its session is given up if the next key isn't confirmed in time
+abbrev pub stored_given_up : (keys : Option Keys) → (clock : ℕ) → TheSession → TheSession
+stored_given_up keys clock t = record t { part = part_given_up (is_unconfirmed keys (clock - t.opened)) t.part }
+
+abbrev pub seat_given_up : (keys : Option Keys) → (clock : ℕ) → Seat → Seat
+seat_given_up keys clock seat = with_stored (option_map (stored_given_up keys clock) seat.session) seat
 
 -- whether the peer of a stored session was heard less than a second ago, and whether that of a seat's session was
 abbrev pub is_heard_recently : (clock : ℕ) → TheSession → Bool

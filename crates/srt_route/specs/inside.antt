@@ -6,6 +6,7 @@ pub mod Standby
 pub mod Calls
 pub mod Files
 pub mod Drains
+pub mod GivingUp
 pub mod Notes
 pub mod Event
 pub mod Secured

@@ -1,14 +1,15 @@
 //! Subscribers with keys of their own. The messages and the encrypted payloads were made by another implementation of RFC 3394,
 //! RFC 2104, RFC 8018 and FIPS 197 from the passphrases here.
 
+use crate::ledger_tests::{drain, give};
 use crate::secured_tests::{
     HORSE, KEY_REQUEST, KEYS, LINE, LONG_KEYS, PUBLISHER_ANSWER, READER, SUBSCRIBER_ANSWER,
     assert_next, assert_replied, bytes_of, keyed, offer, secured,
 };
-use crate::tests::{FIRST, PUBLISHES, REQUESTS, peer};
-use crate::{Reply, Route};
+use crate::tests::{FIRST, PUBLISHES, REQUESTS, entry, peer};
+use crate::{EndCause, Reply, Route};
 use srt_samples::first_difference;
-use srt_types::Item;
+use srt_types::{Callers, Item, Mode};
 use std::process::Abort;
 use std::test::Fail;
 
@@ -156,5 +157,84 @@ fn nothing_else_confirms_a_key(rt: HostRuntime) -> Result<(), Fail> {
         assert_replied(&rt, &mut route, peer(5001), 1_015_000, &response, &[])?;
         assert_ticked(&rt, &mut route, 1_121_000, &REPEATED_LATER)?;
     }
+    Ok(())
+}
+
+/// The KEEPALIVEs of a subscriber that is alone, in slot 0, and the SHUTDOWN that it is sent five seconds after its opening.
+const ALIVE: [&str; 1] = ["8001000000000000001e5d7000100000"];
+
+const ALIVE_LATER: [&str; 1] = ["8001000000000000004a9d9000100000"];
+
+const SHUTDOWN: [&str; 1] = ["8005000000000000004c4b4000000002"];
+
+/// Opens a subscriber alone, with keys of its own, that doesn't confirm the first one. It was heard last 110 ms before five
+/// seconds are over.
+fn unconfirmed(rt: &(impl AllocGlobal + Abort), callers: Callers) -> Result<Route, Fail> {
+    let alloc = rt.alloc();
+    let mut studio = entry(alloc, "studio", Mode::Live)?;
+    studio.access.request.passphrase = Some(String::from_str(alloc, "hold the line please")?);
+    studio.rules.callers = callers;
+    let Ok(mut route) = Route::open(alloc, &studio, 0) else {
+        return Err(Fail::from("the route opens"));
+    };
+    let conclusion = keyed(alloc, READER, &REQUESTS, &LONG_KEYS)?;
+    let alive = bytes_of(alloc, &ALIVE)?;
+    let later = bytes_of(alloc, &ALIVE_LATER)?;
+    offer(rt, &mut route, peer(5001), 1_010_000, &conclusion)?;
+    drain(rt, &mut route)?;
+    offer(rt, &mut route, peer(5001), 3_000_000, &alive)?;
+    drain(rt, &mut route)?;
+    offer(rt, &mut route, peer(5001), 5_900_000, &later)?;
+    drain(rt, &mut route)?;
+    Ok(route)
+}
+
+/// Asserts that this session is given up five seconds after its opening, and that these replies tell it.
+fn assert_given_up(
+    rt: &(impl AllocGlobal + Abort),
+    route: &mut Route,
+    replies: usize,
+) -> Result<(), Fail> {
+    give(rt, route, &Item::Tick { moment: 6_009_999 })?;
+    assert!(rt; route.ended(0).is_none());
+    if route.waits() {
+        return Err(Fail::from("no reply that waits"));
+    }
+    let count = route.step(&Item::Tick { moment: 6_010_000 });
+    assert_eq!(rt; count, replies);
+    let Some(end) = route.ended(0) else {
+        return Err(Fail::from("an end"));
+    };
+    assert_eq!(rt; (end.cause, end.moment), (EndCause::Silence, 6_010_000));
+    assert_eq!(rt; (end.view.heard, end.view.opened), (5_900_000, 1_010_000));
+    Ok(())
+}
+
+#[test]
+fn a_session_that_confirms_no_key_is_given_up(rt: HostRuntime) -> Result<(), Fail> {
+    let mut route = unconfirmed(&rt, Callers::Libsrt)?;
+    assert_given_up(&rt, &mut route, 1)?;
+    assert_next(&rt, &mut route, peer(5001), &SHUTDOWN)?;
+    assert!(rt; !route.waits());
+    Ok(())
+}
+
+#[test]
+fn by_the_draft_its_end_is_not_told(rt: HostRuntime) -> Result<(), Fail> {
+    let mut route = unconfirmed(&rt, Callers::Draft)?;
+    assert_given_up(&rt, &mut route, 0)
+}
+
+#[test]
+fn a_session_that_confirmed_its_key_goes_on(rt: HostRuntime) -> Result<(), Fail> {
+    let alloc = rt.alloc();
+    let mut route = both(&rt)?;
+    let confirmation = bytes_of(alloc, &CONFIRMATION)?;
+    let alive = bytes_of(alloc, &["8001000000000000004a9d9000100001"])?;
+    assert_replied(&rt, &mut route, peer(5001), 1_015_000, &confirmation, &[])?;
+    offer(&rt, &mut route, peer(5001), 5_900_000, &alive)?;
+    drain(&rt, &mut route)?;
+    give(&rt, &mut route, &Item::Tick { moment: 6_010_000 })?;
+    assert!(rt; route.ended(1).is_none());
     Ok(())
 }

@@ -6,6 +6,7 @@ ghost use Rattle.srt_route.specs.Totals.{SumsGrow};
 ghost use Rattle.srt_route.specs.inside.Event.{Counts, Ends, KeysPass, Passes, Replies};
 
 use crate::draining::deliver_and_settle;
+use crate::giving_up::give_up;
 use crate::ledger::Ledger;
 use crate::reply_queue::{ReplyQueue, ScratchBoxes};
 use crate::route_keys::RouteKeys;
@@ -44,7 +45,9 @@ pub fn process(
     ensures sums { SumsGrow ledger.old.totals ledger.new.totals }
 {
     let clock = event.clock;
-    // 2: idle sessions end, what is too late is dropped, and the standby takes over if it is due.
+    // 2: sessions that don't confirm their keys are given up and end with the idle ones, what is too late is dropped, and
+    // the standby takes over if it is due.
+    give_up(table, keys, clock);
     advance(table, ledger, clock, &mut scratch.reply, waiting);
     // 3: a datagram belongs to a session or is a conclusion; a Close ends every session.
     dispatch_secured(table, keys, ledger, event, &mut scratch.reply, waiting);

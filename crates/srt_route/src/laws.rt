@@ -109,7 +109,7 @@ pub fn key_renewals()
 {}
 
 /// Where subscribers' sessions are encrypted, no payload is sent in clear, whatever a route's items are: each data packet of its
-/// replies is under a key of a session's own (our choice).
+/// replies is under a key (our choice).
 pub fn payloads_are_encrypted()
     ensures { PayloadsAreCovered }
 {}

@@ -26,7 +26,7 @@ use srt_types::product_limits::MAX_SESSIONS;
 pub enum EndCause {
     /// Its peer sent a SHUTDOWN (section 3.2.7).
     Shutdown,
-    /// Its peer sent nothing for five seconds.
+    /// Its peer sent nothing for five seconds, or a subscriber didn't confirm its next key for five seconds (our choice).
     Silence,
     /// A publisher's in live mode: its sequence numbers ran past a window that had nothing more to deliver.
     WindowLost,

@@ -50,6 +50,7 @@ mod draining;
 mod encrypted_transmit;
 mod event;
 mod files;
+mod giving_up;
 mod key_confirmation;
 mod key_refresh;
 mod key_request_reading;

@@ -4,7 +4,7 @@ ghost use Rattle.std.specs.Prelude.{◌≡◌, ◌&&◌, not};
 ghost use Rattle.std.specs.Option.{is_some};
 ghost use Rattle.srt_route.specs.PublisherBuffers.{is_same};
 ghost use Rattle.srt_route.specs.Sessions.{publishes};
-ghost use Rattle.srt_route.specs.Parts.{buffers_used, part_after, part_opened, part_with_end, role_of, saw_end, until_of};
+ghost use Rattle.srt_route.specs.Parts.{buffers_used, is_given_up, part_after, part_given_up, part_opened, part_with_end, role_of, saw_end, until_of};
 
 use crate::publisher_buffers::PublisherBuffers;
 use srt_types::Role;
@@ -29,6 +29,8 @@ pub enum Part {
         /// Whether publishers' sessions ended while this one was open, the last of them by its own SHUTDOWN; on a route
         /// for libsrt callers only.
         file_ended: bool,
+        /// Whether it ends as soon as time advances, since it didn't confirm its own key in time.
+        given_up: bool,
     },
 }
 
@@ -39,7 +41,10 @@ impl Part {
     {
         match role {
             Role::Publish => Part::Publisher { buffers },
-            Role::Request => Part::Subscriber { file_ended: false },
+            Role::Request => Part::Subscriber {
+                file_ended: false,
+                given_up: false,
+            },
         }
     }
 
@@ -115,7 +120,7 @@ impl Part {
         match self {
             Part::Publisher { .. } => false,
             Part::Draining { .. } => false,
-            Part::Subscriber { file_ended } => file_ended,
+            Part::Subscriber { file_ended, .. } => file_ended,
         }
     }
 
@@ -139,8 +144,35 @@ impl Part {
     {
         match self {
             Part::Publisher { .. } | Part::Draining { .. } => self,
-            Part::Subscriber { .. } => Part::Subscriber {
+            Part::Subscriber { given_up, .. } => Part::Subscriber {
                 file_ended: by_shutdown,
+                given_up,
+            },
+        }
+    }
+
+    /// Whether it is a subscriber's session that is given up.
+    pub fn is_given_up(self) -> bool
+        ensures { result ≡ is_given_up self }
+    {
+        match self {
+            Part::Publisher { .. } | Part::Draining { .. } => false,
+            Part::Subscriber { given_up, .. } => given_up,
+        }
+    }
+
+    /// Returns the part of a session that is given up if its key is confirmed too `late`: only a subscriber's is.
+    pub fn given_up_if(self, late: bool) -> Part
+        ensures { result ≡ part_given_up late self }
+    {
+        match self {
+            Part::Publisher { .. } | Part::Draining { .. } => self,
+            Part::Subscriber {
+                file_ended,
+                given_up,
+            } => Part::Subscriber {
+                file_ended,
+                given_up: late || given_up,
             },
         }
     }

@@ -69,7 +69,7 @@ impl Route {
     ghost use Rattle.srt_route.specs.Opening.{fault_of};
     ghost use Rattle.srt_route.specs.Written.{written};
     ghost use Rattle.srt_route.specs.Sessions.{open_publishers};
-    ghost use Rattle.srt_route.specs.Route.{after, reply};
+    ghost use Rattle.srt_route.specs.Route.{after, reply, route_before};
     ghost use Rattle.srt_route.specs.Ledgers.{ended_in};
     ghost use Rattle.srt_route.specs.Ends.{KeepsEnds, kept_in};
     ghost use Rattle.srt_route.specs.Totals.{SumsGrow, no_totals, totals_of_ended};
@@ -151,9 +151,9 @@ impl Route {
         ensures replies { (e : Terms) (index : ℕ) (items : List TheItem) →
             stands self.old e index items → waiting self.new ≡ reply e index (input_of item.now ∷ items) }
         ensures ends { (e : Terms) (index : ℕ) (items : List TheItem) → stands self.old e index items →
-            KeepsEnds e index (input_of item.now) (after e index items) (kept_in self.old) (kept_in self.new) }
-        ensures tally { (e : Terms) (index : ℕ) (items : List TheItem) →
-            stands self.old e index items → tally_in self.new ≡ tally_after e index (input_of item.now) (after e index items) (tally_in self.old) }
+            KeepsEnds e index (input_of item.now) (route_before e index (input_of item.now) items) (kept_in self.old) (kept_in self.new) }
+        ensures tally { (e : Terms) (index : ℕ) (items : List TheItem) → stands self.old e index items → tally_in self.new ≡
+            tally_after e index (input_of item.now) (route_before e index (input_of item.now) items) (tally_in self.old) }
         ensures sums { SumsGrow (totals_of_ended self.old) (totals_of_ended self.new) }
         ensures released { (e : Terms) (index : ℕ) (items : List TheItem) → stands self.old e index items →
             (after e index (input_of item.now ∷ items)).is_closed ≡ true → HasGivenBack self.new }

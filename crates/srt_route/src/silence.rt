@@ -33,17 +33,22 @@ fn has_fallen_silent(heard: u64, clock: u64) -> bool
     clock.saturating_sub(heard) >= PEER_IDLE_TIMEOUT_US
 }
 
-/// Whether the session's peer sent nothing for five seconds; false for a session that drains, whose packets are ignored.
+/// Whether the session's peer sent nothing for five seconds, or the session is given up; false for a session that drains,
+/// whose packets are ignored.
 fn is_silent(session: &Session, clock: u64) -> bool
     ensures { result ≡ peer_idle clock session.now }
 {
+    if session.part.is_given_up() {
+        return true;
+    }
     match session.part.until() {
         Some(_) => false,
         None => has_fallen_silent(session.heard, clock),
     }
 }
 
-/// Whether the session has expired: its peer sent nothing for five seconds, or it drains and its time has expired.
+/// Whether the session has expired: its peer sent nothing for five seconds, it is given up, or it drains and its time has
+/// expired.
 fn is_over(session: &Session, clock: u64) -> bool
     ensures { result ≡ is_stored_over clock session.now }
 {
@@ -64,7 +69,7 @@ fn time_cause(drains: Option<u64>) -> EndCause
 }
 
 impl Seat {
-    /// Whether the session's peer sent nothing for five seconds; false for a session that drains.
+    /// Whether the session's peer sent nothing for five seconds, or the session is given up; false for a session that drains.
     fn peer_idle(&self, clock: u64) -> bool
         ensures { result ≡ session_passes (peer_idle clock) self.now.session }
     {
@@ -74,7 +79,8 @@ impl Seat {
         }
     }
 
-    /// Returns the cause if the session has expired: its peer was silent for five seconds, or it drained for too long.
+    /// Returns the cause if the session has expired: its peer was silent for five seconds, the session is given up, or it
+    /// drained for too long.
     pub fn end_by_time(&self, clock: u64) -> Option<EndCause>
         ensures { result ≡ idle_cause clock self.now.session }
     {

@@ -4,11 +4,12 @@ ghost use Rattle.std.specs.Prelude.{◌≡◌, ◌<◌, ◌^◌, ℕ, length, op
 ghost use Rattle.srt_types.specs.declared.shared.Role.TheVariants.{Publish, Request};
 ghost use Rattle.srt_session_keys.specs.Source.{pool_of, Pool};
 ghost use Rattle.srt_session_keys.specs.Wrapping.{kek_of, salt_of};
-ghost use Rattle.srt_route.specs.RouteKeys.{Clear, keys_opened, pool_opened};
+ghost use Rattle.srt_route.specs.RouteKeys.{Clear, keys_opened, own_keys, pool_opened};
 ghost use Rattle.srt_packet.specs.View.{packet_of};
 ghost use Rattle.srt_route.specs.Decryption.{in_clear};
 ghost use Rattle.srt_route.specs.KeyRefresh.{answer_by, confirmed_by, refreshed};
 ghost use Rattle.srt_route.specs.SlotKeys.{IsErased, brought_of, place_keys_of, role_stored, slot_keys_of};
+ghost use Rattle.srt_route.specs.GivingUp.{is_unconfirmed};
 ghost use Rattle.srt_route.specs.declared.slot_keys.KeyOpening.{KeyOpening as TheOpening};
 ghost use Rattle.srt_route.specs.declared.slot_keys.KeyPlace.{KeyPlace as ThePlace};
 
@@ -113,6 +114,18 @@ impl SlotKeys {
         }
     }
 
+    /// Whether a subscriber's session is to end at this time, in microseconds since its opening: its next key was announced
+    /// five seconds ago and isn't confirmed.
+    pub fn is_unconfirmed(&self, time: u64) -> bool
+        ensures { result ≡ is_unconfirmed (own_keys (slot_keys_of self.now)) time }
+    {
+        match self {
+            SlotKeys::Clear => false,
+            SlotKeys::Publisher { .. } => false,
+            SlotKeys::Subscriber { keys, .. } => keys.is_given_up(time),
+        }
+    }
+
     /// Overwrites the keys with zeros, where they are stored.
     fn forget(&mut self)
         ensures erased { IsErased self.new }
@@ -173,6 +186,17 @@ impl KeyPlace {
             return;
         }
         self.keys.confirm(contents);
+    }
+
+    /// Whether a subscriber's session is to end at this time, in microseconds since its opening: its next key was announced
+    /// five seconds ago and isn't confirmed.
+    pub fn is_unconfirmed(&self, time: u64) -> bool
+        ensures { result ≡ is_unconfirmed (own_keys (place_keys_of self.now)) time }
+    {
+        if !self.is_held {
+            return false;
+        }
+        self.keys.is_unconfirmed(time)
     }
 
     /// Removes the keys: overwrites them with zeros where they are stored.

@@ -182,7 +182,7 @@ fn transmit_with_keys(
 }
 
 /// Whether subscribers' sessions are encrypted. `places` is the number of the route's slots, as many as have keys then.
-fn are_encrypted(keys: &RouteKeys, places: usize) -> bool
+pub(crate) fn are_encrypted(keys: &RouteKeys, places: usize) -> bool
     ensures places { result ≡ true → length keys.now.slots.items ≡ places }
     ensures secured { (e : Terms) (m : Keys) → AreKeys e keys.now m → places ≡ e.sessions → result ≡ secures e Request }
 {

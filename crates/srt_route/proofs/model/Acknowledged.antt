@@ -41,6 +41,9 @@ use Rattle.srt_route.specs.Acknowledged.{DeliversInOrder, DeliversOn, DeliversOn
 use Rattle.srt_route.specs.Acknowledged.{GetsAll, IsFed, IsReported, IsReportedIn, PointsStay}
 use Rattle.srt_route.proofs.model.Lists.{Each, each_found, each_mapped}
 use Rattle.srt_route.proofs.model.ReportedPoints.{IsKept, all_delivered, kept_delivered, kept_first, kept_reported, kept_took}
+use Rattle.srt_route.specs.GivingUp.{given_up_at}
+use Rattle.srt_route.specs.Route.{route_before}
+use Rattle.srt_route.proofs.model.GivingUp.{each_before}
 
 abbrev pub KeptIn : (width : ℕ) → Past → Type 0
 KeptIn width (Publishes p) = IsKept width p
@@ -78,6 +81,10 @@ past_first width Request = tt
 end_keeps : (e : Terms) (end : Option Bool) (s : Session) → Kept e s → Kept e (with_end end s)
 end_keeps e None s h = h
 end_keeps e (Some b) s h = h
+
+late_keeps : (e : Terms) (late : Bool) (s : Session) → Kept e s → Kept e (given_up_at late s)
+late_keeps e true s h = h
+late_keeps e false s h = h
 
 aged_keeps : (e : Terms) (lives : Bool) (time : ℕ) (s : Session) → Kept e s → Kept e (aged_at e lives time s)
 aged_keeps e true time s h = past_expired (terms_of e s) e.buffer time s.past h
@@ -212,14 +219,21 @@ sessions_keep false e index item m mode h =
 all_keep : (e : Terms) (index : ℕ) (items : List Item) → e.mode ≡ Buffer → Each (Kept e) (after e index items).sessions
 all_keep e index [] mode = tt
 all_keep e index (item ∷ items) mode =
-    let m = after e index items in sessions_keep m.is_closed e index item m mode (all_keep e index items mode)
+    let m = route_before e index item items in
+    sessions_keep m.is_closed e index item m mode
+    (each_before (Kept e) (late_keeps e) e (clock_after item m) (after e index items) (all_keep e index items mode))
+
+before_keep : (e : Terms) (index : ℕ) (items : List Item) (item : Item) → e.mode ≡ Buffer → Each (Kept e) (route_before e index item items).sessions
+before_keep e index items item mode =
+    let m = after e index items in each_before (Kept e) (late_keeps e) e (clock_after item m) m (all_keep e index items mode)
 
 pub taken_all_keep : (e : Terms) (index : ℕ) (items : List Item) (item : Item)
-    → e.mode ≡ Buffer → Each (Kept e) (taken_by e index item (after e index items)).sessions
+    → e.mode ≡ Buffer → Each (Kept e) (taken_by e index item (route_before e index item items)).sessions
 taken_all_keep e index items item mode =
-    let m = after e index items in
+    let m = route_before e index item items in
     let clock = clock_after item m in
-    taken_keep e index clock (heard_by e index item m) (advanced e clock m.sessions) mode (advanced_keep e clock m.sessions (all_keep e index items mode))
+    taken_keep e index clock (heard_by e index item m) (advanced e clock m.sessions) mode
+    (advanced_keep e clock m.sessions (before_keep e index items item mode))
 
 -- a property of each element of a list
 each_so : (P Q : Session → Type 0) → ((s : Session) → P s → Q s) → (ss : List Session) → Each P ss → lists.Each Q ss
@@ -242,7 +256,7 @@ order_in terms (Subscribes m) mode h = tt
 
 pub delivers_in_order : DeliversInOrder
 delivers_in_order e index items item mode =
-    each_so (Kept e) (DeliversOn e) (λ s k. order_in (terms_of e s).publisher s.past mode k) (taken_by e index item (after e index items)).sessions
+    each_so (Kept e) (DeliversOn e) (λ s k. order_in (terms_of e s).publisher s.past mode k) (taken_by e index item (route_before e index item items)).sessions
     (taken_all_keep e index items item mode)
 
 -- a session with nothing left to deliver
@@ -282,9 +296,9 @@ found_keeps e test ss s is h = let P : Option Session → Type 0 = λ o. IfSome 
 pub at_once : EndsAtOnce
 at_once e index items item peer packet s mode callers found here is over =
     let clock = clock_after item (after e index items) in
-    let sessions = advanced e clock (after e index items).sessions in
+    let sessions = advanced e clock (route_before e index item items).sessions in
     let terms = terms_of e s in
-    let all = advanced_keep e clock (after e index items).sessions (all_keep e index items mode) in
+    let all = advanced_keep e clock (route_before e index item items).sessions (before_keep e index items item mode) in
     let kept = found_keeps e (is_for index peer packet.dest) sessions s found all in
     let left = goes_on e.rules.callers (is_shutdown packet.body) (is_active sessions s) (has_left terms s.past) (clock + terms.publisher.delay + 5_000_000)
     (ends_with terms s.conclusion.initial packet.body s.past) callers is here over in
@@ -308,7 +322,7 @@ ends_with_all e given clock s mode h = λ is drains over.
 pub drained : EndsDrained
 drained e index items item mode =
     let clock = clock_after item (after e index items) in
-    let sessions = (taken_by e index item (after e index items)).sessions in
+    let sessions = (taken_by e index item (route_before e index item items)).sessions in
     each_so (Kept e) (EndsWithAll e (gives_some e clock sessions) clock) (λ s k. ends_with_all e (gives_some e clock sessions) clock s mode k)
     (delivered e clock sessions) (delivered_keep e clock sessions mode (taken_all_keep e index items item mode))
 

@@ -4,13 +4,13 @@ use Rattle.std.proofs.Common.{refl, sym, ap, ◌∙◌, arith}
 use Rattle.std.proofs.lemmas.Bool.{and_from, and_parts, eq-eqb, eqb-true, ne_eqb}
 use Rattle.srt_route.specs.Activity.{OneIsActive, OneDelivers, StaysActive, StandbyLeads, OpensBehind, OneIsActiveAmong, is_active_publisher}
 use Rattle.srt_route.specs.Sessions.{Session, active, advanced, aged, has_slot, is_active, is_open_in, is_publisher, open_publishers, publishes}
-use Rattle.srt_route.specs.Route.{after, clock_after, passed_by, taken_by, heard_by}
+use Rattle.srt_route.specs.Route.{after, clock_after, passed_by, route_before, taken_by, heard_by}
 use Rattle.srt_route.specs.Tables.{AreAlone}
 use Rattle.srt_route.proofs.model.Lists.{how_many, one_more}
 use Rattle.srt_route.proofs.model.Marking.{standby_leads}
 use Rattle.srt_route.proofs.model.TakeOver.{active_in_slot, active_is, active_publishes, aged_opens_none, none_active, opens_behind}
 use Rattle.srt_route.proofs.model.TakeOver.{some_publisher, stays_active}
-use Rattle.srt_route.proofs.model.Alone.{advanced_alone, are_alone, after_delivery_alone, none_pass, one_in_slot, taken_alone}
+use Rattle.srt_route.proofs.model.Alone.{advanced_alone, are_alone, before_are_alone, after_delivery_alone, none_pass, one_in_slot, taken_alone}
 use Rattle.srt_route.proofs.stored.Stored.{alone_apart}
 use Rattle.srt_route.proofs.steps.Aging.{ages, ages_marks}
 
@@ -73,11 +73,12 @@ one_is_active e index items = one_among e.sessions (after e index items).session
 
 pub one_delivers : OneDelivers
 one_delivers e index items item =
-    let m = after e index items in
+    let m = route_before e index item items in
     let clock = clock_after item m in
     one_among e.sessions (passed_by e index item m)
     (after_delivery_alone e clock (taken_by e index item m).sessions
-    (taken_alone e index clock (heard_by e index item m) (advanced e clock m.sessions) (advanced_alone e clock m.sessions (are_alone e index items))))
+    (taken_alone e index clock (heard_by e index item m) (advanced e clock m.sessions)
+    (advanced_alone e clock m.sessions (before_are_alone e index items item))))
 
 pub stays : StaysActive
 stays e clock ss s is lives =

@@ -34,6 +34,8 @@ use Rattle.srt_route.proofs.steps.Aging.{ages}
 use Rattle.srt_route.proofs.model.Marking.{marks}
 use Rattle.srt_route.proofs.model.Ending.{ends}
 use Rattle.srt_route.proofs.model.Changes.{keeps_changed}
+use Rattle.srt_route.proofs.model.GivingUp.{alone_before}
+use Rattle.srt_route.specs.Route.{route_before}
 
 -- a number found among `count` numbers is one of them
 found_number : (p : ℕ → Bool) (from count at : ℕ) → find p (numbers_from from count) ≡ Some at → at < from + count
@@ -145,7 +147,13 @@ sessions_alone false e index item m alone =
 
 pub are_alone : (e : Terms) (index : ℕ) (items : List Item) → AreAlone e.sessions (after e index items).sessions
 are_alone e index [] = tt
-are_alone e index (item ∷ items) = let m = after e index items in sessions_alone m.is_closed e index item m (are_alone e index items)
+are_alone e index (item ∷ items) =
+    let m = route_before e index item items in
+    sessions_alone m.is_closed e index item m (alone_before e (clock_after item m) (after e index items) (are_alone e index items))
+
+pub before_are_alone : (e : Terms) (index : ℕ) (items : List Item) (item : Item) → AreAlone e.sessions (route_before e index item items).sessions
+before_are_alone e index items item =
+    alone_before e (clock_after item (after e index items)) (after e index items) (are_alone e index items)
 
 pub at_least : {A : Type 0} (p : A → Bool) (x : A) (xs : List A) (b : Bool) → p x ≡ b → how_many p xs ≤ how_many p (x ∷ xs)
 at_least p x xs true is = omega (arith, one_more p x xs true is)

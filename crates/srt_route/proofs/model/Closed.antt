@@ -12,9 +12,10 @@ use Rattle.srt_route.specs.Sessions.{Session, is_active, time_in, advanced, pass
 use Rattle.srt_route.specs.Sessions.{open_publishers, settled, settled_at, with_end}
 use Rattle.srt_route.specs.Route.{after_delivery, drain_end, finished, finished_at, gives_some, has_whole_file, is_file_over, settled_by}
 use Rattle.srt_route.specs.Route.{Route, ended, closes, clock_after, least_room, delivery, room_if, delivered, replies_at, sessions_at, sent, taken, taken_by}
-use Rattle.srt_route.specs.Route.{after}
+use Rattle.srt_route.specs.Route.{after, route_before}
 use Rattle.srt_route.proofs.model.Secured.{closing_is_heard}
 use Rattle.srt_route.specs.Closed.{ClosesOnce, ClosedHasNoSession, ClosedIsQuiet}
+use Rattle.srt_route.proofs.model.GivingUp.{closed_before}
 
 abbrev pub none_open : List Session → Bool
 none_open ss = list_any (λ (s : Session). s.is_open) ss
@@ -101,13 +102,16 @@ ends_all false e index (Close moment) m earlier h =
 
 pub has_no_session : ClosedHasNoSession
 has_no_session e index [] h = refl
-has_no_session e index (item ∷ items) h = let m = after e index items in ends_all m.is_closed e index item m (has_no_session e index items) h
+has_no_session e index (item ∷ items) h =
+    let m = route_before e index item items in
+    ends_all m.is_closed e index item m
+    (λ was. ap none_open (closed_before e (clock_after item m) (after e index items) was) ∙ has_no_session e index items was) h
 
 pub is_quiet : ClosedIsQuiet
 is_quiet e index items h item =
-    let m = after e index items in (
+    let m = route_before e index item items in (
       ap (λ b. map sent (replies_at b e index item m)) h,
-      ap (λ b. sessions_at b e index item m) h,
+      ap (λ b. sessions_at b e index item m) h ∙ closed_before e (clock_after item m) (after e index items) h,
     )
 
 either : (a b : Bool) → (a || b) ≡ (b || a)

@@ -31,14 +31,14 @@ use Rattle.srt_route.specs.RouteKeys.{own_if, secures}
 use Rattle.srt_route.specs.Sessions.{Session, advanced, by_slot, is_idle, is_open_in, is_publisher, is_recent, is_subscriber, outputs_at, publishes, speaks}
 use Rattle.srt_route.specs.Sessions.{is_draining, terms_of, time_in}
 use Rattle.srt_route.specs.Route.{Output, Answers, AnswersWithKeys, Says, Ends, Responds, SaysWithKeys, Reply, Verdict, Passes, Ignored, Refused}
-use Rattle.srt_route.specs.Route.{Repeats, Decrypted, Answered, after, answered_by, answers_as, arrived, clock_after, concluded, concludes, considered}
+use Rattle.srt_route.specs.Route.{Repeats, Decrypted, Answered, route_before, answered_by, answers_as, arrived, clock_after, concluded, concludes, considered}
 use Rattle.srt_route.specs.Route.{decision, has_whole_file, heard_as, idle_notified, is_file_over, is_for, is_of, judgement, keyed_by, keyed_packets_at}
 use Rattle.srt_route.specs.Route.{lost_notified, notified_if, own_by, packet_taken, packets_at, packets_where, passed_by, read_taken, replies_at, replies_to}
 use Rattle.srt_route.specs.Route.{reply_with, said_by, served, served_at, shutdown_to, taken, taken_by, without_destination}
-use Rattle.srt_route.proofs.model.Alone.{are_alone}
+use Rattle.srt_route.proofs.model.Alone.{before_are_alone}
 use Rattle.srt_route.proofs.model.Found.{found_passes, open_parts}
 use Rattle.srt_route.proofs.model.Lists.{Each, each_append, each_flat, each_mapped, each_picked, each_found}
-use Rattle.srt_route.proofs.model.OwnKeys.{have_own, passed_own}
+use Rattle.srt_route.proofs.model.OwnKeys.{before_have_own, passed_own}
 use Rattle.srt_route.proofs.model.Secured.{IsResponseOutput, IsShortVerdict, verdict_short}
 use Rattle.srt_route.proofs.model.Sound.{IsSound, after_sound, is_publishing, passed_by_sound}
 
@@ -267,10 +267,10 @@ last_covered e clock over ss own has =
     (λ slot. slot_covered e clock over ss own has slot (find (is_open_in slot) ss) refl) (numbers_from 0 e.sessions))
 
 replies_covered : (is_closed : Bool) (e : Terms) (index : ℕ) (items : List Item) (item : Item) → secures e Request ≡ true
-    → Each IsCoveredReply (replies_at is_closed e index item (after e index items))
+    → Each IsCoveredReply (replies_at is_closed e index item (route_before e index item items))
 replies_covered true e index items item secured = tt
 replies_covered false e index items item secured =
-    let m = after e index items in
+    let m = route_before e index item items in
     let clock = clock_after item m in
     let ss = passed_by e index item m in
     let j = judgement e index item m in
@@ -286,7 +286,7 @@ replies_covered false e index items item secured =
     (first_covered e clock ss (passed_by_sound e index items item (after_sound e index items))))
     (last_covered e clock (is_file_over e ss) ss (own_by e index item m)
     (λ k s found reads. subst (λ (b : Bool). is_some (own_if b j.keys.held k) ≡ true) (sym secured)
-    (passed_own e index item m secured (are_alone e index items) (have_own e index items secured) k s found reads)))
+    (passed_own e index item m secured (before_are_alone e index items item) (before_have_own e index items item secured) k s found reads)))
 
 each_all : {A : Type 0} (P : A → Type 0) (xs : List A) → Each P xs → All P xs
 each_all P [] h = All-nil P
@@ -294,5 +294,5 @@ each_all P (x ∷ xs) h = All-cons P x xs h.0 (each_all P xs h.1)
 
 pub payloads_are_covered : PayloadsAreCovered
 payloads_are_covered e index items item secured =
-    let m = after e index items in
+    let m = route_before e index item items in
     each_all IsCoveredReply (replies_to e index item m) (replies_covered m.is_closed e index items item secured)

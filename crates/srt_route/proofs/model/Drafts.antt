@@ -23,6 +23,9 @@ use Rattle.srt_route.specs.Route.{is_for, is_of, least_room, packet_end, packet_
 use Rattle.srt_route.specs.Route.{taken, taken_by, took_if, took_packet, without_destination, heard_by}
 use Rattle.srt_route.specs.Drafts.{NoneDrains}
 use Rattle.srt_route.proofs.model.Lists.{Each, each_mapped}
+use Rattle.srt_route.specs.GivingUp.{given_up_at}
+use Rattle.srt_route.specs.Route.{route_before}
+use Rattle.srt_route.proofs.model.GivingUp.{each_before}
 
 abbrev Stays : Session → Type 0
 Stays s = s.drains ≡ None
@@ -151,10 +154,15 @@ sessions_stay false e index item m draft h =
     (delivery_stay e clock (taken_by e index item m).sessions draft
     (taken_stay e index clock (heard_by e index item m) (advanced e clock m.sessions) draft (advanced_stay e clock m.sessions h)))
 
+late_stays : (late : Bool) (s : Session) → Stays s → Stays (given_up_at late s)
+late_stays true s h = h
+late_stays false s h = h
+
 all_stay : (e : Terms) (index : ℕ) (items : List Item) → e.rules.callers ≡ Draft → Each Stays (after e index items).sessions
 all_stay e index [] draft = tt
 all_stay e index (item ∷ items) draft =
-    let m = after e index items in sessions_stay m.is_closed e index item m draft (all_stay e index items draft)
+    let m = route_before e index item items in
+    sessions_stay m.is_closed e index item m draft (each_before Stays late_stays e (clock_after item m) (after e index items) (all_stay e index items draft))
 
 none_filtered : (ss : List Session) → Each Stays ss → filter is_draining ss ≡ []
 none_filtered [] h = refl

@@ -29,6 +29,9 @@ use Rattle.srt_route.proofs.model.TakeOver.{KeepsMarks}
 use Rattle.srt_route.proofs.stored.Kept.{Becomes, table_stands}
 use Rattle.srt_route.proofs.steps.Delivered.{from_places}
 use Rattle.srt_route.proofs.steps.Saying.{same_said, said_then}
+use Rattle.srt_route.specs.GivingUp.{given_up_at}
+use Rattle.srt_route.specs.Route.{giving_up, route_before}
+use Rattle.srt_route.proofs.model.GivingUp.{each_before}
 
 -- the session of a seat ends
 abbrev pub IsEnded : (x y : Seat) → Type 0
@@ -188,9 +191,18 @@ more_ended e index item m false before h =
     (passed_by e index item m)
     (after_delivery_ended e (clock_after item m) (taken_by e index item m).sessions (taken_ended e index item m h))
 
+late_ended : (late : Bool) (s : Session) → HasEnded s → HasEnded (given_up_at late s)
+late_ended true s h = h
+late_ended false s h = h
+
+pub before_ended : (e : Terms) (clock : ℕ) (m : Route) → Each HasEnded m.sessions → Each HasEnded (giving_up e clock m).sessions
+before_ended e clock m h = each_before HasEnded late_ended e clock m h
+
 pub closed_ended : (e : Terms) (index : ℕ) (items : List Item) → (after e index items).is_closed ≡ true → Each HasEnded (after e index items).sessions
 closed_ended e index [] h = tt
-closed_ended e index (item ∷ items) h = let m = after e index items in more_ended e index item m m.is_closed (closed_ended e index items) h
+closed_ended e index (item ∷ items) h =
+    let m = route_before e index item items in
+    more_ended e index item m m.is_closed (λ was. before_ended e (clock_after item m) (after e index items) (closed_ended e index items was)) h
 
 pub none_open : (at : ℕ) (ss : List Session) → Each HasEnded ss → find (is_open_in at) ss ≡ None
 none_open at [] h = refl

@@ -1,5 +1,5 @@
 -- The active publisher over a whole event.
-use Rattle.std.proofs.Common.{◌≡◌, ◌⊎◌, inl, inr, ℕ, ◌+◌, ◌<◌, ◌==◌, ◌&&◌, Bool, true, false, cond, Option, None, Some, List, [], ◌∷◌, map, find}
+use Rattle.std.proofs.Common.{◌≡◌, ◌⊎◌, inl, inr, ℕ, ◌+◌, ◌<◌, ◌==◌, ◌&&◌, not, Bool, true, false, cond, Option, None, Some, List, [], ◌∷◌, map, find}
 use Rattle.std.proofs.Common.{Result, Ok, Err, refl, sym, ap, subst, ◌∙◌, arith}
 use Rattle.std.specs.Prelude.{⊤}
 use Rattle.std.proofs.lemmas.Bool.{and_from, and_parts, eqb-true}
@@ -29,7 +29,7 @@ use Rattle.srt_route.proofs.model.Found.{Keeps, changed_from, counted_kept, foun
 use Rattle.srt_route.proofs.model.TakeOver.{KeepsMarks, active_in_slot, active_publishes, opens_behind, stays_active}
 use Rattle.srt_route.proofs.model.Marking.{marks}
 use Rattle.srt_route.proofs.model.Ending.{ends, ends_marks}
-use Rattle.srt_route.proofs.model.Alone.{advanced_alone, after_delivery_alone, are_alone, delivered_alone, passes, taken_alone}
+use Rattle.srt_route.proofs.model.Alone.{advanced_alone, after_delivery_alone, before_are_alone, delivered_alone, passes, taken_alone}
 use Rattle.srt_route.proofs.model.FileEnds.{finishes, finishes_marks, keeps_end, settles, settles_marks, takes_packet, takes_packet_marks}
 use Rattle.srt_route.proofs.model.Lists.{map_twice}
 use Rattle.srt_route.proofs.model.Queues.{ages_queues, end_queues, ends_queues, finishes_queues, hears_queues, marks_queues, settles_queues}
@@ -37,6 +37,13 @@ use Rattle.srt_route.proofs.model.Queues.{takes_packet_queues}
 use Rattle.srt_route.proofs.stored.Stored.{alone_apart, hears, hears_marks}
 use Rattle.srt_route.proofs.stored.Kept.{no_opening}
 use Rattle.srt_route.proofs.steps.Aging.{ages, ages_marks}
+use Rattle.std.specs.Option.{option_map}
+use Rattle.srt_types.specs.declared.shared.Role.TheVariants.{Request}
+use Rattle.srt_route.specs.GivingUp.{given_up, given_up_if}
+use Rattle.srt_route.specs.Route.{giving_up, route_before}
+use Rattle.srt_route.specs.RouteKeys.{own_in, secures}
+use Rattle.srt_route.proofs.model.GivingUp.{all_before, gives_up, gives_up_generations, gives_up_marks, gives_up_publishers}
+use Rattle.srt_route.proofs.model.Standbys.{active_through}
 
 -- a change that keeps the sessions and their marks
 pub record Calm (f : Session → Session) : Type 0 where
@@ -362,9 +369,15 @@ numbered_event false e index item m h =
     (numbered_on (λ s. passed e clock (room_if (is_active ss s) (least_room e ss)) (delivery e clock (least_room e ss) ss) s) passing.keeps
     passing.generation ss taken_are)))
 
+numbered_before : (e : Terms) (clock : ℕ) (m : Route) → AreNumbered m.sessions → AreNumbered (giving_up e clock m).sessions
+numbered_before e clock m h =
+    all_before AreNumbered (λ own t ss k. numbered_on (given_up own t) (gives_up own t) (gives_up_generations own t) ss k) e clock m h
+
 are_numbered : (e : Terms) (index : ℕ) (items : List Item) → AreNumbered (after e index items).sessions
 are_numbered e index [] = tt
-are_numbered e index (item ∷ items) = let m = after e index items in numbered_event m.is_closed e index item m (are_numbered e index items)
+are_numbered e index (item ∷ items) =
+    let m = route_before e index item items in
+    numbered_event m.is_closed e index item m (numbered_before e (clock_after item m) (after e index items) (are_numbered e index items))
 
 -- over an event: time, the item, the delivery, the end
 over_event : (e : Terms) (index : ℕ) (item : Item) (m : Route) (s t : Session) → AreAlone e.sessions m.sessions → AreNumbered m.sessions
@@ -475,9 +488,32 @@ over_event e index item m s t alone numbered is none found generation =
     early_active = subst (λ (ts : List Session). active ts ≡ Some first) (sym early_is)
         (forth (timed end e clock) (times_calmly end e clock) m.sessions s first is refl then_open)
 
+-- the active publisher before an item
+record IsActiveBefore (ss : List Session) (s : Session) : Type 0 where
+  session : Session
+  active_is : active ss ≡ Some session
+  slot_is : session.slot ≡ s.slot
+  generation_is : session.generation ≡ s.generation
+
+active_before : (b : Bool) (own : ℕ → Option Keys) (clock : ℕ) (ss : List Session) (s : Session) → active ss ≡ Some s
+    → IsActiveBefore (given_up_if b own clock ss) s
+active_before true own clock ss s is =
+    record {
+      session = given_up own clock s;
+      active_is = active_through (given_up own clock) (gives_up_publishers own clock) (gives_up_marks own clock) ss
+          ∙ ap (option_map (given_up own clock)) is;
+      slot_is = (gives_up own clock).slot s;
+      generation_is = gives_up_generations own clock s;
+    }
+active_before false own clock ss s is = record { session = s; active_is = is; slot_is = refl; generation_is = refl }
+
 pub active_goes_on : ActiveGoesOn
 active_goes_on e index items item s t is none lives found generation =
-    let m = after e index items in
+    let m = route_before e index item items in
+    let was = after e index items in
+    let first = active_before (secures e Request && not was.is_closed) (own_in e was.keys) (clock_after item was) was.sessions s is in
     subst (λ (b : Bool). active (sessions_at b e index item m) ≡ Some t) (sym lives)
-    (over_event e index item m s t (are_alone e index items) (are_numbered e index items) is none
-    (subst (λ (b : Bool). find (is_open_in s.slot) (sessions_at b e index item m) ≡ Some t) lives found) generation)
+    (over_event e index item m first.session t (before_are_alone e index items item) (numbered_before e (clock_after item was) was (are_numbered e index items))
+    first.active_is none
+    (subst (λ (k : ℕ). find (is_open_in k) (sessions_at false e index item m) ≡ Some t) (sym first.slot_is)
+    (subst (λ (b : Bool). find (is_open_in s.slot) (sessions_at b e index item m) ≡ Some t) lives found)) (generation ∙ sym first.generation_is))

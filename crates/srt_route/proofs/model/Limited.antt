@@ -34,12 +34,15 @@ use Rattle.srt_route.proofs.model.Lists.{how_many, one_more}
 use Rattle.srt_route.proofs.model.Found.{Keeps, any_is, found_passes, open_parts}
 use Rattle.srt_route.proofs.model.Marking.{marks}
 use Rattle.srt_route.proofs.model.TakeOver.{count_at, count_next, counted, counted_slots, decided_slot, IsDecided, one_if}
-use Rattle.srt_route.proofs.model.Alone.{advanced_alone, are_alone, none_there, passes}
+use Rattle.srt_route.proofs.model.Alone.{advanced_alone, are_alone, before_are_alone, none_there, passes}
 use Rattle.srt_route.proofs.model.FileEnds.{finishes, keeps_end, settles, takes_packet}
 use Rattle.srt_route.proofs.model.Ending.{ends}
 use Rattle.srt_route.proofs.stored.Stored.{alone_apart, hears}
 use Rattle.srt_route.proofs.steps.Aging.{ages}
 use Rattle.srt_route.proofs.steps.Starting.{limits_hold}
+use Rattle.srt_route.specs.GivingUp.{given_up}
+use Rattle.srt_route.specs.Route.{giving_up, route_before}
+use Rattle.srt_route.proofs.model.GivingUp.{all_before, alone_before, gives_up}
 
 -- a change that keeps the sessions makes no session pass that didn't
 abbrev pub Stays : (Session → Bool) → Type 0
@@ -143,11 +146,15 @@ module _ (e : Terms) (test : Session → Bool) (bound : ℕ) (stays : Stays test
       (kept (λ s. passed e clock (room_if (is_active ss s) (least_room e ss)) (delivery e clock (least_room e ss) ss) s)
       (passes e clock ss) ss taken_few))
 
+  pub before_within : (clock : ℕ) (m : Route) → Within m.sessions → Within (giving_up e clock m).sessions
+  before_within clock m few = all_before Within (λ own t ss h. kept (given_up own t) (gives_up own t) ss h) e clock m few
+
   pub are_within : (index : ℕ) (items : List Item) → Within (after e index items).sessions
   are_within index [] = omega arith
   are_within index (item ∷ items) =
-      let m = after e index items in
-      sessions_within m.is_closed index item m (are_alone e index items) (are_within index items)
+      let m = route_before e index item items in
+      sessions_within m.is_closed index item m (before_are_alone e index items item)
+      (before_within (clock_after item m) (after e index items) (are_within index items))
 
 -- the free slots, and the slots with an open session
 abbrev pub is_here : Session → Bool
@@ -321,13 +328,15 @@ no_slot e peer c ss is =
 
 pub publishers_have_slots : PublishersHaveSlots
 publishers_have_slots e index clock items peer c sound role is =
-    let ss = advanced e clock (after e index items).sessions in
+    let m = giving_up e clock (after e index items) in
+    let ss = advanced e clock m.sessions in
     omega (
       arith,
       few_kept e index sound,
-      advanced_within e is_subscriber (e.sessions - e.rules.reserved) subscribers_stay (kept_open e) clock (after e index items).sessions
-          (are_within e is_subscriber (e.sessions - e.rules.reserved) subscribers_stay (kept_open e) index items),
-      free_and_taken e ss (advanced_alone e clock (after e index items).sessions (are_alone e index items)),
+      advanced_within e is_subscriber (e.sessions - e.rules.reserved) subscribers_stay (kept_open e) clock m.sessions
+          (before_within e is_subscriber (e.sessions - e.rules.reserved) subscribers_stay (kept_open e) clock (after e index items)
+          (are_within e is_subscriber (e.sessions - e.rules.reserved) subscribers_stay (kept_open e) index items)),
+      free_and_taken e ss (advanced_alone e clock m.sessions (alone_before e clock (after e index items) (are_alone e index items))),
       by_role ss,
       none_there (is_free ss) (numbers_from 0 e.sessions) (no_slot e peer c ss is),
     )
@@ -338,7 +347,7 @@ none_is_kept e index clock items peer c role is =
     (is_reserved e.rules.reserved (free_slots e ss) (open_publishers ss) c.role) refl is
   where
     ss : List Session
-    ss = advanced e clock (after e index items).sessions
+    ss = advanced e clock (giving_up e clock (after e index items)).sessions
 
     by : (o : Option RefusalCause) → refused e.mode (open_publishers ss) c ≡ o → (crowded : Bool) (f : Option ℕ) (kept : Bool)
         → is_reserved e.rules.reserved (free_slots e ss) (open_publishers ss) c.role ≡ kept → decided o crowded f kept ≡ Err causes.Reserved → ⊥

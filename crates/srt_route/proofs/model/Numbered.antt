@@ -36,6 +36,9 @@ use Rattle.srt_route.specs.Past.{Agreed, Past, Publishes, Subscribes, expired_pa
 use Rattle.srt_route.proofs.model.Acknowledged.{Kept, KeptIn, taken_all_keep}
 use Rattle.srt_route.proofs.model.ReportedPoints.{fronts_stay, kept_delivered, nothing_given}
 use Rattle.srt_route.proofs.model.Lists.{Each}
+use Rattle.srt_route.specs.GivingUp.{given_up, given_up_at, is_late}
+use Rattle.srt_route.specs.Route.{route_before}
+use Rattle.srt_route.proofs.model.GivingUp.{all_before}
 
 abbrev Story : (numbers : List ℕ) → Session → Type 0
 Story numbers s = AreAllBelow numbers s.past
@@ -142,6 +145,10 @@ past_passed numbers terms time room fed (Subscribes m) mode kept h = append-nil 
 end_keeps : (numbers : List ℕ) (place : ℕ) (e : Terms) (end : Option Bool) (s : Session) → Story numbers s → Story numbers (with_end end s)
 end_keeps numbers place e None s h = h
 end_keeps numbers place e (Some b) s h = h
+
+late_keeps : (numbers : List ℕ) (late : Bool) (s : Session) → Story numbers s → Story numbers (given_up_at late s)
+late_keeps numbers true s h = h
+late_keeps numbers false s h = h
 
 aged_keeps : (numbers : List ℕ) (place : ℕ) (e : Terms) (lives : Bool) (time : ℕ) (s : Session)
     → Story numbers s → Story numbers (aged_at e lives time s)
@@ -310,9 +317,11 @@ all_reported : (e : Terms) (index : ℕ) (items : List Item) (place : ℕ)
     → e.mode ≡ Buffer → At (numbers_delivered e index items place) place (after e index items).sessions
 all_reported e index [] place mode = refl
 all_reported e index (item ∷ items) place mode =
-    let m = after e index items in
-    sessions_keep (numbers_delivered e index items place) place m.is_closed e index item m mode (taken_all_keep e index items item mode)
-    (all_reported e index items place mode)
+    let m = route_before e index item items in
+    let numbers = numbers_delivered e index items place in
+    sessions_keep numbers place m.is_closed e index item m mode (taken_all_keep e index items item mode)
+    (all_before (At numbers place) (λ own t ss h. at_mapped numbers place (given_up own t) (λ s k. late_keeps numbers (is_late (own s.slot) t s) s k) ss h)
+    e (clock_after item m) (after e index items) (all_reported e index items place mode))
 
 pub delivers_all : DeliversAll
 delivers_all e index items place s mode is =

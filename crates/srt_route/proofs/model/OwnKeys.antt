@@ -1,5 +1,5 @@
 -- Where subscribers are encrypted, each open subscriber's session has keys of its own.
-use Rattle.std.proofs.Common.{◌≡◌, ℕ, ◌==◌, ◌||◌, Bool, true, false, cond, Option, None, Some, List, [], ◌∷◌, map, find, Result, Ok, Err}
+use Rattle.std.proofs.Common.{◌≡◌, ℕ, ◌==◌, ◌&&◌, ◌||◌, not, Bool, true, false, cond, Option, None, Some, List, [], ◌∷◌, map, find, Result, Ok, Err}
 use Rattle.std.proofs.Common.{refl, sym, ap, subst, ◌∙◌}
 use Rattle.std.specs.Option.{is_some}
 use Rattle.std.proofs.lemmas.Bool.{eq-eqb, eqb-true}
@@ -33,7 +33,7 @@ use Rattle.srt_route.specs.Route.{judged_by, judged_if, judgement, kept_at, key_
 use Rattle.srt_route.specs.Route.{keys_said, keys_served, least_room, own_by, packet_end, passed_by, read_judged, read_taken, room_if}
 use Rattle.srt_route.specs.Route.{session_judged, session_opened, sessions_at, settled_by, taken, taken_by, took_packet, without_destination}
 use Rattle.srt_route.specs.Tables.{AreAlone}
-use Rattle.srt_route.proofs.model.Alone.{after_delivery_alone, advanced_alone, are_alone, delivered_alone, marked_alone, passes, taken_alone}
+use Rattle.srt_route.proofs.model.Alone.{after_delivery_alone, advanced_alone, are_alone, before_are_alone, delivered_alone, marked_alone, passes, taken_alone}
 use Rattle.srt_route.proofs.model.Decrypting.{clear_read}
 use Rattle.srt_route.proofs.model.Ending.{ends}
 use Rattle.srt_route.proofs.model.FileEnds.{finishes, keeps_end, settles, takes_packet}
@@ -42,6 +42,10 @@ use Rattle.srt_route.proofs.model.Marking.{marks}
 use Rattle.srt_route.proofs.model.TakeOver.{decided_slot}
 use Rattle.srt_route.proofs.steps.Aging.{ages}
 use Rattle.srt_route.proofs.stored.Stored.{free_is_vacant, hears}
+use Rattle.srt_route.specs.GivingUp.{given_up, given_up_if}
+use Rattle.srt_route.specs.Route.{giving_up, route_before}
+use Rattle.srt_route.specs.RouteKeys.{own_in}
+use Rattle.srt_route.proofs.model.GivingUp.{gives_up}
 
 abbrev HasOwn : SlotKeys → Type 0
 HasOwn k = is_some (own_keys k) ≡ true
@@ -375,7 +379,22 @@ event_own false e index item m secured alone h =
     (after_delivery_alone e clock (taken_by e index item m).sessions taken_are) (judgement e index item m).keys.held
     (passed_own e index item m secured alone h))
 
+own_before : (e : Terms) (clock : ℕ) (m : Route) → AreAlone e.sessions m.sessions → HaveOwn m.sessions m.keys.held
+    → HaveOwn (giving_up e clock m).sessions m.keys.held
+own_before e clock m alone h = by (secures e Request && not m.is_closed)
+  where
+    by : (b : Bool) → HaveOwn (given_up_if b (own_in e m.keys) clock m.sessions) m.keys.held
+    by true = have_mapped (given_up (own_in e m.keys) clock) (gives_up (own_in e m.keys) clock) e.sessions m.sessions alone m.keys.held h
+    by false = h
+
 pub have_own : (e : Terms) (index : ℕ) (items : List Item) → secures e Request ≡ true → HaveOwn (after e index items).sessions (after e index items).keys.held
 have_own e index [] secured = λ k s found reads. absurd (let bad : None ≡ Some s = found in cc)
 have_own e index (item ∷ items) secured =
-    let m = after e index items in event_own m.is_closed e index item m secured (are_alone e index items) (have_own e index items secured)
+    let m = after e index items in
+    event_own m.is_closed e index item (route_before e index item items) secured (before_are_alone e index items item)
+    (own_before e (clock_after item m) m (are_alone e index items) (have_own e index items secured))
+
+pub before_have_own : (e : Terms) (index : ℕ) (items : List Item) (item : Item) → secures e Request ≡ true
+    → HaveOwn (route_before e index item items).sessions (after e index items).keys.held
+before_have_own e index items item secured =
+    let m = after e index items in own_before e (clock_after item m) m (are_alone e index items) (have_own e index items secured)

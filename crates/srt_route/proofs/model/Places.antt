@@ -14,13 +14,13 @@ use Rattle.srt_packet.specs.Reading.{packet_in}
 use Rattle.srt_session_keys.specs.Subscriber.{Subscriber as Keys}
 use Rattle.srt_route.specs.Sessions.{Session, advanced, aged, aged_at, by_slot, is_idle, is_open_in, is_over_at, is_silent_at, marked, marked_if}
 use Rattle.srt_route.specs.Sessions.{is_active, open_publishers, passed, settled, speaks, takes_over, time_end, time_in, with_end}
-use Rattle.srt_route.specs.Route.{Reply, Route, Verdict, Passes, Ignored, Refused, Repeats, Decrypted, Answered, RepliesHavePlaces, after, after_delivery}
+use Rattle.srt_route.specs.Route.{Reply, Route, Verdict, Passes, Ignored, Refused, Repeats, Decrypted, Answered, RepliesHavePlaces, after_delivery}
 use Rattle.srt_route.specs.Route.{answers_as, clock_after, delivered, delivery, drain_end, ended, gives_some, heard_as, idle_notified, is_file_over}
-use Rattle.srt_route.specs.Route.{judgement, least_room, notified_if, own_by, packets_where, passed_by, read_taken, replies_at}
+use Rattle.srt_route.specs.Route.{judgement, least_room, notified_if, own_by, packets_where, passed_by, read_taken, replies_at, route_before}
 use Rattle.srt_route.specs.Route.{reply_with, room_if, sent, served}
 use Rattle.srt_route.specs.Route.{settled_by, shutdown_to, taken, taken_by, with_bytes}
 use Rattle.srt_route.specs.Tables.{AreAlone}
-use Rattle.srt_route.proofs.model.Alone.{are_alone, passes}
+use Rattle.srt_route.proofs.model.Alone.{before_are_alone, passes}
 use Rattle.srt_route.proofs.model.Closed.{after_delivery_none, each_ended, none_open}
 use Rattle.srt_route.proofs.model.Counts.{all_said, few_by_slot, none_lost, notified_few, read_brief}
 use Rattle.srt_route.proofs.model.FileEnds.{keeps_end, settles}
@@ -138,9 +138,14 @@ silent_is_over : (drains : Option ℕ) (heard clock : ℕ) → is_silent_at drai
 silent_is_over None heard clock h = h
 silent_is_over (Some until) heard clock h = absurd (let bad : false ≡ true = h in cc)
 
+idle_is_over : (late : Bool) (drains : Option ℕ) (heard clock : ℕ) → (late || is_silent_at drains heard clock) ≡ true
+    → (late || is_over_at drains heard clock) ≡ true
+idle_is_over true drains heard clock h = refl
+idle_is_over false drains heard clock h = silent_is_over drains heard clock h
+
 silent_ends : (e : Terms) (clock : ℕ) (s : Session) → is_idle s clock ≡ true → (aged e clock s).is_open ≡ false
 silent_ends e clock s idle =
-    ap (λ (b : Bool). (aged_at e (s.is_open && not b) (time_in s clock) s).is_open) (silent_is_over s.drains s.heard clock idle) ∙ by s.is_open
+    ap (λ (b : Bool). (aged_at e (s.is_open && not b) (time_in s clock) s).is_open) (idle_is_over s.is_given_up s.drains s.heard clock idle) ∙ by s.is_open
   where
     by : (b : Bool) → (aged_at e (b && false) (time_in s clock) s).is_open ≡ false
     by true = refl
@@ -309,4 +314,4 @@ replies_few false e index item m alone =
 pub replies_have_places : RepliesHavePlaces
 replies_have_places e index [] = omega arith
 replies_have_places e index (item ∷ items) =
-    let m = after e index items in replies_few m.is_closed e index item m (are_alone e index items)
+    let m = route_before e index item items in replies_few m.is_closed e index item m (before_are_alone e index items item)

@@ -32,6 +32,11 @@ use Rattle.srt_route.specs.Route.{took_if, took_packet, without_destination}
 use Rattle.srt_route.specs.Sessions.{is_draining, is_recent, open_publishers, settled, settled_at}
 use Rattle.srt_route.specs.Queues.{AreContinued, AreSome, HasOpened, IsContinued, QueuesGoOn, delivery_by, payload_in, queue_in}
 use Rattle.srt_route.proofs.stored.Seats.{took_queue}
+use Rattle.srt_route.specs.GivingUp.{given_up, given_up_at, given_up_if, is_late}
+use Rattle.srt_route.specs.Route.{route_before}
+use Rattle.srt_route.proofs.model.GivingUp.{gives_up, gives_up_generations}
+use Rattle.srt_types.specs.declared.shared.Role.TheVariants.{Request}
+use Rattle.srt_route.specs.RouteKeys.{own_in, secures}
 
 -- nothing is added
 same : (given : List (List ℕ)) (s t : Session) → t.slot ≡ s.slot → t.generation ≡ s.generation → queue_in t.past ≡ queue_in s.past → IsContinued given s t
@@ -112,6 +117,18 @@ ages_queues e clock =
 
     queue_of : (s : Session) (b : Bool) → queue_in (aged_at e b (time_in s clock) s).past ≡ queue_in s.past
     queue_of s true = past_expired (terms_of e s) (time_in s clock) s.past
+    queue_of s false = refl
+
+pub gives_up_queues : (own : ℕ → Option Keys) (clock : ℕ) → KeepsQueues (given_up own clock)
+gives_up_queues own clock =
+    record {
+      slot = (gives_up own clock).slot;
+      generation = gives_up_generations own clock;
+      queue = λ s. queue_of s (is_late (own s.slot) clock s);
+    }
+  where
+    queue_of : (s : Session) (b : Bool) → queue_in (given_up_at b s).past ≡ queue_in s.past
+    queue_of s true = refl
     queue_of s false = refl
 
 abbrev with_mark : (b m : Bool) → Session → Session
@@ -465,4 +482,15 @@ sessions_on false e index item m =
     (taken_on e index clock (heard_by e index item m) (advanced e clock m.sessions)))))))
 
 pub queues_go_on : QueuesGoOn
-queues_go_on e index items item = let m = after e index items in sessions_on m.is_closed e index item m
+queues_go_on e index items item =
+    let m = route_before e index item items in
+    let was = after e index items in
+    let own = own_in e was.keys in
+    let clock = clock_after item was in
+    by (secures e Request && not was.is_closed) (delivery_by e index item m) own clock was.sessions (sessions_at m.is_closed e index item m)
+    (sessions_on m.is_closed e index item m)
+  where
+    by : (b : Bool) (given : List (List ℕ)) (own : ℕ → Option Keys) (clock : ℕ) (ss new : List Session)
+        → GoOn given (given_up_if b own clock ss) new → GoOn given ss new
+    by true given own clock ss new h = go_before given (given_up own clock) (gives_up_queues own clock) ss new h
+    by false given own clock ss new h = h

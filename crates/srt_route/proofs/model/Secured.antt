@@ -45,6 +45,7 @@ use Rattle.srt_route.specs.Route.{has_whole_file, is_file_over, keys_finished_if
 use Rattle.srt_route.proofs.model.KeyLengths.{IsWholeMessage, IsWholeSource, kek_long, message_whole}
 use Rattle.srt_route.specs.Route.{confirmed_at, confirmed_for, keys_confirmed}
 use Rattle.srt_route.specs.Route.{read_judged, taken, taken_as, taken_by}
+use Rattle.srt_route.specs.Route.{route_before}
 
 abbrev pub IsShort : Option (List ℕ) → Type 0
 IsShort None = ⊤
@@ -317,17 +318,18 @@ keys_short false e index item m short =
 all_short : (e : Terms) (index : ℕ) (items : List Item) → AreShort (after e index items).keys
 all_short e index [] = λ slot. record { request = tt; own = tt }
 all_short e index (item ∷ items) =
-    let m = after e index items in keys_short m.is_closed e index item m (all_short e index items)
+    let m = route_before e index item items in keys_short m.is_closed e index item m (all_short e index items)
 
-pub verdict_short : (e : Terms) (index : ℕ) (items : List Item) (item : Item) → IsShortVerdict (judgement e index item (after e index items)).verdict
-verdict_short e index items item = (judgement_short e index item (after e index items) (all_short e index items)).verdict
+pub verdict_short : (e : Terms) (index : ℕ) (items : List Item) (item : Item)
+    → IsShortVerdict (judgement e index item (route_before e index item items)).verdict
+verdict_short e index items item = (judgement_short e index item (route_before e index item items) (all_short e index items)).verdict
 
 -- the keys of their own under which the sessions of slots are sent payloads
-pub own_whole : (e : Terms) (index : ℕ) (items : List Item) (item : Item) (slot : ℕ) → IsWholeOwn (own_by e index item (after e index items) slot)
+pub own_whole : (e : Terms) (index : ℕ) (items : List Item) (item : Item) (slot : ℕ) → IsWholeOwn (own_by e index item (route_before e index item items) slot)
 own_whole e index items item slot = by (secures e Request)
   where
-    by : (b : Bool) → IsWholeOwn (own_if b (judgement e index item (after e index items)).keys.held slot)
-    by true = ((judgement_short e index item (after e index items) (all_short e index items)).keys slot).own
+    by : (b : Bool) → IsWholeOwn (own_if b (judgement e index item (route_before e index item items)).keys.held slot)
+    by true = ((judgement_short e index item (route_before e index item items) (all_short e index items)).keys slot).own
     by false = tt
 
 -- without a secured role an item is processed as it is

@@ -36,7 +36,7 @@ use Rattle.srt_pub.specs.Says.{losses_said, says}
 use Rattle.srt_sub.specs.Subscribing as subscriber
 use Rattle.srt_sub.specs.Says.{packet_text}
 use Rattle.srt_route.specs.Past.{ToPublisher, ToSubscriber}
-use Rattle.srt_route.specs.Route.{Output, Answers, AnswersWithKeys, Says, Ends, Responds, SaysWithKeys, Reply, output_text, sent, after, replies_to}
+use Rattle.srt_route.specs.Route.{Output, Answers, AnswersWithKeys, Says, Ends, Responds, SaysWithKeys, Reply, output_text, sent, replies_to, route_before}
 use Rattle.srt_route.specs.ShiftLaws.{IsReadable}
 use Rattle.srt_route.specs.Sendable.{IsResponse, IsSendable, IsSendablePacket, IsSendableResponse, PublishersSendPackets, SubscribersSendPackets}
 use Rattle.srt_route.specs.Sendable.{AnswersArePackets, IsMessage, IsSendableRequest, IsSendableUnder}
@@ -275,14 +275,14 @@ each_all P (x ∷ xs) h = All-cons P x xs h.0 (each_all P xs h.1)
 pub replies_send : RepliesArePackets
 replies_send e index [] = All-nil (λ d. IsSendable d.bytes)
 replies_send e index (item ∷ items) =
-    let replies = replies_to e index item (after e index items) in
+    let replies = replies_to e index item (route_before e index item items) in
     each_all (λ d. IsSendable d.bytes) (map sent replies)
     (each_mapped (λ (x : Reply). IsSent x.packet) (λ d. IsSendable d.bytes) sent (λ x h. outputs_send x.packet h) replies (replies_sent e index items item))
 
 pub clear_replies_send : ClearRepliesArePackets
 clear_replies_send e index [] clear = All-nil (λ d. IsSendablePacket d.bytes)
 clear_replies_send e index (item ∷ items) clear =
-    let replies = replies_to e index item (after e index items) in
+    let replies = replies_to e index item (route_before e index item items) in
     each_all (λ d. IsSendablePacket d.bytes) (map sent replies)
     (each_mapped (λ (x : Reply). IsSaid x.packet) (λ d. IsSendablePacket d.bytes) sent (λ x h. said_sends x.packet h) replies
     (replies_said e index items item clear))

@@ -62,6 +62,9 @@ use Rattle.srt_route.proofs.model.Secured.{IsResponseOutput, IsShortVerdict, IsW
 use Rattle.srt_route.proofs.model.Standbys.{each_active}
 use Rattle.srt_route.proofs.model.Lists.{Each, each_append, each_take, each_while, each_mapped, each_flat, each_found, each_picked, each_at}
 use Rattle.srt_route.proofs.renumbering.Relabelled.{all_replies}
+use Rattle.srt_route.specs.GivingUp.{given_up_at}
+use Rattle.srt_route.specs.Route.{route_before}
+use Rattle.srt_route.proofs.model.GivingUp.{each_before}
 
 -- payloads
 abbrev IsPayload : List ℕ → Type 0
@@ -799,31 +802,40 @@ advanced_sound e clock ss h =
     (marked_if (takes_over e clock later) later)
     (marked_sound (takes_over e clock later) later (each_mapped IsSound IsSound (aged e clock) (λ s sound. aged_sound e clock s sound) ss h))
 
+late_sound : (late : Bool) (s : Session) → IsSound s → IsSound (given_up_at late s)
+late_sound true s h = record { past = h.past; answer = h.answer; role = h.role }
+late_sound false s h = h
+
+before_sound : (e : Terms) (index : ℕ) (items : List Item) (item : Item)
+    → Each IsSound (after e index items).sessions → Each IsSound (route_before e index item items).sessions
+before_sound e index items item h =
+    let m = after e index items in each_before IsSound late_sound e (clock_after item m) m h
+
 heard_item_sound : (e : Terms) (index : ℕ) (items : List Item) (item : Item) → Each IsSound (after e index items).sessions
-    → let m = after e index items in
+    → let m = route_before e index item items in
     IsSoundTaken (taken e index (clock_after item m) (heard_by e index item m) (advanced e (clock_after item m) m.sessions))
 heard_item_sound e index items item h =
-    let m = after e index items in
+    let m = route_before e index item items in
     let clock = clock_after item m in
-    taken_sound e index clock (heard_by e index item m) (advanced e clock m.sessions) (advanced_sound e clock m.sessions h)
+    taken_sound e index clock (heard_by e index item m) (advanced e clock m.sessions) (advanced_sound e clock m.sessions (before_sound e index items item h))
 
 pub passed_by_sound : (e : Terms) (index : ℕ) (items : List Item) (item : Item)
-    → Each IsSound (after e index items).sessions → Each IsSound (passed_by e index item (after e index items))
+    → Each IsSound (after e index items).sessions → Each IsSound (passed_by e index item (route_before e index item items))
 passed_by_sound e index items item h =
-    let m = after e index items in
+    let m = route_before e index item items in
     let clock = clock_after item m in
     let ss = (taken_by e index item m).sessions in
     settled_sound e.rules.callers e clock (gives_some e clock ss) (delivered e clock ss)
     (delivered_sound e clock ss (heard_item_sound e index items item h).sessions)
 
 sessions_sound : (is_closed : Bool) (e : Terms) (index : ℕ) (items : List Item) (item : Item)
-    → Each IsSound (after e index items).sessions → Each IsSound (sessions_at is_closed e index item (after e index items))
-sessions_sound true e index items item h = h
+    → Each IsSound (after e index items).sessions → Each IsSound (sessions_at is_closed e index item (route_before e index item items))
+sessions_sound true e index items item h = before_sound e index items item h
 sessions_sound false e index items item h =
-    let m = after e index items in
+    let m = route_before e index item items in
     let clock = clock_after item m in
     let over = is_file_over e (passed_by e index item m) in
-    let own = own_by e index item (after e index items) in
+    let own = own_by e index item (route_before e index item items) in
     each_mapped IsSound IsSound (finished own e clock over) (λ s sound. finished_sound (has_whole_file over s) (own s.slot) e clock s sound)
     (passed_by e index item m) (passed_by_sound e index items item h)
 
@@ -833,14 +845,14 @@ after_sound e index (item ∷ items) = sessions_sound (after e index items).is_c
 
 -- the replies to an item, from the answers to it
 replies_at_are : (P : Reply → Type 0) → ((x : Reply) → IsSaidReply x → P x) → (is_closed : Bool) (e : Terms) (index : ℕ) (items : List Item) (item : Item)
-    → Each P (taken_by e index item (after e index items)).answers
-    → (let m = after e index items in
+    → Each P (taken_by e index item (route_before e index item items)).answers
+    → (let m = route_before e index item items in
     let ss = passed_by e index item m in
     Each P (served (own_by e index item m) e (clock_after item m) (is_file_over e ss) ss))
-    → Each P (replies_at is_closed e index item (after e index items))
+    → Each P (replies_at is_closed e index item (route_before e index item items))
 replies_at_are P so true e index items item answers last = tt
 replies_at_are P so false e index items item answers last =
-    let m = after e index items in
+    let m = route_before e index item items in
     let clock = clock_after item m in
     let ss = passed_by e index item m in
     let sound = passed_by_sound e index items item (after_sound e index items) in
@@ -858,9 +870,9 @@ replies_at_are P so false e index items item answers last =
     each Q f (x ∷ xs) h = (f x h.0, each Q f xs h.1)
 
 pub replies_sent : (e : Terms) (index : ℕ) (items : List Item) (item : Item)
-    → Each (λ (x : Reply). IsSent x.packet) (replies_to e index item (after e index items))
+    → Each (λ (x : Reply). IsSent x.packet) (replies_to e index item (route_before e index item items))
 replies_sent e index items item =
-    let m = after e index items in
+    let m = route_before e index item items in
     let clock = clock_after item m in
     replies_at_are IsSentReply (λ x h. said_is_sent x.packet h) m.is_closed e index items item
     (answers_sent (judgement e index item m).verdict (taken e index clock (heard_by e index item m) (advanced e clock m.sessions)).answers
@@ -874,9 +886,9 @@ clear_readers true request h = absurd (let bad : true ≡ false = h in cc)
 clear_readers false request h = h
 
 pub replies_said : (e : Terms) (index : ℕ) (items : List Item) (item : Item) → has_secured_role e ≡ false
-    → Each (λ (x : Reply). IsSaid x.packet) (replies_to e index item (after e index items))
+    → Each (λ (x : Reply). IsSaid x.packet) (replies_to e index item (route_before e index item items))
 replies_said e index items item clear =
-    let m = after e index items in
+    let m = route_before e index item items in
     let clock = clock_after item m in
     replies_at_are IsSaidReply (λ x h. h) m.is_closed e index items item
     (subst (λ (v : Verdict). Each IsSaidReply (answers_as v (taken e index clock (heard_by e index item m) (advanced e clock m.sessions)).answers))
@@ -890,5 +902,5 @@ replies_said e index items item clear =
 pub all_said : (e : Terms) (index : ℕ) (items : List Item) → has_secured_role e ≡ false → Each (λ (x : Reply). IsSaid x.packet) (all_replies e index items)
 all_said e index [] clear = tt
 all_said e index (item ∷ items) clear =
-    each_append IsSaidReply (all_replies e index items) (replies_to e index item (after e index items)) (all_said e index items clear)
+    each_append IsSaidReply (all_replies e index items) (replies_to e index item (route_before e index item items)) (all_said e index items clear)
     (replies_said e index items item clear)

@@ -38,6 +38,9 @@ use Rattle.srt_route.proofs.model.Found.{for_open}
 use Rattle.srt_types.specs.declared.shared.Callers.{Callers}
 use Rattle.srt_types.specs.declared.shared.Callers.TheVariants.{Draft, Libsrt}
 use Rattle.srt_route.specs.Route.{delivery, room_if, delivered, taken_by, passed_by, Route, sessions_at, clock_after, after, heard_by}
+use Rattle.srt_route.specs.GivingUp.{given_up}
+use Rattle.srt_route.specs.Route.{route_before}
+use Rattle.srt_route.proofs.model.GivingUp.{all_before, gives_up_publishers}
 
 -- no older session is open in an open session's slot
 abbrev pub AreApart : List Session → Type 0
@@ -729,4 +732,8 @@ sessions_few false e index item m few =
 
 pub two_at_most : (e : Terms) (index : ℕ) (items : List Item) → AreFew (after e index items).sessions
 two_at_most e index [] = omega arith
-two_at_most e index (item ∷ items) = let m = after e index items in sessions_few m.is_closed e index item m (two_at_most e index items)
+two_at_most e index (item ∷ items) =
+    let m = route_before e index item items in
+    sessions_few m.is_closed e index item m
+    (all_before AreFew (λ own t ss few. few_kept (given_up own t) (λ s h. sym (gives_up_publishers own t s) ∙ h) ss few) e (clock_after item m)
+    (after e index items) (two_at_most e index items))

@@ -74,6 +74,9 @@ use Rattle.srt_route.proofs.model.Decrypting.{clear_read}
 use Rattle.srt_route.proofs.model.Standbys.{publishers_through, active_through, is_active_through}
 use Rattle.srt_route.proofs.model.Lists.{map_through, any_through, filter_same, filter_through, find_through, find_same, flat_through, picked_through}
 use Rattle.srt_route.proofs.model.Lists.{fold_through}
+use Rattle.srt_route.specs.GivingUp.{given_up, given_up_at, given_up_if, is_late, is_unconfirmed}
+use Rattle.srt_route.specs.Route.{found_by, route_before}
+use Rattle.srt_route.specs.RouteKeys.{own_in}
 
 -- the values that change: timestamps, initial numbers, times. The distance of two timestamps stays
 pub record Change : Type 0 where
@@ -189,7 +192,7 @@ silent_at_same later None heard clock = ap (nat_le 5_000_000) (time_same heard c
 silent_at_same later (Some until) heard clock = refl
 
 idle_same : (r : Change) (clock : ℕ) (s : Session) → is_idle (changed_session r s) (clock + r.later) ≡ is_idle s clock
-idle_same r clock s = silent_at_same r.later s.drains s.heard clock
+idle_same r clock s = ap (λ (b : Bool). s.is_given_up || b) (silent_at_same r.later s.drains s.heard clock)
 
 le_same : (a b later : ℕ) → nat_le (a + later) (b + later) ≡ nat_le a b
 le_same a b later = by (nat_le (a + later) (b + later)) (nat_le a b) refl refl
@@ -216,7 +219,7 @@ recent_same : (r : Change) (clock : ℕ) (s : Session) → is_recent (changed_se
 recent_same r clock s = ap (λ n. nat_lt n 1_000_000) (time_same s.heard clock r.later)
 
 ends_over_same : (r : Change) (clock : ℕ) (s : Session) → is_over (changed_session r s) (clock + r.later) ≡ is_over s clock
-ends_over_same r clock s = over_at_same r.later s.drains s.heard clock
+ends_over_same r clock s = ap (λ (b : Bool). s.is_given_up || b) (over_at_same r.later s.drains s.heard clock)
 
 own_time : (r : Change) (clock : ℕ) (s : Session) → time_in (changed_session r s) (clock + r.later) ≡ time_in s clock
 own_time r clock s = time_same s.opening clock r.later
@@ -1485,6 +1488,49 @@ none_requested : first_keys.moments ≡ moments_after []
 unfolding moments_after
 none_requested = refl
 
+-- the same sessions are given up
+late_same : (r : Change) (clock : ℕ) (keys : Option Keys) (s : Session) → is_late keys (clock + r.later) (changed_session r s) ≡ is_late keys clock s
+late_same r clock keys s = ap (λ (t : ℕ). is_subscriber s && is_unconfirmed keys t) (own_time r clock s)
+
+given_up_as_same : (r : Change) (late : Bool) (s : Session) → given_up_at late (changed_session r s) ≡ changed_session r (given_up_at late s)
+given_up_as_same r true s = refl
+given_up_as_same r false s = refl
+
+given_up_same : (r : Change) (other own : ℕ → Option Keys) → ((slot : ℕ) → other slot ≡ own slot) → (clock : ℕ) (s : Session)
+    → given_up other (clock + r.later) (changed_session r s) ≡ changed_session r (given_up own clock s)
+given_up_same r other own same clock s =
+    ap (λ (keys : Option Keys). given_up_at (is_late keys (clock + r.later) (changed_session r s)) (changed_session r s)) (same s.slot)
+    ∙ ap (λ (late : Bool). given_up_at late (changed_session r s)) (late_same r clock (own s.slot) s)
+    ∙ given_up_as_same r (is_late (own s.slot) clock s) s
+
+gives_up_same : (encrypted : Bool) (r : Change) (other own : ℕ → Option Keys) → ((slot : ℕ) → other slot ≡ own slot) → (clock : ℕ) (ss : List Session)
+    → given_up_if encrypted other (clock + r.later) (map (changed_session r) ss) ≡ map (changed_session r) (given_up_if encrypted own clock ss)
+gives_up_same true r other own same clock ss =
+    map_through (changed_session r) (given_up other (clock + r.later)) (given_up own clock) (changed_session r) (given_up_same r other own same clock) ss
+gives_up_same false r other own same clock ss = refl
+
+own_before_same : (secured : Bool) (n m : ℕ → SlotKeys) → ((slot : ℕ) → n slot ≡ m slot) → (slot : ℕ) → own_if secured n slot ≡ own_if secured m slot
+own_before_same true n m same slot = ap own_keys (same slot)
+own_before_same false n m same slot = refl
+
+before_same : (e : Terms) (r : Change) (j i : Item) (n m : Route) → IsChangedInput r j i → IsChangedRoute r n m
+    → IsChangedRoute r (found_by e j n) (found_by e i m)
+before_same e r j i n m h k =
+    record {
+      clock_is = k.clock_is;
+      sessions_are =
+          ap (λ (t : ℕ). given_up_if (secures e Request && not n.is_closed) (own_in e n.keys) t n.sessions) (clock_same r j i n m h.item_is k)
+          ∙ ap (λ (b : Bool). given_up_if (secures e Request && not b) (own_in e n.keys) (clock + r.later) n.sessions) k.closed_is
+          ∙ ap (λ (xs : List Session). given_up_if (secures e Request && not m.is_closed) (own_in e n.keys) (clock + r.later) xs) k.sessions_are
+          ∙ gives_up_same (secures e Request && not m.is_closed) r (own_in e n.keys) (own_in e m.keys)
+          (own_before_same (secures e Request) n.keys.held m.keys.held k.keys_are.held_is) clock m.sessions;
+      closed_is = k.closed_is;
+      keys_are = k.keys_are;
+    }
+  where
+    clock : ℕ
+    clock = clock_after i m
+
 after_same : (e : Terms) (index : ℕ) (r : Change) (fits : has_secured_role e ≡ true → r.secured ≡ true) (js is : List Item) → AreChanged r js is
     → IsChangedRoute r (after e index js) (after e index is)
 after_same e index r fits [] [] h =
@@ -1494,22 +1540,25 @@ after_same e index r fits [] [] h =
       closed_is = refl;
       keys_are = record { moments_are = not_delayed r.later first_keys.moments none_requested; pool_is = refl; held_is = λ slot. refl };
     }
-after_same e index r fits (j ∷ js) (i ∷ is) h = notified_same e index r fits j i (after e index js) (after e index is) h.0 (after_same e index r fits js is h.1)
+after_same e index r fits (j ∷ js) (i ∷ is) h =
+    notified_same e index r fits j i (route_before e index j js) (route_before e index i is) h.0
+    (before_same e r j i (after e index js) (after e index is) h.0 (after_same e index r fits js is h.1))
 after_same e index r fits [] (i ∷ is) h = absurd h
 after_same e index r fits (j ∷ js) [] h = absurd h
 
 -- all replies of a route so far, before their encoding
 abbrev pub all_replies : Terms → (index : ℕ) → List Item → List Reply
 all_replies e index [] = []
-all_replies e index (item ∷ items) = all_replies e index items ++ replies_to e index item (after e index items)
+all_replies e index (item ∷ items) = all_replies e index items ++ replies_to e index item (route_before e index item items)
 
 pub all_same : (e : Terms) (index : ℕ) (r : Change) (fits : has_secured_role e ≡ true → r.secured ≡ true) (js is : List Item)
     → AreChanged r js is → all_replies e index js ≡ map (changed_reply r) (all_replies e index is)
 all_same e index r fits [] [] h = refl
 all_same e index r fits (j ∷ js) (i ∷ is) h =
-    ap (λ xs. xs ++ replies_to e index j (after e index js)) (all_same e index r fits js is h.1)
+    ap (λ xs. xs ++ replies_to e index j (route_before e index j js)) (all_same e index r fits js is h.1)
     ∙ ap (λ xs. map (changed_reply r) (all_replies e index is) ++ xs)
-    (replies_same e index r fits j i (after e index js) (after e index is) h.0 (after_same e index r fits js is h.1))
-    ∙ sym (map-append (changed_reply r) (all_replies e index is) (replies_to e index i (after e index is)))
+    (replies_same e index r fits j i (route_before e index j js) (route_before e index i is) h.0
+    (before_same e r j i (after e index js) (after e index is) h.0 (after_same e index r fits js is h.1)))
+    ∙ sym (map-append (changed_reply r) (all_replies e index is) (replies_to e index i (route_before e index i is)))
 all_same e index r fits [] (i ∷ is) h = absurd h
 all_same e index r fits (j ∷ js) [] h = absurd h

@@ -16,7 +16,7 @@ use Rattle.srt_route.specs.Past.{is_shutdown, ToPublisher, ToSubscriber}
 use Rattle.srt_route.specs.RouteKeys.{brought_in, cookie_in, has_secured_role}
 use Rattle.srt_route.specs.Route.{info_of}
 use Rattle.srt_route.specs.Route.{Output, Answers, AnswersWithKeys, Says, Ends, Responds, SaysWithKeys, Reply, output_text}
-use Rattle.srt_route.specs.Route.{sent, concludes, after, replies_to, reply, solo}
+use Rattle.srt_route.specs.Route.{sent, concludes, replies_to, reply, solo}
 use Rattle.srt_route.specs.Shifted.{shifted, shifted_body, shifted_reading, renumbered, renumbered_datagram, renumbered_item}
 use Rattle.srt_route.specs.Shifted.{restamped_datagram, restamped_item, moved_item}
 use Rattle.srt_route.specs.ShiftLaws.{restamped_reading}
@@ -33,13 +33,14 @@ use Rattle.srt_route.proofs.renumbering.Relabelled.{Change, IsChangedReading, Is
 use Rattle.srt_route.proofs.renumbering.Relabelled.{changed_output, changed_reply, all_replies, all_same}
 use Rattle.srt_route.proofs.model.Lists.{Each}
 use Rattle.srt_route.proofs.model.Sound.{IsSaid, all_said}
+use Rattle.srt_route.specs.Route.{route_before}
 
 -- the replies as bytes
 solo_is : (e : Terms) (index : ℕ) (items : List Item) → solo e index items ≡ map sent (all_replies e index items)
 solo_is e index [] = refl
 solo_is e index (item ∷ items) =
     ap (λ xs. xs ++ reply e index (item ∷ items)) (solo_is e index items)
-    ∙ sym (map-append sent (all_replies e index items) (replies_to e index item (after e index items)))
+    ∙ sym (map-append sent (all_replies e index items) (replies_to e index item (route_before e index item items)))
 
 abbrev same : ℕ → ℕ
 same n = n

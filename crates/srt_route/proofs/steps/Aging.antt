@@ -1,5 +1,5 @@
 -- The seats as time advances.
-use Rattle.std.proofs.Common.{◌≡◌, ℕ, ◌≤◌, Bool, true, false, not, ◌&&◌, cond, Option, None, Some, List, find, refl, sym, ap, subst, ◌∙◌, inl, inr}
+use Rattle.std.proofs.Common.{◌≡◌, ℕ, ◌≤◌, Bool, true, false, not, ◌&&◌, ◌||◌, cond, Option, None, Some, List, find, refl, sym, ap, subst, ◌∙◌, inl, inr}
 use Rattle.std.proofs.lemmas.Bool.{cases_Bool, and_parts}
 use Rattle.srt_types.specs.Terms.{Terms}
 use Rattle.srt_pub.specs.declared.session.Publisher.{Publisher}
@@ -9,7 +9,7 @@ use Rattle.srt_route.specs.declared.seat.Session.{Session as TheSession}
 use Rattle.srt_route.specs.declared.seat.Seat.{Seat}
 use Rattle.srt_route.specs.Sessions.{Session, is_draining, is_over_at, is_open_in, is_over, publishes, time_in, aged, aged_at}
 use Rattle.srt_route.specs.Buffers.{ExpiresTo}
-use Rattle.srt_route.specs.Parts.{role_of, until_of}
+use Rattle.srt_route.specs.Parts.{is_given_up, role_of, until_of}
 use Rattle.srt_route.specs.Tables.{IsSession, IsStored, IsSeat, is_stored_over, stored_aged, is_kept_subscriber}
 use Rattle.srt_route.specs.Seats.{session_passes}
 use Rattle.srt_route.proofs.model.Found.{found_passes, open_parts, Keeps, changed, while_open}
@@ -62,7 +62,9 @@ ages_marks e clock s = by (s.is_open && not (is_over s clock))
 -- a session has expired exactly if its stored session has
 pub stale_is : (e : Terms) (index clock : ℕ) (t : TheSession) (s : Session) → IsSession e index t s → is_over s clock ≡ is_stored_over clock t
 stale_is e index clock t s is =
-    ap (λ (d : Option ℕ). is_over_at d s.heard clock) (sym is.drains_is) ∙ ap (λ (n : ℕ). is_over_at (until_of t.part) n clock) (sym is.heard_is)
+    ap (λ (b : Bool). b || is_over_at s.drains s.heard clock) (sym is.given_up_is)
+    ∙ ap (λ (d : Option ℕ). is_given_up t.part || is_over_at d s.heard clock) (sym is.drains_is)
+    ∙ ap (λ (n : ℕ). is_given_up t.part || is_over_at (until_of t.part) n clock) (sym is.heard_is)
 
 -- a stored session after time advanced
 aged_stored : (e : Terms) (index clock : ℕ) (o : Option TheSession) (g : Option Session) → ((s : Session) → g ≡ Some s → s.is_open ≡ true)

@@ -29,6 +29,9 @@ use Rattle.srt_route.proofs.model.Ending.{HasEnded, closed_ended, none_open}
 use Rattle.srt_route.proofs.steps.Passing.{seat_of}
 use Rattle.srt_route.proofs.stored.Kept.{some_buffers}
 use Rattle.srt_route.proofs.stored.Stored.{some_item}
+use Rattle.srt_route.specs.Route.{route_before}
+use Rattle.srt_route.proofs.model.GivingUp.{closed_before}
+use Rattle.srt_route.specs.Route.{clock_after}
 
 -- a number that is the generation of a table's seat
 pub generation_there : (e : Terms) (index clock : ℕ) (table : Table) (ss : List Session) (slot n : ℕ) → IsTable e index clock table ss
@@ -118,8 +121,9 @@ stays_closed e index items item old new generations h is moment same queue =
     record {
       clock_is = moment ∙ ap (λ (n : ℕ). max n (moment_of item)) h.clock_is;
       stage_is =
-          subst (λ (b : Bool). Represents e index new.clock new.stage (sessions_at b e index item m)) (sym closed)
-          (subst (λ (s : Stage). Represents e index new.clock s m.sessions) (sym (same ∙ is)) (left_of e index old m generations h is));
+          subst (λ (b : Bool). Represents e index new.clock new.stage (sessions_at b e index item (route_before e index item items))) (sym closed)
+          (subst (λ (ss : List Session). Represents e index new.clock new.stage ss) (sym (closed_before e (clock_after item m) m closed))
+          (subst (λ (s : Stage). Represents e index new.clock s m.sessions) (sym (same ∙ is)) (left_of e index old m generations h is)));
       room =
           subst (λ (s : Stage). HasRoom s e.sessions new.waiting) (sym same)
           (subst (λ (w : ReplyQueue). HasRoom old.stage e.sessions w) (sym queue) h.room);

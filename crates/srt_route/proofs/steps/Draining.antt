@@ -49,7 +49,7 @@ use Rattle.srt_route.proofs.model.FileEnds.{settles, settles_marks}
 use Rattle.srt_route.proofs.model.Found.{changed, open_parts, while_open}
 use Rattle.srt_route.proofs.model.Lists.{how_many, one_more}
 use Rattle.srt_route.proofs.stored.Kept.{Becomes, KeepsBuffers, UpTo, below_seats, seat_at, seat_stays, some_buffers, table_kept}
-use Rattle.srt_route.proofs.stored.Parts.{extended_buffers, extended_records, extended_role, extended_until}
+use Rattle.srt_route.proofs.stored.Parts.{extended_buffers, extended_lasts, extended_records, extended_role, extended_until}
 use Rattle.srt_route.proofs.steps.Noting.{end_grows, grow_both, one_summed}
 use Rattle.srt_route.proofs.steps.Passing.{publisher_at}
 use Rattle.srt_route.proofs.steps.Notified.{none_notified, same_role, slot_notified}
@@ -263,6 +263,7 @@ settled_stored e index ends given clock t s None opens is drains same =
       heard_is = is.heard_is;
       drains_is = extended_until (renewed e.mode given clock) t.part ∙ ap (option_map (renewed e.mode given clock)) (is.drains_is ∙ drains) ∙ sym drains;
       file_is = extended_records (renewed e.mode given clock) t.part s.file_ended is.file_is;
+      given_up_is = extended_lasts (renewed e.mode given clock) t.part ∙ is.given_up_is;
       answer_is = is.answer_is;
     }))
 settled_stored e index ends given clock t s (Some until) opens is drains same =
@@ -289,6 +290,7 @@ settled_stored e index ends given clock t s (Some until) opens is drains same =
       heard_is = is.heard_is;
       drains_is = extended_until (renewed e.mode given clock) t.part ∙ ap (option_map (renewed e.mode given clock)) (is.drains_is ∙ drains);
       file_is = extended_records (renewed e.mode given clock) t.part s.file_ended is.file_is;
+      given_up_is = extended_lasts (renewed e.mode given clock) t.part ∙ is.given_up_is;
       answer_is = is.answer_is;
     }
 

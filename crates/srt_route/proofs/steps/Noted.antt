@@ -19,7 +19,7 @@ use Rattle.srt_route.specs.Tables.{IsSession, IsStored, IsSeat, IsTable, seat_wi
 use Rattle.srt_route.proofs.model.Changes.{is_there}
 use Rattle.srt_route.proofs.model.Found.{changed as becomes}
 use Rattle.srt_route.proofs.stored.Kept.{Becomes, KeepsBuffers}
-use Rattle.srt_route.proofs.stored.Parts.{end_buffers, end_records, end_role, end_until, saw_is}
+use Rattle.srt_route.proofs.stored.Parts.{end_buffers, end_lasts, end_records, end_role, end_until, saw_is}
 
 -- a seat that has recorded it
 abbrev pub IsNoted : (by_shutdown : Bool) → (x y : Seat) → Type 0
@@ -37,6 +37,7 @@ end_stored e index b t s is =
       heard_is = is.heard_is;
       drains_is = end_until b t.part ∙ is.drains_is;
       file_is = end_records b t.part;
+      given_up_is = end_lasts b t.part ∙ is.given_up_is;
       answer_is = is.answer_is;
     }
 

@@ -1,6 +1,6 @@
 -- What is kept of the sessions that end.
 use Rattle.std.proofs.Common.{◌≡◌, ◌≢◌, ℕ, ◌<◌, ◌≤◌, Bool, true, false, cond, Option, None, Some, List, length, map}
-use Rattle.std.proofs.Common.{find, get_or, set, not, ◌+◌, ◌&&◌}
+use Rattle.std.proofs.Common.{find, get_or, set, not, ◌+◌, ◌&&◌, ◌||◌}
 use Rattle.std.proofs.Common.{refl, sym, ap, subst, ◌∙◌, inl, inr, arith}
 use Rattle.std.specs.Prelude.{⊤}
 use Rattle.std.specs.Option.{option_map}
@@ -30,7 +30,7 @@ use Rattle.srt_route.specs.Past.{Past, Publishes, Subscribes, Agreed, has_all, h
 use Rattle.srt_route.specs.Sessions.{Session, advanced, is_active, is_draining, is_open_in, is_over_at, is_subscriber, publishes, stamp_in, terms_of, time_in}
 use Rattle.srt_route.specs.Route.{Route, drain_if, drain_of, has_whole_file, heard_as, heard_by, is_for, judged, clock_after, is_file_over}
 use Rattle.srt_route.specs.Buffers.{IsPast, IsSeated}
-use Rattle.srt_route.specs.Parts.{role_of}
+use Rattle.srt_route.specs.Parts.{role_of, until_of}
 use Rattle.srt_route.specs.PublisherBuffers.{place_of}
 use Rattle.srt_route.specs.Tables.{IsSeat, IsSession, IsStored, IsTable, buffers_of, used_buffers}
 use Rattle.srt_route.specs.Totals.{sums_to, with_end}
@@ -166,8 +166,9 @@ idle_notified e index before clock table ss old new is h =
   where
     one : (t : TheSession) (s : Session) → IsSession e index t s → idle_cause clock (Some t) ≡ idle_end clock s
     one t s stored =
-        ap (λ (d : Option ℕ). cond (is_over_at d t.heard clock) (Some (time_cause d)) None) stored.drains_is
-        ∙ ap (λ (n : ℕ). cond (is_over_at s.drains n clock) (Some (time_cause s.drains)) None) stored.heard_is
+        ap (λ (b : Bool). cond (b || is_over_at (until_of t.part) t.heard clock) (Some (time_cause (until_of t.part))) None) stored.given_up_is
+        ∙ ap (λ (d : Option ℕ). cond (s.is_given_up || is_over_at d t.heard clock) (Some (time_cause d)) None) stored.drains_is
+        ∙ ap (λ (n : ℕ). cond (s.is_given_up || is_over_at s.drains n clock) (Some (time_cause s.drains)) None) stored.heard_is
 
 pub closed_notified : (e : Terms) (index clock moment : ℕ) (table : Table) (ss : List Session) (old new : Ledger)
     → IsTable e index clock table ss → NotesEach closed_cause clock table old new

@@ -187,6 +187,7 @@ mark_stored e index true mark t s is =
       heard_is = is.heard_is;
       drains_is = is.drains_is;
       file_is = is.file_is;
+      given_up_is = is.given_up_is;
       answer_is = is.answer_is;
     }
 

@@ -1,5 +1,5 @@
 -- The SHUTDOWNs to sessions whose peers are idle.
-use Rattle.std.proofs.Common.{◌≡◌, ℕ, ◌+◌, ◌<◌, Bool, true, false, Option, None, Some, List, [], map, find, not, refl, ap, ◌∙◌}
+use Rattle.std.proofs.Common.{◌≡◌, ℕ, ◌+◌, ◌<◌, ◌||◌, Bool, true, false, Option, None, Some, List, [], map, find, not, refl, ap, ◌∙◌}
 use Rattle.std.proofs.lemmas.Bool.{and_parts}
 use Rattle.srt_types.specs.declared.shared.Callers.{Callers}
 use Rattle.srt_types.specs.declared.shared.Callers.TheVariants.{Draft, Libsrt}
@@ -10,7 +10,7 @@ use Rattle.srt_route.specs.declared.seat.Session.{Session as TheSession}
 use Rattle.srt_route.specs.declared.seat.Seat.{Seat}
 use Rattle.srt_route.specs.Sessions.{Session, is_idle, is_open_in, is_over_at, is_silent_at, publishes}
 use Rattle.srt_route.specs.Route.{Reply as Answer, sent, notified_if}
-use Rattle.srt_route.specs.Parts.{role_of, until_of}
+use Rattle.srt_route.specs.Parts.{is_given_up, role_of, until_of}
 use Rattle.srt_route.specs.Tables.{IsSeat, IsSession, IsStored, is_kept_subscriber, is_stored_over, peer_idle}
 use Rattle.srt_route.specs.Seats.{session_passes}
 use Rattle.srt_route.specs.inside.OneSession.{shutdowns_if}
@@ -27,12 +27,19 @@ notified_one e clock s = notified_if e.rules.callers (is_idle s clock) clock s
 -- a stored session's peer is idle exactly if its session's is
 idle_is : (e : Terms) (index clock : ℕ) (t : TheSession) (s : Session) → IsSession e index t s → peer_idle clock t ≡ is_idle s clock
 idle_is e index clock t s is =
-    ap (λ (d : Option ℕ). is_silent_at d t.heard clock) is.drains_is ∙ ap (λ (n : ℕ). is_silent_at s.drains n clock) is.heard_is
+    ap (λ (b : Bool). b || is_silent_at (until_of t.part) t.heard clock) is.given_up_is
+    ∙ ap (λ (d : Option ℕ). s.is_given_up || is_silent_at d t.heard clock) is.drains_is
+    ∙ ap (λ (n : ℕ). s.is_given_up || is_silent_at s.drains n clock) is.heard_is
 
 -- a session that hasn't expired isn't idle
-not_idle : (drains : Option ℕ) (heard clock : ℕ) → is_over_at drains heard clock ≡ false → is_silent_at drains heard clock ≡ false
-not_idle None heard clock h = h
-not_idle (Some until) heard clock h = refl
+not_silent : (drains : Option ℕ) (heard clock : ℕ) → is_over_at drains heard clock ≡ false → is_silent_at drains heard clock ≡ false
+not_silent None heard clock h = h
+not_silent (Some until) heard clock h = refl
+
+not_idle : (late : Bool) (drains : Option ℕ) (heard clock : ℕ) → (late || is_over_at drains heard clock) ≡ false
+    → (late || is_silent_at drains heard clock) ≡ false
+not_idle true drains heard clock h = absurd (let bad : true ≡ false = h in cc)
+not_idle false drains heard clock h = not_silent drains heard clock h
 
 -- a seat is sent what its slot is sent
 seat_notified : (e : Terms) (index clock : ℕ) (o : Option TheSession) (g : Option Session) → IsStored e index o g
@@ -69,7 +76,7 @@ pub kept_unnotified : (clock : ℕ) (callers : Callers) (o : Option TheSession) 
 kept_unnotified clock callers None kept = absurd (let bad : false ≡ true = kept in cc)
 kept_unnotified clock callers (Some t) kept =
     ap (λ (b : Bool). shutdowns_if callers b clock (Some t))
-    (not_idle (until_of t.part) t.heard clock
+    (not_idle (is_given_up t.part) (until_of t.part) t.heard clock
     (not_true (is_stored_over clock t) (and_parts (not (is_stored_over clock t)) (not (publishes (role_of t.part))) kept).0))
     ∙ by callers
   where

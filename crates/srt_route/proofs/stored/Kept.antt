@@ -40,6 +40,7 @@ still_stored e index t s is_open past is =
       heard_is = is.heard_is;
       drains_is = is.drains_is;
       file_is = is.file_is;
+      given_up_is = is.given_up_is;
       answer_is = is.answer_is;
     }
 

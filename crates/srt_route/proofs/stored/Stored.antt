@@ -36,7 +36,7 @@ use Rattle.srt_route.proofs.model.Found.{found_passes, any_is, found_in_place, f
 use Rattle.srt_route.proofs.model.Found.{of_parts, Keeps, changed, while_open}
 use Rattle.srt_route.proofs.model.TakeOver.{AreApart, AreInside, KeepsMarks, one_if, counted, count_at, count_next, counted_slots}
 use Rattle.srt_route.proofs.stored.Kept.{Becomes, KeepsBuffers, some_buffers, seat_at}
-use Rattle.srt_route.proofs.stored.Parts.{after_buffers, after_records, after_role, after_until}
+use Rattle.srt_route.proofs.stored.Parts.{after_buffers, after_lasts, after_records, after_role, after_until}
 
 -- a list in which something is found, or that is long enough, has an element
 pub some_found : {A : Type 0} (p : A → Bool) (xs : List A) (i : ℕ) → position p xs ≡ Some i → A
@@ -222,7 +222,7 @@ has_expired_open clock s = s.is_open && is_over s clock
 pub expired_among : (e : Terms) (index before clock : ℕ) (table : Table) (ss : List Session)
     → IsTable e index before table ss → count_by (has_expired clock) table.seats.items ≡ how_many (has_expired_open clock) ss
 expired_among e index before clock table ss are =
-    among e index before table ss (is_stored_over clock) (has_expired_open clock) (λ t s is o. rw (o, is.drains_is, is.heard_is) refl)
+    among e index before table ss (is_stored_over clock) (has_expired_open clock) (λ t s is o. rw (o, is.drains_is, is.heard_is, is.given_up_is) refl)
     (λ s h. (and_parts s.is_open (is_over s clock) h).0) are
 
 -- one more is counted
@@ -381,6 +381,7 @@ heard_stored e index clock t s is =
       heard_is = refl;
       drains_is = is.drains_is;
       file_is = is.file_is;
+      given_up_is = is.given_up_is;
       answer_is = is.answer_is;
     }
 
@@ -643,6 +644,7 @@ took_becomes drains e index clock q ss peer packet at x y t s here count stored 
           heard_is = refl;
           drains_is = after_until drains t.part stays (λ no_one. never (ap publishes (sym here.session_is.role_is) ∙ no_one));
           file_is = after_records drains t.part s.file_ended here.session_is.file_is;
+          given_up_is = after_lasts drains t.part ∙ here.session_is.given_up_is;
           answer_is = here.session_is.answer_is;
         })
 

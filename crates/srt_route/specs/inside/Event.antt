@@ -6,7 +6,7 @@ use Rattle.srt_route.specs.declared.ledger.Ledger.{Ledger}
 use Rattle.srt_route.specs.declared.reply_queue.ReplyQueue.{ReplyQueue}
 use Rattle.srt_route.specs.declared.table.Table.{Table}
 use Rattle.srt_route.specs.declared.route_keys.RouteKeys.{RouteKeys}
-use Rattle.srt_route.specs.Route.{Route, clock_after, replies_to, sent, with_input}
+use Rattle.srt_route.specs.Route.{Route, clock_after, found_by, replies_to, sent, with_input}
 use Rattle.srt_route.specs.StoredKeys.{AreKeys}
 use Rattle.srt_route.specs.Tables.{IsTable}
 use Rattle.srt_route.specs.Ends.{KeepsEnds, kept_of}
@@ -24,24 +24,25 @@ pub record IsBefore (e : Terms) (index clock : ℕ) (item : Item) (table : Table
 abbrev pub Passes : (clock : ℕ) → Item → (old new : Table) → RouteKeys → Type 0
 Passes clock item old new keys =
     (e : Terms) (index : ℕ) (m : Route)
-    → IsBefore e index clock item old keys m → IsTable e index clock new (with_input e index item m).sessions
+    → IsBefore e index clock item old keys m → IsTable e index clock new (with_input e index item (found_by e item m)).sessions
 
 -- the keys are those after the item
 abbrev pub KeysPass : (clock : ℕ) → Item → Table → (old new : RouteKeys) → Type 0
 KeysPass clock item table old new =
-    (e : Terms) (index : ℕ) (m : Route) → IsBefore e index clock item table old m → AreKeys e new (with_input e index item m).keys
+    (e : Terms) (index : ℕ) (m : Route) → IsBefore e index clock item table old m → AreKeys e new (with_input e index item (found_by e item m)).keys
 
 -- the replies to the item are queued
 abbrev pub Replies : (clock : ℕ) → Item → Table → RouteKeys → (before after : ReplyQueue) → Type 0
 Replies clock item table keys before after =
-    (e : Terms) (index : ℕ) (m : Route) → IsBefore e index clock item table keys m → Queues before after (map sent (replies_to e index item m))
+    (e : Terms) (index : ℕ) (m : Route)
+    → IsBefore e index clock item table keys m → Queues before after (map sent (replies_to e index item (found_by e item m)))
 
 -- the sessions that end are kept
 abbrev pub Ends : (clock : ℕ) → Item → Table → RouteKeys → (old new : Ledger) → Type 0
 Ends clock item table keys old new =
-    (e : Terms) (index : ℕ) (m : Route) → IsBefore e index clock item table keys m → KeepsEnds e index item m (kept_of old) (kept_of new)
+    (e : Terms) (index : ℕ) (m : Route) → IsBefore e index clock item table keys m → KeepsEnds e index item (found_by e item m) (kept_of old) (kept_of new)
 
 -- openings and refusals are counted
 abbrev pub Counts : (clock : ℕ) → Item → Table → RouteKeys → (old new : Ledger) → Type 0
 Counts clock item table keys old new =
-    (e : Terms) (index : ℕ) (m : Route) → IsBefore e index clock item table keys m → tally_of new ≡ tally_after e index item m (tally_of old)
+    (e : Terms) (index : ℕ) (m : Route) → IsBefore e index clock item table keys m → tally_of new ≡ tally_after e index item (found_by e item m) (tally_of old)

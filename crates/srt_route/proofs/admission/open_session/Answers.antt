@@ -7,9 +7,9 @@ use Rattle.srt_route.specs.Sessions.{Session, publishes, agreed, answer_of, gene
 use Rattle.srt_route.specs.Route.{Answers, sent, session_opened}
 use Rattle.srt_route.proofs.stored.Kept.{some_buffers, seat_at}
 use Rattle.srt_route.proofs.stored.Publishers.{unused}
-use Rattle.srt_route.specs.Parts.{RecordsEnd, buffers_used, role_of, until_of}
+use Rattle.srt_route.specs.Parts.{RecordsEnd, buffers_used, is_given_up, role_of, until_of}
 use Rattle.srt_route.specs.declared.part.Part.{Part}
-use Rattle.srt_route.proofs.stored.Parts.{opened_buffers, opened_records, opened_role, opened_until}
+use Rattle.srt_route.proofs.stored.Parts.{opened_buffers, opened_lasts, opened_records, opened_role, opened_until}
 use Rattle.srt_route.proofs.steps.Starting.{buffer_fits, has_begun, session_stored}
 use Rattle.srt_route.proofs.admission.open_session.Goals as goal
 
@@ -51,6 +51,7 @@ returns c e index ss h agrees first free few =
             heard_is = refl;
             drains_is = ap until_of c.opened.ensures ∙ opened_until c.args.c.role which;
             file_is = subst (λ (p : Part). RecordsEnd p false) (sym c.opened.ensures) (opened_records c.args.c.role which);
+            given_up_is = ap is_given_up c.opened.ensures ∙ opened_lasts c.args.c.role which;
             answer_is = answer;
           })
           free first free_buffers;

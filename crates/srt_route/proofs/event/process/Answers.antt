@@ -1,6 +1,6 @@
 use Rattle.std.proofs.Common.{◌≤◌, ◌∙◌, length, map, arith}
 use Rattle.srt_types.specs.Items.{input_of}
-use Rattle.srt_route.specs.Route.{after_delivery, heard_as, judged, taken}
+use Rattle.srt_route.specs.Route.{after_delivery, found_by, heard_as, judged, taken}
 use Rattle.srt_route.specs.Sessions.{advanced}
 use Rattle.srt_route.specs.inside.Delivery.{after_publisher, changed}
 use Rattle.srt_route.specs.Ends.{kept_of}
@@ -11,16 +11,19 @@ use Rattle.srt_route.proofs.steps.Noting.{grow_both, sums_grow}
 use Rattle.srt_route.proofs.steps.Notified.{event_kept, files_notified, idle_notified}
 use Rattle.srt_route.proofs.steps.Tallied.{step_tally, tally_stays}
 use Rattle.srt_route.proofs.event.process.Goals as goal
+use Rattle.srt_route.proofs.steps.GivingUp.{given_before}
 
 pub returns-clause-table : goal.returns-clause-table
-returns-clause-table c e index m h =
+returns-clause-table c e index n g =
     let clock = c.args.event.clock in
     let item = input_of c.args.event.item.now in
+    let m = found_by e item n in
+    let h = given_before e index clock item n c.args.table.now c.give_up.new.table c.args.keys.now g c.give_up.ensures in
     let later : m.clock ≤ clock = omega (arith, h.clock_is) in
     let aged_is = c.advance.ensures.table e index m.clock m.sessions h.table_is later c.requires.early in
     let did = c.dispatch_secured.ensures.dispatched e index (advanced e clock m.sessions) m.keys aged_is h.keys_are in
     let it =
-    stepped e index m.clock clock m.sessions (taken_at e index clock item m) (judged_keys e index clock item m) c.args.table.now
+    stepped e index m.clock clock m.sessions (taken_at e index clock item m) (judged_keys e index clock item m) c.give_up.new.table
     c.dispatch_secured.new.table c.deliver_and_settle.new.table c.transmit_publishers.new.table c.transmit_subscribers.new.table
     c.dispatch_secured.new.keys c.transmit_subscribers.new.keys
     c.args.waiting.now c.advance.new.waiting c.dispatch_secured.new.waiting c.transmit_publishers.new.waiting c.transmit_subscribers.new.waiting
@@ -29,14 +32,16 @@ returns-clause-table c e index m h =
     passed_table e index clock item m c.transmit_subscribers.new.table h.is_open h.clock_is it.last_is
 
 pub returns-clause-keys : goal.returns-clause-keys
-returns-clause-keys c e index m h =
+returns-clause-keys c e index n g =
     let clock = c.args.event.clock in
     let item = input_of c.args.event.item.now in
+    let m = found_by e item n in
+    let h = given_before e index clock item n c.args.table.now c.give_up.new.table c.args.keys.now g c.give_up.ensures in
     let later : m.clock ≤ clock = omega (arith, h.clock_is) in
     let aged_is = c.advance.ensures.table e index m.clock m.sessions h.table_is later c.requires.early in
     let did = c.dispatch_secured.ensures.dispatched e index (advanced e clock m.sessions) m.keys aged_is h.keys_are in
     let it =
-    stepped e index m.clock clock m.sessions (taken_at e index clock item m) (judged_keys e index clock item m) c.args.table.now
+    stepped e index m.clock clock m.sessions (taken_at e index clock item m) (judged_keys e index clock item m) c.give_up.new.table
     c.dispatch_secured.new.table c.deliver_and_settle.new.table c.transmit_publishers.new.table c.transmit_subscribers.new.table
     c.dispatch_secured.new.keys c.transmit_subscribers.new.keys
     c.args.waiting.now c.advance.new.waiting c.dispatch_secured.new.waiting c.transmit_publishers.new.waiting c.transmit_subscribers.new.waiting
@@ -45,14 +50,16 @@ returns-clause-keys c e index m h =
     passed_keys e index clock item m c.transmit_subscribers.new.keys h.is_open h.clock_is it.keys_are
 
 pub returns-clause-replies : goal.returns-clause-replies
-returns-clause-replies c e index m h =
+returns-clause-replies c e index n g =
     let clock = c.args.event.clock in
     let item = input_of c.args.event.item.now in
+    let m = found_by e item n in
+    let h = given_before e index clock item n c.args.table.now c.give_up.new.table c.args.keys.now g c.give_up.ensures in
     let later : m.clock ≤ clock = omega (arith, h.clock_is) in
     let aged_is = c.advance.ensures.table e index m.clock m.sessions h.table_is later c.requires.early in
     let did = c.dispatch_secured.ensures.dispatched e index (advanced e clock m.sessions) m.keys aged_is h.keys_are in
     let it =
-    stepped e index m.clock clock m.sessions (taken_at e index clock item m) (judged_keys e index clock item m) c.args.table.now
+    stepped e index m.clock clock m.sessions (taken_at e index clock item m) (judged_keys e index clock item m) c.give_up.new.table
     c.dispatch_secured.new.table c.deliver_and_settle.new.table c.transmit_publishers.new.table c.transmit_subscribers.new.table
     c.dispatch_secured.new.keys c.transmit_subscribers.new.keys
     c.args.waiting.now c.advance.new.waiting c.dispatch_secured.new.waiting c.transmit_publishers.new.waiting c.transmit_subscribers.new.waiting
@@ -61,9 +68,11 @@ returns-clause-replies c e index m h =
     queued_replies e index clock item m c.args.waiting.now c.transmit_subscribers.new.waiting h.is_open h.clock_is it.said
 
 pub returns-clause-ends : goal.returns-clause-ends
-returns-clause-ends c e index m h =
+returns-clause-ends c e index n g =
     let clock = c.args.event.clock in
     let item = input_of c.args.event.item.now in
+    let m = found_by e item n in
+    let h = given_before e index clock item n c.args.table.now c.give_up.new.table c.args.keys.now g c.give_up.ensures in
     let later : m.clock ≤ clock = omega (arith, h.clock_is) in
     let aged_is = c.advance.ensures.table e index m.clock m.sessions h.table_is later c.requires.early in
     let did = c.dispatch_secured.ensures.dispatched e index (advanced e clock m.sessions) m.keys aged_is h.keys_are in
@@ -76,7 +85,7 @@ returns-clause-ends c e index m h =
       kept_after_time = kept_of c.advance.new.ledger;
       kept_after_item = kept_of c.dispatch_secured.new.ledger;
       kept_after_delivery = kept_of c.deliver_and_settle.new.ledger;
-      by_time = idle_notified e index m.clock clock c.args.table.now m.sessions c.args.ledger.now c.advance.new.ledger h.table_is
+      by_time = idle_notified e index m.clock clock c.give_up.new.table m.sessions c.args.ledger.now c.advance.new.ledger h.table_is
           c.advance.ensures.ended;
       by_item = did.ends;
       by_delivery = c.deliver_and_settle.ensures.ends e index ss did.table_is;
@@ -86,9 +95,11 @@ returns-clause-ends c e index m h =
     })
 
 pub returns-clause-tally : goal.returns-clause-tally
-returns-clause-tally c e index m h =
+returns-clause-tally c e index n g =
     let clock = c.args.event.clock in
     let item = input_of c.args.event.item.now in
+    let m = found_by e item n in
+    let h = given_before e index clock item n c.args.table.now c.give_up.new.table c.args.keys.now g c.give_up.ensures in
     let later : m.clock ≤ clock = omega (arith, h.clock_is) in
     let aged_is = c.advance.ensures.table e index m.clock m.sessions h.table_is later c.requires.early in
     let did = c.dispatch_secured.ensures.dispatched e index (advanced e clock m.sessions) m.keys aged_is h.keys_are in
@@ -102,8 +113,8 @@ returns-clause-sums c =
     grow_both c.args.ledger.now.totals c.deliver_and_settle.new.ledger.totals c.transmit_subscribers.new.ledger.totals
     (grow_both c.args.ledger.now.totals c.dispatch_secured.new.ledger.totals c.deliver_and_settle.new.ledger.totals
     (grow_both c.args.ledger.now.totals c.advance.new.ledger.totals c.dispatch_secured.new.ledger.totals
-    (sums_grow (cause_at (idle_cause c.args.event.clock) c.args.table.now.seats.items) (entry_of c.advance.new.ledger)
-    (length c.args.table.now.seats.items) c.args.ledger.now.totals c.advance.new.ledger.totals c.advance.ensures.ended.sums)
+    (sums_grow (cause_at (idle_cause c.args.event.clock) c.give_up.new.table.seats.items) (entry_of c.advance.new.ledger)
+    (length c.give_up.new.table.seats.items) c.args.ledger.now.totals c.advance.new.ledger.totals c.advance.ensures.ended.sums)
     c.dispatch_secured.ensures.sums)
     c.deliver_and_settle.ensures.sums)
     c.transmit_subscribers.ensures.sums

@@ -3,7 +3,7 @@ use Rattle.std.specs.Prelude.{◌∷◌}
 use Rattle.srt_types.specs.Items.{input_of}
 use Rattle.srt_route.specs.declared.seat.Seat.{Seat}
 use Rattle.srt_route.specs.Ends.{kept_of}
-use Rattle.srt_route.specs.Route.{after, closes}
+use Rattle.srt_route.specs.Route.{after, closes, route_before}
 use Rattle.srt_route.specs.Tallies.{tally_of}
 use Rattle.srt_route.specs.Written.{written}
 use Rattle.srt_route.proofs.steps.Closing.{closes_down, comes_before, generations_left, given_back, room_of, stays_closed, was_closed}
@@ -90,12 +90,12 @@ returns-in-Closed-clause-stands c e index items h =
 
 pub returns-in-Closed-clause-ends : goal.returns-in-Closed-clause-ends
 returns-in-Closed-clause-ends c e index items h =
-    closed_kept e index (input_of c.args.item.now) (after e index items) (kept_of c.args.self.now.ledger)
+    closed_kept e index (input_of c.args.item.now) (route_before e index (input_of c.args.item.now) items) (kept_of c.args.self.now.ledger)
     (was_closed e index c.args.self.now (after e index items) _ h c.in-Closed.is)
 
 pub returns-in-Closed-clause-tally : goal.returns-in-Closed-clause-tally
 returns-in-Closed-clause-tally c e index items h =
-    closed_tally e index (input_of c.args.item.now) (after e index items) (tally_of c.args.self.now.ledger)
+    closed_tally e index (input_of c.args.item.now) (route_before e index (input_of c.args.item.now) items) (tally_of c.args.self.now.ledger)
     (was_closed e index c.args.self.now (after e index items) _ h c.in-Closed.is)
 
 pub returns-in-Closed-clause-sums : goal.returns-in-Closed-clause-sums
