@@ -289,6 +289,7 @@ def many_strangers(_):
 REQUEST_PASSPHRASE = "hold the line please"
 # The contents of a KMREQ with a key of 24 bytes, wrapped by the passphrase of players.
 PLAYER_KEYS = bytes.fromhex("12202901000000000200020000000406ffeeddccbbaa9988776655443322110055d5c0a04098090aa97287b4eba8443d46d8ba88121ed8187cffdf8e770d9860")
+GIVEN_UP_AFTER = 5.0
 
 
 def for_players(name="studio", **others):
@@ -462,21 +463,24 @@ def player_is_refused(_):
         expect(not [it for it in run.texts() if " opened" in it], f"sessions were opened: {run.texts()}")
 
 
-@case("a player that doesn't confirm its key is sent no payload; one with the same KMREQ has another key")
+@case("a player that doesn't confirm its key is sent no payload, and ends after five seconds; one with the same KMREQ has another key")
 def never_confirms(_):
     over = threading.Event()
     with Run([for_players()]) as run:
         run.is_up()
         publisher = Publisher(run.address, publish("studio"), endless(over), 10_000)
         players = [KeyedSubscriber(run.address, "studio", confirms) for confirms in (True, True, False)]
+        began = now()
         start_all(*players, publisher)
         silent = players[2]
-        time.sleep(3)
+        expect(silent.shut.wait(GIVEN_UP_AFTER + 3), "who doesn't confirm isn't told of an end")
+        spent = (now() - began) / 1e6
+        expect(spent >= GIVEN_UP_AFTER, f"it ended after {spent:.1f} s")
         expect(not silent.got and len(silent.announced) >= 20, f"it was sent {len(silent.got)} payloads and {len(silent.announced)} KMREQs")
         over.set()
         expect(publisher.wait_delivered(10), "the publisher's window didn't become free")
         time.sleep(0.5)
-        closed(publisher, *players)
+        closed(publisher, *players[:2])
     messages = [set(it.announced) for it in players]
     expect(all(len(it) == 1 for it in messages) and len(set.union(*messages)) == 3, f"the keys of the players are {messages}")
     first, second = ({body for body, _ in it.got} for it in players[:2])

@@ -9,7 +9,7 @@ from rules.hub import Hub
 from rules.numbers import MILLISECOND
 from rules.publisher import FULL_ACK_AFTER, Publisher
 from rules.session import IDLE_AFTER, KEEPALIVE_AFTER, Session
-from rules.session_keys import ANNOUNCED_AGAIN, GROUP_AHEAD, ROUTE_AHEAD
+from rules.session_keys import ANNOUNCED_AGAIN, GIVEN_UP_AFTER, GROUP_AHEAD, ROUTE_AHEAD
 from rules.subscriber import CREDIT_AFTER, LEAST_THRESHOLD, RESENDS_UNTIL, Subscriber
 
 
@@ -47,9 +47,9 @@ def of_publisher(it: Publisher) -> Iterator[int]:
 
 def of_subscriber(it: Subscriber) -> Iterator[int]:
     """When all in flight is sent again, until when it may be, when a resend gets its credit, when the oldest payload is too old, and when a
-    key is announced again."""
+    key is announced again or the session given up."""
     if it.keys is not None and it.keys.announced:
-        yield it.keys.announced[-1] + ANNOUNCED_AGAIN
+        yield from (it.keys.announced[-1] + ANNOUNCED_AGAIN, it.keys.announced[0] + GIVEN_UP_AFTER)
     wait = it.resend_wait()
     if wait is not None and it.front < it.next:
         yield max(it.data_sent, it.growth) + wait

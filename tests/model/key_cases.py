@@ -41,12 +41,13 @@ REQUESTED = (
     *of_role("request"), "key announced with the opening", "key announced again", "key announced again after just 50 ms", "key confirmed",
     "KMRSP that confirms nothing", "KMRSP after the key is confirmed", "KMREQ of a subscriber ignored",
     *(f"{mode}: {it}" for mode in MODES for it in ("payload held", "held payloads go", "payload under a key of its own", "payload again under it")),
-    "live: held payload expired", "buffer: payloads held back for one whose key isn't confirmed", "KMREQ behind a DROPREQ", "KMREQ and a KEEPALIVE",
+    "live: held payload expired", "buffer: payloads held back for one whose key isn't confirmed", "session with keys is told of its end: given up",
+    "session with keys ends as others do: given up", "given up and silent at once", "KMREQ behind a DROPREQ", "KMREQ and a KEEPALIVE",
     "key of a session that isn't the first",
 )
 KINDS_BY_KEY = {"publish_passphrase": PUBLISHED, "request_passphrase": REQUESTED}
 # Those that only callers with libsrt, or only routes that follow the draft, can reach.
-LIBSRT_KINDS = ("while it drains: a KMREQ ignored",)
+LIBSRT_KINDS = ("while it drains: a KMREQ ignored", "session with keys is told of its end: given up")
 
 
 class Was(NamedTuple):
@@ -150,7 +151,7 @@ def of_opened(before: Before) -> Iterator[str]:
 
 def of_packet(before: Before, item: Datagram, packet: Packet) -> Iterator[str]:
     for session, its in before.sessions.items():
-        is_its = session.opening.identity == packet.destination and session.opening.peer == item.peer and session.end is not End.IDLE
+        is_its = session.opening.identity == packet.destination and session.opening.peer == item.peer and session.end not in (End.IDLE, End.GIVEN_UP)
         if not is_its:
             continue
         if isinstance(session, Publisher) and session.keys:
@@ -217,6 +218,10 @@ def of_confirmation(it: Subscriber, its: Was, packet: Control) -> Iterator[str]:
 def of_subscriber(before: Before, it: Subscriber, its: Was) -> Iterator[str]:
     assert it.keys
     now, mode = before.route.clock, it.entry.mode.value
+    if it.end is End.GIVEN_UP:
+        yield f"session with keys {'is told of its end' if it.entry.is_libsrt else 'ends as others do'}: given up"
+    if it.end is End.IDLE and its.announced and now - its.announced[0] >= 5_000_000:
+        yield "given up and silent at once"
     sent = sent_to(before, it)
     kinds = [packet.kind for packet in sent if isinstance(packet, Control)]
     data = [packet for packet in sent if isinstance(packet, Data)]

@@ -11,8 +11,7 @@ from rules.ciphers import KEY_LENGTHS, ciphered
 from rules.key_material import Which
 from rules.numbers import SECOND
 from rules.publisher import LIGHT_ACK_AFTER
-from rules.session import IDLE_AFTER
-from rules.session_keys import ANNOUNCED_AGAIN, BAD_SECRET, GROUP_AHEAD, NO_SECRET, ROUTE_AHEAD
+from rules.session_keys import ANNOUNCED_AGAIN, BAD_SECRET, GIVEN_UP_AFTER, GROUP_AHEAD, NO_SECRET, ROUTE_AHEAD
 from rules.subscriber import Subscriber as SessionOfSubscriber
 from stories import BOTH, LATER, WHOLE_MESSAGE, Story, story_of
 
@@ -278,25 +277,25 @@ def confirms_wrongly(it: KeyStory) -> None:
     it.confirms(subscriber)
 
 
-def never_confirms(it: KeyStory) -> None:
-    """Who doesn't confirm is sent its key again and again, and no payload; who says nothing ends after five seconds."""
+def gives_up(it: KeyStory) -> None:
+    """Who doesn't confirm is given up after five seconds; who says nothing ends at the same time."""
     publisher, subscriber, silent = it.publisher(), it.subscriber(), it.subscriber(1)
     it.data(publisher, 0, 3, early=-2 * SECOND)
     opened = it.session(silent).opening.moment
     it.world.now += OFTEN
     for beside in (-1, 0):
-        wait_until(it, opened + IDLE_AFTER + beside, publisher, subscriber)
+        wait_until(it, opened + GIVEN_UP_AFTER + beside, publisher, subscriber)
     it.calls(subscriber)
     it.confirms(subscriber)
-    wait_until(it, it.world.now + 2 * IDLE_AFTER, publisher, subscriber)
+    wait_until(it, it.world.now + 2 * GIVEN_UP_AFTER, publisher, subscriber)
 
 
-story_of(KeyStory, OF_SUBSCRIBERS, *BOTH, more=REQUEST)(never_confirms)
+story_of(KeyStory, OF_SUBSCRIBERS, *BOTH, more=REQUEST)(gives_up)
 
 
 @story_of(KeyStory, OF_SUBSCRIBERS, *BOTH, more=REQUEST, callers="draft")
-def never_confirms_by_the_draft(it: KeyStory) -> None:
-    never_confirms(it)
+def gives_up_without_a_word(it: KeyStory) -> None:
+    gives_up(it)
 
 
 @story_of(KeyStory, OF_SUBSCRIBERS, "live", more=REQUEST)
@@ -316,7 +315,7 @@ def expires_while_it_is_held(it: KeyStory) -> None:
 
 @story_of(KeyStory, OF_SUBSCRIBERS, "buffer", more=REQUEST)
 def holds_others_back(it: KeyStory) -> None:
-    """In buffer mode one whose key isn't confirmed holds the others back when its window is full."""
+    """In buffer mode one whose key isn't confirmed holds the others back when its window is full, until it is given up."""
     publisher, first, second = it.publisher(), it.subscriber(), it.subscriber(1)
     it.confirms(first)
     it.data(publisher, 0, 20)
@@ -324,7 +323,7 @@ def holds_others_back(it: KeyStory) -> None:
     it.data(publisher, 20, 20)
     it.acks(first, 32)
     opened = it.session(second).opening.moment
-    wait_until(it, opened + IDLE_AFTER, publisher, first, second)
+    wait_until(it, opened + GIVEN_UP_AFTER, publisher, first, second)
     it.data(publisher, 40, 2)
 
 

@@ -25,6 +25,7 @@ class End(Enum):
     CLOSED = "its route was closed"
     DRAINING_TOO_LONG = "what it had brought wasn't delivered in time after its SHUTDOWN"
     FILE_ENDED = "the end of the file"
+    GIVEN_UP = "its key wasn't confirmed for five seconds"
 
 
 @dataclass

@@ -9,7 +9,7 @@ from typing import NamedTuple
 from . import ciphers, key_material
 from .cookies import Peer
 from .key_material import Keys, Message, Which
-from .numbers import MILLISECOND
+from .numbers import MILLISECOND, SECOND
 from .packets import Data
 
 NO_SECRET = bytes.fromhex("03000000")
@@ -21,6 +21,7 @@ FIRST_POOL = bytes(32)
 PAYLOADS_OF_KEY = 1 << 24
 ANNOUNCED_BEFORE = 1 << 16  # So many payloads before its first one a key is announced.
 ANNOUNCED_AGAIN = 50 * MILLISECOND
+GIVEN_UP_AFTER = 5 * SECOND
 
 
 class DerivationLimit:
@@ -126,6 +127,10 @@ class SubscriberKeys:
         if self.announced and contents == self.message(self.confirmed):
             self.confirmed += 1
             self.announced = []
+
+    def is_given_up(self, now: int) -> bool:
+        """Whether a key wasn't confirmed for five seconds."""
+        return bool(self.announced) and now - self.announced[0] >= GIVEN_UP_AFTER
 
     def holds(self, index: int) -> bool:
         """Whether the payload with this index waits until its key is confirmed."""

@@ -8,7 +8,7 @@ from typing import NamedTuple
 from . import losses
 from .numbers import SECOND, Run, in_window
 from .packets import KMREQ, KMRSP, Control, Kind, Packet, message_number, sequence_word, words, words_of, write_data
-from .session import Opening, Session
+from .session import End, Opening, Session
 from .session_keys import SubscriberKeys
 
 HEADERS = 44
@@ -83,6 +83,11 @@ class Subscriber(Session):
     def lost(self) -> list[int]:
         """The numbers in flight that were marked as lost since they were sent last, ascending."""
         return sorted(it for it in self.marked if it >= self.front)
+
+    def end_of_silence(self, now: int) -> End | None:
+        """It also ends if its key wasn't confirmed."""
+        is_given_up = self.keys is not None and self.keys.is_given_up(now)
+        return super().end_of_silence(now) or (End.GIVEN_UP if is_given_up else None)
 
     # ---- what is fed ----
 
