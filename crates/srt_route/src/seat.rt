@@ -72,64 +72,54 @@ impl Seat {
     fn holds(&self, peer: Peer, caller: u32) -> bool
         ensures { result ≡ holds peer caller self.now }
     {
-        match &self.session {
-            Some(session) => {
-                is_same_peer(session.peer, peer)
-                    && session.caller == caller
-                    && !session.part.drains()
-            }
-            None => false,
-        }
+        self.session.as_ref().is_some_and(|session| {
+            is_same_peer(session.peer, peer) && session.caller == caller && !session.part.drains()
+        })
     }
 
     /// Whether a publisher's session is open here.
     pub fn has_publisher(&self) -> bool
         ensures { result ≡ has_publisher self.now }
     {
-        match &self.session {
-            Some(session) => session.part.publishes(),
-            None => false,
-        }
+        self.session
+            .as_ref()
+            .is_some_and(|session| session.part.publishes())
     }
 
     /// Whether a session of this address's site is open here, whatever the port.
     fn has_address(&self, peer: Peer) -> bool
         ensures { result ≡ has_address peer.ip self.now }
     {
-        match &self.session {
-            Some(session) => is_same_site(&session.peer.ip, &peer.ip),
-            None => false,
-        }
+        self.session
+            .as_ref()
+            .is_some_and(|session| is_same_site(&session.peer.ip, &peer.ip))
     }
 
     /// Whether a subscriber's session is open here.
     pub fn has_subscriber(&self) -> bool
         ensures { result ≡ has_subscriber self.now }
     {
-        match &self.session {
-            Some(session) => !session.part.publishes(),
-            None => false,
-        }
+        self.session
+            .as_ref()
+            .is_some_and(|session| !session.part.publishes())
     }
 
     /// Returns the publisher buffers that the session here uses; the first if none is open.
     pub fn used_buffers(&self) -> PublisherBuffers
         ensures { result ≡ used_buffers self.now }
     {
-        match &self.session {
-            Some(session) => session.part.buffers(),
-            None => PublisherBuffers::First,
-        }
+        self.session
+            .as_ref()
+            .map_or(PublisherBuffers::First, |session| session.part.buffers())
     }
 
     /// Whether a publisher's session with these buffers is open here.
     fn publishes_from(&self, which: PublisherBuffers) -> bool
         ensures { result ≡ publishes_from which self.now }
     {
-        match &self.session {
-            Some(session) => session.part.publishes_from(which),
-            None => false,
-        }
+        self.session
+            .as_ref()
+            .is_some_and(|session| session.part.publishes_from(which))
     }
 
     fn is_vacant(&self) -> bool
@@ -161,12 +151,9 @@ impl Seat {
     pub fn is_for(&self, peer: Peer, dest: u32) -> bool
         ensures { result ≡ session_passes (is_stored_for peer dest) self.now.session }
     {
-        match &self.session {
-            Some(session) => {
-                is_same_peer(session.peer, peer) && session.id == dest && !session.part.drains()
-            }
-            None => false,
-        }
+        self.session.as_ref().is_some_and(|session| {
+            is_same_peer(session.peer, peer) && session.id == dest && !session.part.drains()
+        })
     }
 
     /// After a packet for the session: closes it if `ends`, else updates the time at which the peer was last heard. If
@@ -188,20 +175,18 @@ impl Seat {
     pub fn speaks(&self) -> bool
         ensures { result ≡ has_speaker self.now }
     {
-        match &self.session {
-            Some(session) => session.part.speaks(),
-            None => false,
-        }
+        self.session
+            .as_ref()
+            .is_some_and(|session| session.part.speaks())
     }
 
     /// Whether a session drains here.
     fn drains(&self) -> bool
         ensures { result ≡ has_draining self.now }
     {
-        match &self.session {
-            Some(session) => session.part.drains(),
-            None => false,
-        }
+        self.session
+            .as_ref()
+            .is_some_and(|session| session.part.drains())
     }
 
     /// Whether this seat is of a sort.

@@ -73,10 +73,9 @@ impl Seat {
     fn peer_idle(&self, clock: u64) -> bool
         ensures { result ≡ session_passes (peer_idle clock) self.now.session }
     {
-        match &self.session {
-            Some(session) => is_silent(session, clock),
-            None => false,
-        }
+        self.session
+            .as_ref()
+            .is_some_and(|session| is_silent(session, clock))
     }
 
     /// Returns the cause if the session has expired: its peer was silent for five seconds, the session is given up, or it
@@ -109,20 +108,18 @@ impl Seat {
     pub fn has_expired(&self, clock: u64) -> bool
         ensures { result ≡ has_expired clock self.now }
     {
-        match &self.session {
-            Some(session) => is_over(session, clock),
-            None => false,
-        }
+        self.session
+            .as_ref()
+            .is_some_and(|session| is_over(session, clock))
     }
 
     /// Whether a subscriber's session is open here and hasn't expired.
     fn is_kept_subscriber(&self, clock: u64) -> bool
         ensures { result ≡ session_passes (is_kept_subscriber clock) self.now.session }
     {
-        match &self.session {
-            Some(session) => !is_over(session, clock) && !session.part.publishes(),
-            None => false,
-        }
+        self.session.as_ref().is_some_and(|session| {
+            !is_over(session, clock) && !session.part.publishes()
+        })
     }
 }
 
