@@ -140,6 +140,14 @@ impl PublisherKeys {
         }
     }
 
+    /// The length of the session's keys, in bytes: 16, 24 or 32.
+    pub fn key_length(&self) -> usize
+        ensures value { result ≡ length (publisher_of self.now).kek }
+        ensures valid { IsKeyLength result }
+    {
+        self.kek.key_length()
+    }
+
     /// Decrypts the payload of a data packet in place, by its encryption field and its sequence number, and returns whether the
     /// session has the key that it names. Otherwise nothing changes but the count of such packets. Its time doesn't depend on keys or
     /// payloads.

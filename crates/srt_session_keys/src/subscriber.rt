@@ -1,6 +1,7 @@
 //! The keys of a subscriber's session (our choice).
 
 ghost use Rattle.std.specs.Prelude.{◌≡◌, ◌<◌, ◌≤◌, ◌+◌, ◌^◌, take, length};
+ghost use Rattle.srt_aes.specs.Aes.{IsKeyLength};
 ghost use Rattle.srt_aes.specs.Keys.{key_of};
 ghost use Rattle.srt_session_keys.specs.Source.{source_of, own, own_message};
 ghost use Rattle.srt_session_keys.specs.Announced.{made_with};
@@ -172,6 +173,14 @@ impl SubscriberKeys {
         ensures { result ≡ may_send (subscriber_of self.now) payload }
     {
         payload >> 24 < self.confirmed
+    }
+
+    /// The length of the session's keys, in bytes: 16, 24 or 32.
+    pub fn key_length(&self) -> usize
+        ensures value { result ≡ length (subscriber_of self.now).source.kek }
+        ensures valid { IsKeyLength result }
+    {
+        self.source.kek.key_length()
     }
 
     /// How many keys are confirmed: those with lower indexes.
