@@ -26,5 +26,6 @@ pub mod Noting
 pub mod Notified
 pub mod Tallied
 pub mod Views
+pub mod Lengths
 pub mod Overtaking
 pub mod Draining

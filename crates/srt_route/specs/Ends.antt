@@ -39,11 +39,13 @@ kept_in r = kept_of r.ledger
 abbrev pub at_end : EndCause → (moment : ℕ) → Session → Session
 at_end cause moment s = record s { heard = heard_at_end cause s.heard moment }
 
--- `x` reports the end of session `s`, one of these: its cause, its time, and a snapshot of the session as it ends
+-- `x` reports the end of session `s`, one of these: its cause, its time, and a snapshot of the session as it ends, without the
+-- length of its keys
 pub record IsEnd (e : Terms) (index : ℕ) (sessions : List Session) (cause : EndCause) (moment : ℕ) (s : Session) (x : EndedSession) : Type 0 where
   pub cause_is : x.cause ≡ cause
   pub moment_is : x.moment ≡ moment
   pub view_is : IsView e index sessions (at_end cause moment s) x.view
+  pub keys_is : x.view.key_length ≡ None
 
 abbrev pub EndIs : (e : Terms) (index : ℕ) → List Session → EndCause → (moment : ℕ) → Session → Option EndedSession → Type 0
 EndIs e index sessions cause moment s None = ⊥

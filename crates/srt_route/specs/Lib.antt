@@ -25,6 +25,7 @@ pub mod Tables
 pub mod Admission
 pub mod SlotKeys
 pub mod StoredKeys
+pub mod ShownKeys
 pub mod Stages
 pub mod Stands
 pub mod Closed

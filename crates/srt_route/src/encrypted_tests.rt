@@ -9,7 +9,7 @@ use crate::secured_tests::{
 use crate::tests::{FIRST, PUBLISHES, REQUESTS, entry, peer};
 use crate::{EndCause, Reply, Route};
 use srt_samples::first_difference;
-use srt_types::{Callers, Item, Mode};
+use srt_types::{Callers, Item, KeyLength, Mode};
 use std::process::Abort;
 use std::test::Fail;
 
@@ -89,6 +89,16 @@ fn both(rt: &(impl AllocGlobal + Abort)) -> Result<Route, Fail> {
     assert_next(rt, &mut route, peer(5001), &KEY_REQUEST)?;
     assert!(rt; !route.waits());
     Ok(route)
+}
+
+#[test]
+fn a_snapshot_has_the_length_of_the_keys(rt: HostRuntime) -> Result<(), Fail> {
+    let route = both(&rt)?;
+    let publisher = route.session(0).ok_or("a session in slot 0")?;
+    let subscriber = route.session(1).ok_or("a session in slot 1")?;
+    assert_eq!(rt; publisher.key_length, Some(KeyLength::Aes128));
+    assert_eq!(rt; subscriber.key_length, Some(KeyLength::Aes192));
+    Ok(())
 }
 
 /// Asserts that the replies to a tick at this time are this one to the subscriber, or none, and any to others.

@@ -33,7 +33,8 @@
 //! and which subscribers have all of it; `standby.rt`, which of two publishers is active; `socket_ids.rt`, the socket
 //! IDs; `reply_queue.rt`, the waiting replies; `ledger.rt` and `totals.rt`, what is kept of ended sessions;
 //! `key_refresh.rt`, the messages that renew a publisher's keys; `key_confirmation.rt`, those that confirm a subscriber's;
-//! `route_keys.rt`, `slot_keys.rt`, `key_request_reading.rt` and `key_text.rt`, the keys of sessions. The definition of a
+//! `route_keys.rt`, `slot_keys.rt`, `key_request_reading.rt` and `key_text.rt`, the keys of sessions; `key_length.rt`, their
+//! length, which a snapshot shows. The definition of a
 //! route is in `specs/Route.antt`, those of ends and counts in `specs/Ends.antt` and `specs/Tallies.antt`, and those of keys
 //! in `specs/RouteKeys.antt`.
 #![tactic(auto)]
@@ -52,6 +53,7 @@ mod event;
 mod files;
 mod giving_up;
 mod key_confirmation;
+mod key_length;
 mod key_refresh;
 mod key_request_reading;
 mod key_text;

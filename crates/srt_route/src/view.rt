@@ -1,6 +1,6 @@
 //! Snapshots of a route: its open sessions and their counts. A snapshot changes nothing.
 
-ghost use Rattle.std.specs.Prelude.{◌≡◌, ◌<◌, ℕ, List, length};
+ghost use Rattle.std.specs.Prelude.{◌≡◌, ◌<◌, ℕ, List, length, option_map};
 ghost use Rattle.srt_types.specs.Terms.{Terms};
 ghost use Rattle.srt_types.specs.Items.{Item as TheItem};
 ghost use Rattle.srt_route.specs.Route.{after};
@@ -9,6 +9,7 @@ ghost use Rattle.srt_route.specs.Stands.{stands};
 ghost use Rattle.srt_route.specs.Tables.{IsTable};
 ghost use Rattle.srt_route.specs.Ledgers.{ended_in, opened_in, refused_in, refused_of};
 ghost use Rattle.srt_route.specs.Totals.{AddUp, totals_of_ended, with_shown};
+ghost use Rattle.srt_route.specs.ShownKeys.{ShowsKeys, with_key_length};
 ghost use Rattle.srt_route.specs.Viewing.{delay_of, latency_in, ShowsSlot, ShowsSession, TellsTraffic};
 ghost use Rattle.srt_route.specs.inside.Notes.{SeesSlot};
 
@@ -23,7 +24,7 @@ use crate::totals::Totals;
 use srt_hs::{AnswerKind, HsAnswer, RefusalCode};
 use srt_pub::Publisher;
 use srt_sub::Subscriber;
-use srt_types::{Peer, Role};
+use srt_types::{KeyLength, Peer, Role};
 
 /// The state of a session's buffers and its counts, by its role.
 #[derive(Clone, Copy, Debug, PartialEq, Eq)]
@@ -55,6 +56,8 @@ pub struct SessionView {
     pub heard: u64,
     /// The agreed latency in milliseconds, in the direction of the payloads; 0 in buffer mode.
     pub latency_ms: u16,
+    /// The length of its keys; None if it isn't encrypted, and in the report of an end, when they are removed.
+    pub key_length: Option<KeyLength>,
     /// The session's counts.
     pub traffic: Traffic,
 }
@@ -96,6 +99,15 @@ fn traffic_of(role: Role, publisher: &Publisher, subscriber: &Subscriber) -> Tra
         Role::Publish => Traffic::Received(publisher.statistics()),
         Role::Request => Traffic::Sent(subscriber.statistics()),
     }
+}
+
+/// Returns this snapshot with the length of its session's keys.
+fn with_key_length(shown: Option<SessionView>, key_length: Option<KeyLength>) -> Option<SessionView>
+    ensures { result ≡ option_map (with_key_length key_length) shown }
+{
+    let mut view = shown?;
+    view.key_length = key_length;
+    Some(view)
 }
 
 /// Returns these totals with the counts of one slot's snapshot added.
@@ -150,6 +162,7 @@ impl Table {
                     opened: session.opened,
                     heard: session.heard,
                     latency_ms: latency_in(role, &session.answer),
+                    key_length: None,
                     traffic: traffic_of(
                         role,
                         &self.publishers[session.part.buffers().place()],
@@ -166,11 +179,15 @@ impl Route {
     /// Returns a snapshot of the open session of a slot, from 0; None if none is open there, or if the slot isn't below
     /// the number of sessions that the route's terms allow. Allocates nothing. Linear in the seats, at most 17.
     pub fn session(&self, slot: usize) -> Option<SessionView>
-        ensures { (e : Terms) (index : ℕ) (items : List TheItem) →
+        ensures session { (e : Terms) (index : ℕ) (items : List TheItem) →
             stands self.now e index items → ShowsSession e index slot (after e index items).sessions result }
+        ensures keys { (e : Terms) (index : ℕ) (items : List TheItem) →
+            stands self.now e index items → ShowsKeys e slot (after e index items).keys result }
     {
         match &self.stage {
-            Stage::Open { table, .. } => table.look(slot),
+            Stage::Open { table, keys, .. } => {
+                with_key_length(table.look(slot), keys.key_length(slot))
+            }
             Stage::Closed(_) => None,
         }
     }

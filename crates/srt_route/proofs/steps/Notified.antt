@@ -62,6 +62,7 @@ end_is e index clock ss cause moment active p x t s q ended is flag seated h =
       moment_is = h.moment_is;
       view_is = seen_is e index clock ss active p x t s q (heard_at_end cause t.heard moment) (heard_at_end cause s.heard moment) ended.view is flag seated
           (ap (λ (n : ℕ). heard_at_end cause n moment) is.heard_is) h.view_is;
+      keys_is = h.view_is.keys_is;
     }
 
 pub end_for : (e : Terms) (index clock : ℕ) (ss : List Session) (cause : Option EndCause) (moment : ℕ) (active : Option PublisherBuffers)
@@ -369,6 +370,7 @@ files_notified e index clock ss old new given =
           cause_is = same.cause_is;
           moment_is = same.moment_is;
           view_is = view_same (at_end causes.FileEnded clock s) end.view reads same.view_is;
+          keys_is = same.keys_is;
         }
 
     by : (at : ℕ) (f : Option Session) → EndsIn e index ts (file_ending over) clock (option_map (gone e clock) f) (old.ended at) (new.ended at)

@@ -194,6 +194,7 @@ end_kept active publishers at cause moment seat view heard old new sees heard_is
                   opened_is = (k q).opened_is;
                   heard_is = heard_is ∙ ap (λ (n : ℕ). heard_at_end cause n moment) (k q).heard_is;
                   latency_is = (k q).latency_is;
+                  keys_is = (k q).keys_is;
                   traffic_is = (k q).traffic_is;
                 };
               }));

@@ -30,6 +30,7 @@ pub record IsSeen (active : Option PublisherBuffers) (p : Publisher) (x : Subscr
   pub opened_is : v.opened ≡ t.opened
   pub heard_is : v.heard ≡ heard
   pub latency_is : v.latency_ms ≡ latency_in (role_of t.part) t.answer
+  pub keys_is : v.key_length ≡ None
   pub traffic_is : TellsTraffic (role_of t.part) p x v.traffic
 
 -- the same of a seat's session, or None if none is open there

@@ -23,5 +23,6 @@ returns-in-Some c d =
       opened_is = refl;
       heard_is = refl;
       latency_is = c.latency_in.ensures ∙ ap (λ r. latency_in r t.answer) c.role-role.ensures;
+      keys_is = refl;
       traffic_is = subst (λ r. TellsTraffic r p c.index-seat.result.now.subscriber c.traffic_of.result) c.role-role.ensures c.traffic_of.ensures;
     })
