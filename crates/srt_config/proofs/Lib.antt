@@ -16,3 +16,4 @@ pub mod Completed
 pub mod Groups
 pub mod AllFaults
 pub mod Listed
+pub mod Known

@@ -12,6 +12,7 @@ pub mod Encryption
 pub mod Routes
 pub mod Defaults
 pub mod Size
+pub mod Files
 pub mod RouteNumbers
 pub mod Config
 pub mod DefaultLaws
