@@ -1,6 +1,8 @@
 -- The line of each event.
 use Rattle.std.specs.Prelude.{ℕ, ◌/◌, Bool, ◌==◌, List, [], ◌∷◌, ◌++◌, Option, None, Some, codes, decimal, length, if◌then◌else◌}
 use Rattle.std.specs.Fmt.{signed_decimal}
+use Rattle.srt_types.specs.declared.shared.KeyLength.{KeyLength}
+use Rattle.srt_types.specs.declared.shared.KeyLength.TheVariants.{Aes128, Aes192, Aes256}
 use Rattle.srt_types.specs.declared.shared.Peer.{Peer}
 use Rattle.srt_types.specs.declared.shared.Role.{Role}
 use Rattle.srt_types.specs.declared.shared.Role.TheVariants.{Publish, Request}
@@ -35,6 +37,13 @@ caller_text caller = escaped_all caller.route.now ++ codes ": " ++ role_text cal
 abbrev pub latency_text : Option ℕ → List ℕ
 latency_text None = []
 latency_text (Some ms) = codes ", latency " ++ decimal ms ++ codes " ms"
+
+-- which keys an encrypted session has
+abbrev pub encryption_text : Option KeyLength → List ℕ
+encryption_text None = []
+encryption_text (Some Aes128) = codes ", encrypted with AES-128"
+encryption_text (Some Aes192) = codes ", encrypted with AES-192"
+encryption_text (Some Aes256) = codes ", encrypted with AES-256"
 
 abbrev pub opened_text : (standby : Bool) → List ℕ
 opened_text standby = if standby then codes " opened as standby, socket " else codes " opened, socket "
@@ -139,8 +148,9 @@ cause_text causes.Rounds = codes "stopping, all rounds were made"
 abbrev pub count_text : (words : List ℕ) → (count : ℕ) → List ℕ
 count_text words count = words ++ decimal count
 
-abbrev pub session_opened_text : Caller → (standby : Bool) → (latency_ms : Option ℕ) → List ℕ
-session_opened_text caller standby latency_ms = caller_text caller ++ opened_text standby ++ id_text caller.id ++ latency_text latency_ms
+abbrev pub session_opened_text : Caller → (standby : Bool) → (latency_ms : Option ℕ) → Option KeyLength → List ℕ
+session_opened_text caller standby latency_ms key_length =
+    caller_text caller ++ opened_text standby ++ id_text caller.id ++ latency_text latency_ms ++ encryption_text key_length
 
 abbrev pub took_over_text : Caller → List ℕ
 took_over_text caller = caller_text caller ++ codes " took over, socket " ++ id_text caller.id
@@ -157,7 +167,7 @@ troubled_text caller trouble = caller_text caller ++ trouble_text trouble ++ id_
 -- the text of an event
 abbrev pub event_text : LogEvent → List ℕ
 event_text (events.Started ip port routes workers memory) = started_text ip port routes workers memory
-event_text (events.Opened caller standby latency_ms) = session_opened_text caller standby latency_ms
+event_text (events.Opened caller standby latency_ms key_length) = session_opened_text caller standby latency_ms key_length
 event_text (events.Ended caller reason lasted_ms traffic clock) = ended_text caller reason lasted_ms traffic clock
 event_text (events.TookOver caller) = took_over_text caller
 event_text (events.Troubled caller trouble) = troubled_text caller trouble

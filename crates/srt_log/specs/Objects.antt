@@ -1,5 +1,7 @@
 -- The JSON object of each event. It has the text of its line, and beside it each fact of it as a member.
-use Rattle.std.specs.Prelude.{ℕ, Bool, true, false, List, [], ◌++◌, Option, None, Some, codes}
+use Rattle.std.specs.Prelude.{ℕ, Bool, true, false, List, [], ◌++◌, Option, None, Some, option_map, codes}
+use Rattle.srt_types.specs.Access.{bytes_in as key_bytes}
+use Rattle.srt_types.specs.declared.shared.KeyLength.{KeyLength}
 use Rattle.srt_types.specs.declared.shared.Peer.{Peer}
 use Rattle.srt_types.specs.declared.shared.Role.{Role}
 use Rattle.srt_types.specs.declared.shared.Role.TheVariants.{Publish, Request}
@@ -26,7 +28,7 @@ use Rattle.srt_log.specs.ConfigObjects.{config_kind, config_members}
 -- what happened
 abbrev pub kind_of : LogEvent → List ℕ
 kind_of (events.Started ip port routes workers memory) = codes "started"
-kind_of (events.Opened caller standby latency_ms) = codes "opened"
+kind_of (events.Opened caller standby latency_ms key_length) = codes "opened"
 kind_of (events.Ended caller reason lasted_ms traffic clock) = codes "ended"
 kind_of (events.TookOver caller) = codes "took_over"
 kind_of (events.Troubled caller trouble) = codes "troubled"
@@ -60,9 +62,10 @@ caller_members caller =
     shown_member (codes "route") caller.route.now ++ text_member (codes "role") (role_name caller.role) ++ peer_member caller.peer
     ++ id_member caller.id
 
-unfoldable pub opened_members : Caller → (standby : Bool) → (latency_ms : Option ℕ) → List ℕ
-opened_members caller standby latency_ms =
+unfoldable pub opened_members : Caller → (standby : Bool) → (latency_ms : Option ℕ) → Option KeyLength → List ℕ
+opened_members caller standby latency_ms key_length =
     caller_members caller ++ flag_member (codes "standby") standby ++ number_if (codes "latency_ms") latency_ms
+    ++ number_if (codes "key_length_bytes") (option_map key_bytes key_length)
 
 abbrev pub reason_name : EndReason → List ℕ
 reason_name Shutdown = codes "shutdown"
@@ -158,7 +161,7 @@ stop_name causes.Rounds = codes "rounds"
 -- the facts of an event
 abbrev pub event_members : LogEvent → List ℕ
 event_members (events.Started ip port routes workers memory) = started_members ip port routes workers memory
-event_members (events.Opened caller standby latency_ms) = opened_members caller standby latency_ms
+event_members (events.Opened caller standby latency_ms key_length) = opened_members caller standby latency_ms key_length
 event_members (events.Ended caller reason lasted_ms traffic clock) = ended_members caller reason lasted_ms traffic clock
 event_members (events.TookOver caller) = caller_members caller
 event_members (events.Troubled caller trouble) = troubled_members caller trouble

@@ -52,7 +52,7 @@ stands_by view = is_publisher view.role && not view.is_active
 
 -- an opening, an end, the end of a session of which only the earlier snapshot is known, a take-over; times in milliseconds
 abbrev pub opened_event : Bor (List ℕ) → SessionView → LogEvent
-opened_event route view = events.Opened (caller_of route view) (stands_by view) (latency_of view.latency_ms)
+opened_event route view = events.Opened (caller_of route view) (stands_by view) (latency_of view.latency_ms) view.key_length
 
 abbrev pub end_event : Bor (List ℕ) → (stops : Bool) → EndedSession → LogEvent
 end_event route stops x =

@@ -10,8 +10,18 @@ use crate::snapshots::{RouteSnapshot, SlotSession};
 use srt_route::{SessionView, Traffic};
 use srt_types::product_limits::MAX_SESSIONS;
 
-/// The number of steps in which two snapshots are compared.
-pub const STEPS: usize = 120;
+/// The number of steps in which two snapshots are compared: one for each slot's end, two for its opening and the end after that,
+/// one for its take-over and three for its troubles, and the last one for the sessions that no snapshot has.
+pub const STEPS: usize = UNSEEN + 1;
+
+// The first steps of openings, of take-overs and of troubles, and the step of unseen sessions.
+const OPENINGS: usize = MAX_SESSIONS;
+
+const TAKE_OVERS: usize = OPENINGS + 2 * MAX_SESSIONS;
+
+const TROUBLES: usize = TAKE_OVERS + MAX_SESSIONS;
+
+const UNSEEN: usize = TROUBLES + 3 * MAX_SESSIONS;
 
 /// A change between two snapshots of a route.
 #[derive(Clone, Copy, PartialEq, Eq)]
@@ -266,30 +276,30 @@ fn unseen(old: &RouteSnapshot, new: &RouteSnapshot) -> Option<Change>
 pub fn change_at(old: &RouteSnapshot, new: &RouteSnapshot, step: usize) -> Option<Change>
     ensures { result ≡ change_at old.now new.now step }
 {
-    if step < 17 {
+    if step < OPENINGS {
         return ended_at(step, &old.slots[step], &new.slots[step]);
     }
-    if step < 51 {
-        let slot = (step - 17) / 2;
+    if step < TAKE_OVERS {
+        let slot = (step - OPENINGS) / 2;
         if step % 2 == 1 {
             return opened_at(slot, &old.slots[slot], &new.slots[slot]);
         }
         return ended_at_once(slot, &old.slots[slot], &new.slots[slot]);
     }
-    if step < 68 {
-        let slot = step - 51;
+    if step < TROUBLES {
+        let slot = step - TAKE_OVERS;
         return took_over_at(slot, &old.slots[slot], &new.slots[slot]);
     }
-    if step < 119 {
-        let slot = (step - 68) / 3;
+    if step < UNSEEN {
+        let slot = (step - TROUBLES) / 3;
         return troubled_at(
             slot,
-            trouble_at(step - 68),
+            trouble_at(step - TROUBLES),
             &old.slots[slot],
             &new.slots[slot],
         );
     }
-    if step == 119 {
+    if step == UNSEEN {
         return unseen(old, new);
     }
     None

@@ -2,7 +2,7 @@
 
 use crate::config_events::ConfigEvent;
 use srt_route::Traffic;
-use srt_types::{NotAdmitted, Peer, Role};
+use srt_types::{KeyLength, NotAdmitted, Peer, Role};
 
 /// A session as a line names it.
 #[derive(Clone, Copy)]
@@ -93,6 +93,8 @@ pub enum LogEvent<'a> {
         standby: bool,
         /// Its delay in milliseconds; `None` in buffer mode.
         latency_ms: Option<u32>,
+        /// The length of its keys; `None` if it isn't encrypted, or if it had ended again when it was seen.
+        key_length: Option<KeyLength>,
     },
     /// A session ended.
     Ended {

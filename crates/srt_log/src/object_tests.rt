@@ -2,7 +2,7 @@
 
 use crate::{Caller, ChangeSummary, ClockDrift, ConfigEvent, EndReason, LogEvent, put_object};
 use srt_route::Traffic;
-use srt_types::{NotAdmitted, Peer, Role};
+use srt_types::{KeyLength, NotAdmitted, Peer, Role};
 use std::process::Abort;
 use std::test::Fail;
 
@@ -41,8 +41,24 @@ fn object_of_an_opening(rt: HostRuntime) -> Result<(), Fail> {
             caller: encoder(),
             standby: false,
             latency_ms: Some(120),
+            key_length: None,
         },
         "{\"event\":\"opened\",\"time\":\"2026-11-26T15:04:05.123Z\",\"text\":\"studio: publisher 192.0.2.7:50123 opened, socket 0x00100001, latency 120 ms\",\"route\":\"studio\",\"role\":\"publisher\",\"peer\":\"192.0.2.7:50123\",\"socket\":\"0x00100001\",\"standby\":false,\"latency_ms\":120}\n",
+    )
+}
+
+#[test]
+fn object_of_an_encrypted_opening(rt: HostRuntime) -> Result<(), Fail> {
+    assert_object(
+        &rt,
+        None,
+        LogEvent::Opened {
+            caller: encoder(),
+            standby: true,
+            latency_ms: None,
+            key_length: Some(KeyLength::Aes192),
+        },
+        "{\"event\":\"opened\",\"text\":\"studio: publisher 192.0.2.7:50123 opened as standby, socket 0x00100001, encrypted with AES-192\",\"route\":\"studio\",\"role\":\"publisher\",\"peer\":\"192.0.2.7:50123\",\"socket\":\"0x00100001\",\"standby\":true,\"key_length_bytes\":24}\n",
     )
 }
 

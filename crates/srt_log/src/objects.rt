@@ -1,6 +1,7 @@
 //! The JSON object of each event.
 
-ghost use Rattle.std.specs.Prelude.{◌≡◌, ◌++◌, [], OnOk};
+ghost use Rattle.std.specs.Prelude.{◌≡◌, ◌++◌, [], OnOk, option_map};
+ghost use Rattle.srt_types.specs.Access.{bytes_in as key_bytes};
 ghost use Rattle.srt_log.specs.Objects.{kind_of, role_name, peer_member, id_member, caller_members, opened_members, reason_name};
 ghost use Rattle.srt_log.specs.Objects.{counts_members, drift_members, clock_members, ended_members, trouble_name, troubled_members};
 ghost use Rattle.srt_log.specs.Objects.{list_name, key_name, obstacle_name, cause_member, refused_members, limited_members, unseen_members};
@@ -20,7 +21,7 @@ use crate::members::{
 use crate::peers::{put_ip, put_peer, put_socket};
 use crate::writing::put_event;
 use srt_route::Traffic;
-use srt_types::{NotAdmitted, Peer, Role};
+use srt_types::{KeyLength, NotAdmitted, Peer, Role};
 use std::alloc::AllocError;
 
 /// The word for an event.
@@ -96,18 +97,32 @@ fn put_caller(out: &mut Vec<u8>, caller: Caller<'_>) -> Result<(), AllocError>
     put_id_member(out, caller.id)
 }
 
+/// Returns the length of keys in bytes.
+fn bytes_of_keys(key_length: Option<KeyLength>) -> Option<u32>
+    ensures { result ≡ option_map key_bytes key_length }
+{
+    match key_length {
+        Some(KeyLength::Aes128) => Some(16),
+        Some(KeyLength::Aes192) => Some(24),
+        Some(KeyLength::Aes256) => Some(32),
+        None => None,
+    }
+}
+
 #[tactic(auto, using(crate::proofs::Growing::joined), unfolding(crate::specs::Objects::opened_members))]
 fn put_opened(
     out: &mut Vec<u8>,
     caller: Caller<'_>,
     standby: bool,
     latency_ms: Option<u32>,
+    key_length: Option<KeyLength>,
 ) -> Result<(), AllocError>
-    ensures { OnOk result (out.new.items ≡ out.old.items ++ opened_members caller.entry standby latency_ms) }
+    ensures { OnOk result (out.new.items ≡ out.old.items ++ opened_members caller.entry standby latency_ms key_length) }
 {
     put_caller(out, caller)?;
     put_flag(out, b"standby", standby)?;
-    put_number_if(out, b"latency_ms", latency_ms)
+    put_number_if(out, b"latency_ms", latency_ms)?;
+    put_number_if(out, b"key_length_bytes", bytes_of_keys(key_length))
 }
 
 fn reason_name(reason: EndReason) -> &'static str
@@ -350,7 +365,8 @@ fn put_members(out: &mut Vec<u8>, event: LogEvent<'_>) -> Result<(), AllocError>
             caller,
             standby,
             latency_ms,
-        } => put_opened(out, caller, standby, latency_ms),
+            key_length,
+        } => put_opened(out, caller, standby, latency_ms, key_length),
         LogEvent::Ended {
             caller,
             reason,

@@ -148,6 +148,7 @@ fn opened_event<'a>(route: &'a [u8], view: &SessionView) -> LogEvent<'a>
         caller: caller_of(route, view),
         standby: stands_by(view),
         latency_ms: latency_of(view.latency_ms),
+        key_length: view.key_length,
     }
 }
 

@@ -8,7 +8,7 @@ use crate::{
 use srt_config::FixedKeys;
 use srt_route::{EndCause, EndedSession, SessionView, Traffic};
 use srt_types::product_limits::MAX_SESSIONS;
-use srt_types::{NotAdmitted, Peer, Role};
+use srt_types::{KeyLength, NotAdmitted, Peer, Role};
 use std::process::Abort;
 use std::test::Fail;
 
@@ -63,6 +63,7 @@ fn lines_of_openings(rt: HostRuntime) -> Result<(), Fail> {
             caller: encoder(),
             standby: false,
             latency_ms: Some(120),
+            key_length: None,
         },
         "2026-11-26T15:04:05.123Z studio: publisher 192.0.2.7:50123 opened, socket 0x00100001, latency 120 ms\n",
     )?;
@@ -73,9 +74,42 @@ fn lines_of_openings(rt: HostRuntime) -> Result<(), Fail> {
             caller: encoder(),
             standby: true,
             latency_ms: None,
+            key_length: None,
         },
         "studio: publisher 192.0.2.7:50123 opened as standby, socket 0x00100001\n",
     )
+}
+
+#[test]
+fn lines_of_encrypted_openings(rt: HostRuntime) -> Result<(), Fail> {
+    let lengths = [
+        (
+            KeyLength::Aes128,
+            "studio: publisher 192.0.2.7:50123 opened, socket 0x00100001, latency 120 ms, encrypted with AES-128\n",
+        ),
+        (
+            KeyLength::Aes192,
+            "studio: publisher 192.0.2.7:50123 opened, socket 0x00100001, latency 120 ms, encrypted with AES-192\n",
+        ),
+        (
+            KeyLength::Aes256,
+            "studio: publisher 192.0.2.7:50123 opened, socket 0x00100001, latency 120 ms, encrypted with AES-256\n",
+        ),
+    ];
+    for (length, line) in lengths {
+        assert_line(
+            &rt,
+            None,
+            LogEvent::Opened {
+                caller: encoder(),
+                standby: false,
+                latency_ms: Some(120),
+                key_length: Some(length),
+            },
+            line,
+        )?;
+    }
+    Ok(())
 }
 
 #[test]
@@ -647,6 +681,7 @@ fn view(id: u32, is_active: bool) -> SessionView {
         opened: 7,
         heard: 7,
         latency_ms: 120,
+        key_length: None,
         traffic: received(0, 0),
     }
 }

@@ -3,7 +3,7 @@
 ghost use Rattle.std.specs.Prelude.{◌≡◌, ◌++◌, [], OnOk};
 ghost use Rattle.std.specs.Io.KnownBytes.{Appends};
 ghost use Rattle.srt_log.specs.Texts.{put};
-ghost use Rattle.srt_log.specs.Events.{role_text, caller_text, latency_text, opened_text, session_opened_text, took_over_text};
+ghost use Rattle.srt_log.specs.Events.{role_text, caller_text, latency_text, encryption_text, opened_text, session_opened_text, took_over_text};
 ghost use Rattle.srt_log.specs.Events.{trouble_text, troubled_text, reason_text, counts_text, clock_text, ended_text, code_text, started_text};
 ghost use Rattle.srt_log.specs.Events.{list_text, key_text, refused_by_text, refused_text, limits_text, limited_text, unseen_text, unblocked_text};
 ghost use Rattle.srt_log.specs.Events.{count_text, cause_text, event_text, time_text, line_text, lasting_text, absent_text};
@@ -18,7 +18,7 @@ use arrayvec::ArrayVec;
 use srt_hs::{RefusalCode, refusal_name};
 use srt_route::Traffic;
 use srt_types::product_limits::MAX_LOG_LINE;
-use srt_types::{NotAdmitted, Peer, Role};
+use srt_types::{KeyLength, NotAdmitted, Peer, Role};
 use std::io::{self, Write};
 
 fn put_role(line: &mut Line, role: Role)
@@ -51,6 +51,18 @@ fn put_latency(line: &mut Line, latency_ms: Option<u32>)
             line.put_number(u64::from(ms));
             line.put(b" ms");
         }
+        None => line.put(b""),
+    }
+}
+
+/// Puts which keys an encrypted session has.
+fn put_encryption(line: &mut Line, key_length: Option<KeyLength>)
+    ensures { line.new.text.items ≡ put line.old.text.items (encryption_text key_length) }
+{
+    match key_length {
+        Some(KeyLength::Aes128) => line.put(b", encrypted with AES-128"),
+        Some(KeyLength::Aes192) => line.put(b", encrypted with AES-192"),
+        Some(KeyLength::Aes256) => line.put(b", encrypted with AES-256"),
         None => line.put(b""),
     }
 }
@@ -137,13 +149,20 @@ fn put_ended(
 }
 
 #[tactic(auto, using(crate::proofs::Puts::put_put))]
-fn put_opened(line: &mut Line, caller: Caller<'_>, standby: bool, latency_ms: Option<u32>)
-    ensures { line.new.text.items ≡ put line.old.text.items (session_opened_text caller.entry standby latency_ms) }
+fn put_opened(
+    line: &mut Line,
+    caller: Caller<'_>,
+    standby: bool,
+    latency_ms: Option<u32>,
+    key_length: Option<KeyLength>,
+)
+    ensures { line.new.text.items ≡ put line.old.text.items (session_opened_text caller.entry standby latency_ms key_length) }
 {
     put_caller(line, caller);
     put_opened_as(line, standby);
     line.put_id(caller.id);
     put_latency(line, latency_ms);
+    put_encryption(line, key_length);
 }
 
 #[tactic(auto, using(crate::proofs::Puts::put_put))]
@@ -388,7 +407,8 @@ pub(crate) fn put_event(line: &mut Line, event: LogEvent<'_>)
             caller,
             standby,
             latency_ms,
-        } => put_opened(line, caller, standby, latency_ms),
+            key_length,
+        } => put_opened(line, caller, standby, latency_ms, key_length),
         LogEvent::Ended {
             caller,
             reason,
