@@ -6,8 +6,8 @@ use Rattle.std.proofs.lemmas.Bool.{ne_eqb}
 use Rattle.std.proofs.lemmas.List.{append-nil}
 use Rattle.std.proofs.lemmas.List.Elements.{recursion_from_All, All-append}
 use Rattle.srt_replay.specs.Known.{Took, TookLine, TookOne, LongLine, NoLine, BeginsWith, AtEnd, NoLf}
-use Rattle.srt_replay.specs.declared.lines.Taken.{Taken}
-use Rattle.srt_replay.specs.declared.lines.Taken.TheVariants.{Line, End}
+use Rattle.srt_replay.specs.declared.reader.Taken.{Taken}
+use Rattle.srt_replay.specs.declared.reader.Taken.TheVariants.{Line, End}
 use Rattle.srt_replay.specs.Tape.{lines_of, onto}
 
 abbrev pub IsInside : ℕ → Type 0

@@ -7,11 +7,11 @@ use Rattle.srt_hub.specs.World.{Event, Arrives, Ticks, Turns, Sends, Opens, Clos
 use Rattle.srt_hub.specs.Hubs.{routes_at}
 use Rattle.srt_config.specs.Routes.{Numbers, terms_with}
 use Rattle.srt_config.specs.Numbers.{number_in}
-use Rattle.srt_replay.specs.Tape.{max_line, fields_of, address_in, bytes_in}
+use Rattle.srt_replay.specs.Tape.{max_line, max_lines, fields_of, address_in, bytes_in}
 use Rattle.srt_replay.specs.Events.{arrival_of as line_arrival, tick_of, turn_of, send_of, closing_of, moment_in, text_in, mode_in}
 use Rattle.srt_replay.specs.Events.{numbers_in, arrival_in, tick_in, turn_in, send_in, opening_in, closing_in, is_letter, event_in}
 use Rattle.srt_replay.specs.Events.{event_of}
-use Rattle.srt_replay.specs.Replay.{max_lines, event_at, events_on, events_from}
+use Rattle.srt_replay.specs.Replay.{event_at, events_on, events_from}
 
 -- memory suffices for the arrival or opening of a tape
 abbrev pub Unrefused : Event → Type 0

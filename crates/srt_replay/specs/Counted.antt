@@ -11,11 +11,13 @@ use Rattle.srt_replay.specs.declared.reader.CountedReader.{CountedReader}
 use Rattle.srt_replay.specs.declared.reader.ReadFailed.{ReadFailed}
 use Rattle.srt_replay.specs.declared.reader.Piece.{Piece}
 use Rattle.srt_replay.specs.declared.reader.Piece.TheVariants as piece
-use Rattle.srt_replay.specs.declared.lines.Taken.{Taken}
-use Rattle.srt_replay.specs.declared.lines.Taken.TheVariants as taken
+use Rattle.srt_replay.specs.declared.reader.Taken.{Taken}
+use Rattle.srt_replay.specs.declared.reader.Taken.TheVariants as taken
+use Rattle.srt_replay.specs.declared.reader.TapeLine.{TapeLine}
+use Rattle.srt_replay.specs.declared.reader.TapeLine.TheVariants as tape
 use Rattle.srt_replay.specs.declared.replaying.ReplayFault.{ReplayFault}
 use Rattle.srt_replay.specs.declared.replaying.ReplayFault.TheVariants.{Tape, OutOfMemory, Read, Write}
-use Rattle.srt_replay.specs.Replay.{max_lines}
+use Rattle.srt_replay.specs.Tape.{max_lines}
 
 abbrev pub left_in : ReadBudget → ℕ
 left_in budget = budget.left
@@ -48,7 +50,7 @@ MayLook reader = (0 < reads_left reader) × (last_brought reader ≢ Failure)
 abbrev pub WasUnread : (left : ℕ) → Brought → Type 0
 WasUnread left brought = brought ≢ Failure → left ≡ 0
 
--- the state of the reads after one read, after a line, after a line's answer and after a whole replay: unless the
+-- the state of the reads after one read, after a line, after a line of a tape, after a line's answer and after a whole replay: unless the
 -- result is that the reader failed or has no read left, the last read didn't fail
 abbrev pub PieceRead : Brought → Result Piece ReadFailed → Type 0
 PieceRead brought (Ok (piece.Part n)) = brought ≢ Failure
@@ -62,6 +64,12 @@ LineRead left brought (Ok (taken.Line n)) = brought ≢ Failure
 LineRead left brought (Ok taken.Long) = brought ≢ Failure
 LineRead left brought (Ok taken.End) = brought ≡ End
 LineRead left brought (Err fault) = WasUnread left brought
+
+abbrev pub TapeLineRead : (left : ℕ) → Brought → Result TapeLine ReadFailed → Type 0
+TapeLineRead left brought (Ok (tape.Line n)) = brought ≢ Failure
+TapeLineRead left brought (Ok tape.Beyond) = brought ≢ Failure
+TapeLineRead left brought (Ok tape.End) = brought ≡ End
+TapeLineRead left brought (Err fault) = WasUnread left brought
 
 abbrev pub TurnRead : (number left : ℕ) → Brought → Result Bool ReplayFault → Type 0
 TurnRead number left brought (Ok true) = number ≤ max_lines

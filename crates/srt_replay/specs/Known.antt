@@ -1,8 +1,10 @@
 -- Readers and writers whose bytes are known: what was read from the readers, and written to the writers.
-use Rattle.std.specs.Prelude.{◌≡◌, ◌≢◌, ℕ, ◌+◌, List, [], ◌∷◌, ◌++◌, length, take, All, Option, Some, ◌<◌, ◌≤◌}
-use Rattle.srt_replay.specs.Tape.{lines_of, max_line}
-use Rattle.srt_replay.specs.declared.lines.Taken.{Taken}
-use Rattle.srt_replay.specs.declared.lines.Taken.TheVariants as taken
+use Rattle.std.specs.Prelude.{◌≡◌, ◌≢◌, ℕ, ◌+◌, List, [], ◌∷◌, ◌++◌, length, take, All, Option, Some, ◌<◌, ◌≤◌, ◌⊎◌}
+use Rattle.srt_replay.specs.Tape.{lines_of, max_line, max_lines}
+use Rattle.srt_replay.specs.declared.reader.Taken.{Taken}
+use Rattle.srt_replay.specs.declared.reader.Taken.TheVariants as taken
+use Rattle.srt_replay.specs.declared.reader.TapeLine.{TapeLine}
+use Rattle.srt_replay.specs.declared.reader.TapeLine.TheVariants as tape
 use Rattle.srt_replay.specs.declared.reader.Piece.{Piece}
 use Rattle.srt_replay.specs.declared.reader.Piece.TheVariants.{Part, Line, Long, End}
 
@@ -30,6 +32,12 @@ NoLine old = (xs : List ℕ) → old ≡ Some xs → lines_of xs ≡ []
 abbrev pub LongLine : Option (List ℕ) → Type 0
 LongLine old = (xs : List ℕ) → old ≡ Some xs → (line : List ℕ) × (lines : List (List ℕ)) × (lines_of xs ≡ line ∷ lines) × (max_line < length line)
 
+-- if the bytes are known, they have a first line, which is too long, or has too great a number
+abbrev pub LineBeyond : Option (List ℕ) → (number : ℕ) → Type 0
+LineBeyond old number =
+    (xs : List ℕ)
+    → old ≡ Some xs → (line : List ℕ) × (lines : List (List ℕ)) × (lines_of xs ≡ line ∷ lines) × ((max_line < length line) ⊎ (max_lines < number))
+
 -- if the writer's bytes are known, these were appended to them
 abbrev pub Wrote : (old new : Option (List ℕ)) → List ℕ → Type 0
 Wrote old new bs = (ws : List ℕ) → old ≡ Some ws → new ≡ Some (ws ++ bs)
@@ -49,3 +57,9 @@ abbrev pub TookOne : (old new : Option (List ℕ)) (buffer : List ℕ) → Taken
 TookOne old new buffer (taken.Line n) = TookLine old new (take n buffer) × (n ≤ max_line)
 TookOne old new buffer taken.Long = LongLine old
 TookOne old new buffer taken.End = NoLine old
+
+-- the result of reading the line of a tape with this number: the same, and the line is within the limits of a tape, or isn't
+abbrev pub TookTapeLine : (old new : Option (List ℕ)) (buffer : List ℕ) (number : ℕ) → TapeLine → Type 0
+TookTapeLine old new buffer number (tape.Line n) = TookLine old new (take n buffer) × (n ≤ max_line) × (number ≤ max_lines)
+TookTapeLine old new buffer number tape.Beyond = LineBeyond old number
+TookTapeLine old new buffer number tape.End = NoLine old

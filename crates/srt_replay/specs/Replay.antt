@@ -8,14 +8,10 @@ use Rattle.srt_hub.specs.World.{Event, Arrives, Ticks, Turns, Sends, Opens, Clos
 use Rattle.srt_hub.specs.Hubs.{names_at, routes_at}
 use Rattle.srt_replay.specs.declared.replaying.ReplayFault.{ReplayFault}
 use Rattle.srt_replay.specs.declared.replaying.ReplayFault.TheVariants.{Tape, OutOfMemory, Read, Write}
-use Rattle.srt_replay.specs.Tape.{lines_of}
+use Rattle.srt_replay.specs.Tape.{lines_of, max_lines}
 use Rattle.srt_replay.specs.Events.{event_of}
 use Rattle.srt_replay.specs.Texts.{event_text}
 use Rattle.srt_replay.specs.Known.{Wrote}
-
--- the greatest number of lines of a tape
-abbrev pub max_lines : ℕ
-max_lines = 1_000_000
 
 -- the event of the line with this number, counted from 1
 unfoldable pub event_at : (routes number : ℕ) → (line : List ℕ) → Option Event

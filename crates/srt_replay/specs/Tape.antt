@@ -17,6 +17,10 @@ lines_of (b ∷ bytes) = if b == 10 then [] ∷ lines_of bytes else onto b (line
 abbrev pub max_line : ℕ
 max_line = 4096
 
+-- the greatest number of lines of a tape
+abbrev pub max_lines : ℕ
+max_lines = 1_000_000
+
 -- the fields of a line, separated by one space each
 abbrev pub fields_of : List ℕ → List (List ℕ)
 fields_of [] = [] ∷ []

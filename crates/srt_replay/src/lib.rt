@@ -12,7 +12,7 @@
 //! digits.
 //!
 //! Files: `events.rt`, `fields.rt` and `hexadecimal.rt` have the grammar of a line (docs/PROTOCOL.md, "Tapes");
-//! `lines.rt` and `reader.rt` take lines; `texts.rt` and `writer.rt` write the answers; `replaying.rt` joins them.
+//! `reader.rt` takes lines up to the limits of a tape; `texts.rt` and `writer.rt` write the answers; `replaying.rt` joins them.
 //! `laws.rt` states that tapes of one route don't depend on the others.
 #![tactic(auto)]
 
@@ -20,7 +20,6 @@ mod events;
 mod fields;
 mod hexadecimal;
 pub mod laws;
-mod lines;
 mod reader;
 mod replaying;
 mod texts;
@@ -28,8 +27,7 @@ mod writer;
 
 pub use events::{NewRoute, TapeEvent, read_event};
 pub use hexadecimal::{read_address, read_bytes};
-pub use lines::{Taken, next_line};
-pub use reader::{Brought, CountedReader, ReadFailed};
+pub use reader::{Brought, CountedReader, ReadFailed, Taken, next_line};
 pub use replaying::{ReplayFault, replay, replay_over};
 pub use writer::{CountedWriter, Tried, WriteFailed};
 

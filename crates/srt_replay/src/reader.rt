@@ -1,14 +1,16 @@
-//! A reader that counts its reads, so that a replay ends even if its reader is interrupted forever.
+//! A reader that counts its reads, so that a replay ends even if its reader is interrupted forever; and its lines, up to the limits of
+//! a tape. A line ends with LF, which the last one may lack.
 
 ghost use Rattle.std.specs.Prelude.{◌≡◌, ◌≢◌, ◌<◌, ◌≤◌, ◌+◌, ◌^◌, [], true, false, IfOk, IfSome, length, take};
 ghost use Rattle.std.specs.Io.{StartsWith};
 ghost use Rattle.std.specs.Io.BufRead.{Rests, FillKeeps};
-ghost use Rattle.srt_replay.specs.Known.{TookPiece};
-ghost use Rattle.srt_replay.specs.Counted.{BroughtBy, MayLook, WasUnread, PieceRead, source, reads_left, last_brought, left_in, brought_in};
+ghost use Rattle.srt_replay.specs.Known.{TookPiece, TookOne, TookTapeLine};
+ghost use Rattle.srt_replay.specs.Counted.{BroughtBy, MayLook, WasUnread, PieceRead, LineRead, TapeLineRead, source, reads_left, last_brought};
+ghost use Rattle.srt_replay.specs.Counted.{left_in, brought_in};
 ghost use types.Logic.{sem};
 
 use memchr::memchr;
-use srt_types::product_limits::MAX_TAPE_LINE;
+use srt_types::product_limits::{MAX_TAPE_LINE, MAX_TAPE_LINES};
 use srt_types::write_at;
 use std::io::{self, BufRead, ErrorKind};
 
@@ -58,6 +60,28 @@ pub(crate) enum Piece {
     /// The line is longer than 4096 bytes; this part of it wasn't taken from the reader.
     Long,
     /// There are no more bytes.
+    End,
+}
+
+/// The result of taking a line.
+#[derive(Clone, Copy)]
+pub enum Taken {
+    /// A line with this length in bytes, without its LF.
+    Line(usize),
+    /// Nothing; the next line is longer than 4096 bytes.
+    Long,
+    /// Nothing; there is no further line.
+    End,
+}
+
+/// The result of taking a line of a tape.
+#[derive(Clone, Copy)]
+pub(crate) enum TapeLine {
+    /// A line with this length in bytes, without its LF.
+    Line(usize),
+    /// No line of a tape: the next one is longer than 4096 bytes, or comes after 1,000,000 lines.
+    Beyond,
+    /// Nothing; there is no further line.
     End,
 }
 
@@ -207,5 +231,63 @@ impl<R: BufRead> CountedReader<R> {
         ensures took { IfOk result (TookPiece (R.remaining (source self.old)) (R.remaining (source self.new)) (take len line.old) line.new) }
     {
         take_piece(&mut self.reader, &mut self.budget, line, len)
+    }
+}
+
+/// The result if the reader ended after this many bytes of a line.
+fn at_end(len: usize) -> Taken
+    ensures none { len ≡ 0 → result ≡ Taken.End }
+    ensures some { 0 < len → result ≡ Taken.Line len }
+{
+    if len == 0 {
+        Taken::End
+    } else {
+        Taken::Line(len)
+    }
+}
+
+/// Reads the next line and writes it to the front of `line`, without its LF. The error is that the reader failed or has no
+/// read left; such a reader isn't called again.
+pub fn next_line<R: BufRead>(
+    reader: &mut CountedReader<R>,
+    line: &mut [u8; MAX_TAPE_LINE],
+) -> Result<Taken, ReadFailed>
+    ensures fewer { reads_left reader.new ≤ reads_left reader.old }
+    ensures reads { LineRead (reads_left reader.new) (last_brought reader.new) result }
+    ensures took { IfOk result (TookOne (R.remaining (source reader.old)) (R.remaining (source reader.new)) line.new) }
+{
+    let mut len = 0;
+    while reader.may_look() {
+        match reader.take_piece(line, len)? {
+            Piece::Part(more) => len = more,
+            Piece::Line(whole) => return Ok(Taken::Line(whole)),
+            Piece::Long => return Ok(Taken::Long),
+            Piece::End => return Ok(at_end(len)),
+        }
+    }
+    Err(ReadFailed)
+}
+
+/// Reads the next line of a tape, which has this number, counted from 1, as [`next_line`] does, and checks the limits of a tape: its
+/// lines have at most 4096 bytes, and it has at most 1,000,000 of them.
+pub(crate) fn next_tape_line<R: BufRead>(
+    reader: &mut CountedReader<R>,
+    line: &mut [u8; MAX_TAPE_LINE],
+    number: u32,
+) -> Result<TapeLine, ReadFailed>
+    ensures fewer { reads_left reader.new ≤ reads_left reader.old }
+    ensures reads { TapeLineRead (reads_left reader.new) (last_brought reader.new) result }
+    ensures took { IfOk result (TookTapeLine (R.remaining (source reader.old)) (R.remaining (source reader.new)) line.new number) }
+{
+    match next_line(reader, line) {
+        Ok(Taken::Line(len)) => {
+            if number > MAX_TAPE_LINES {
+                return Ok(TapeLine::Beyond);
+            }
+            Ok(TapeLine::Line(len))
+        }
+        Ok(Taken::Long) => Ok(TapeLine::Beyond),
+        Ok(Taken::End) => Ok(TapeLine::End),
+        Err(fault) => Err(fault),
     }
 }

@@ -15,8 +15,7 @@ ghost use Rattle.srt_replay.specs.inside.Step.{Answers, Tries, TriesLine, TriesN
 ghost use Rattle.srt_replay.specs.ReplayOver.{ReplaysOver, ReplaysOf};
 
 use crate::events::{NewRoute, TapeEvent, read_event};
-use crate::lines::{Taken, next_line};
-use crate::reader::CountedReader;
+use crate::reader::{CountedReader, TapeLine, next_tape_line};
 use crate::texts::{
     MAX_TEXT, write_arrived, write_closed, write_none, write_opened, write_sent, write_ticked,
     write_turned,
@@ -300,15 +299,12 @@ fn answer_next<R: RouteStep, L: Doors, B: BufRead, W: Write>(
     ensures answered { TriesNext ⟦<Hub<R, L> as Gateway>⟧.stands hub.old hub.new L.class R.reply
         (B.remaining (source reader.old)) (B.remaining (source reader.new)) (W.contents (sink writer.old)) (W.contents (sink writer.new)) number result }
 {
-    let len = match next_line(reader, &mut work.line) {
-        Ok(Taken::Line(len)) => len,
-        Ok(Taken::Long) => return Err(ReplayFault::Tape(number)),
-        Ok(Taken::End) => return Ok(false),
+    let len = match next_tape_line(reader, &mut work.line, number) {
+        Ok(TapeLine::Line(len)) => len,
+        Ok(TapeLine::Beyond) => return Err(ReplayFault::Tape(number)),
+        Ok(TapeLine::End) => return Ok(false),
         Err(_) => return Err(ReplayFault::Read),
     };
-    if number > MAX_TAPE_LINES {
-        return Err(ReplayFault::Tape(number));
-    }
     let end = match answer_line(hub, &work.line[..len], &mut work.desk) {
         Ok(Some(end)) => end,
         Ok(None) => return Err(ReplayFault::Tape(number)),

@@ -1,8 +1,8 @@
 -- The transcript of a tape and of the output of its replay (our choice).
 use Rattle.std.specs.Prelude.{ℕ, ◌≡◌, ◌⊎◌, ◌+◌, ◌-◌, ◌<◌, ◌≤◌, Bool, true, List, [], ◌∷◌, ◌++◌, take, drop, length, All, codes, decimal, if◌then◌else◌}
 use Rattle.std.specs.Prelude.{Option, None, Some, is_some, Result, Ok, Err}
-use Rattle.srt_replay.specs.Tape.{lines_of, max_line}
-use Rattle.srt_replay.specs.Replay.{event_at, max_lines}
+use Rattle.srt_replay.specs.Tape.{lines_of, max_line, max_lines}
+use Rattle.srt_replay.specs.Replay.{event_at}
 use Rattle.srt_replay.specs.Known.{NoLf, Wrote}
 use Rattle.srt_transcript.specs.declared.transcribing.TranscriptFault.{TranscriptFault}
 use Rattle.srt_transcript.specs.declared.transcribing.TranscriptFault.TheVariants.{NoEvent, Output, Read, Write}

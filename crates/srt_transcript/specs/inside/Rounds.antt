@@ -1,8 +1,7 @@
 -- A transcript between two lines.
 use Rattle.std.specs.Prelude.{ℕ, ◌≡◌, ◌⊎◌, ◌+◌, ◌≤◌, Bool, true, false, List, drop, length, All, Option, None, Some, Result, Ok, Err}
-use Rattle.srt_replay.specs.Tape.{lines_of}
+use Rattle.srt_replay.specs.Tape.{lines_of, max_lines}
 use Rattle.srt_replay.specs.Known.{NoLf, Wrote}
-use Rattle.srt_replay.specs.Replay.{max_lines}
 use Rattle.srt_replay.specs.Counted.{WasUnread}
 use Rattle.srt_replay.specs.declared.reader.Brought.{Brought}
 use Rattle.srt_replay.specs.declared.reader.Brought.TheVariants.{End as AtEnd}

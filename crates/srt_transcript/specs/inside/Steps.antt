@@ -1,7 +1,6 @@
 -- The explanation of one line.
 use Rattle.std.specs.Prelude.{ℕ, ◌≡◌, ◌⊎◌, ◌+◌, ◌<◌, ◌≤◌, Bool, true, false, List, ◌∷◌, take, length, Option, Some, Result, Ok, Err}
-use Rattle.srt_replay.specs.Tape.{lines_of, max_line}
-use Rattle.srt_replay.specs.Replay.{max_lines}
+use Rattle.srt_replay.specs.Tape.{lines_of, max_line, max_lines}
 use Rattle.srt_replay.specs.Known.{NoLf, Wrote, TookLine, NoLine}
 use Rattle.srt_replay.specs.Counted.{WasUnread}
 use Rattle.srt_replay.specs.declared.reader.Brought.{Brought}

@@ -4,7 +4,7 @@ use Rattle.srt_hub.specs.World.{Event, names_in, world_after}
 use Rattle.srt_hub.specs.inside.Queued.{item_in, reply_in}
 use Rattle.srt_hub.specs.inside.Stands.{IsLane}
 use Rattle.srt_hub.specs.Hubs.{AreLanes, IsHub}
-use Rattle.srt_replay.specs.Replay.{max_lines}
+use Rattle.srt_replay.specs.Tape.{max_lines}
 use Rattle.srt_replay.specs.Counted.{source, reads_left}
 use Rattle.srt_replay.specs.Tries.{sink}
 use Rattle.srt_replay.specs.inside.Step.{IsReplaying}

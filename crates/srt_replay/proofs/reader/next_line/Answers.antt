@@ -2,7 +2,7 @@ use Rattle.std.proofs.Common.{arith, ◌≡◌, ℕ, length, take, sym, ap, subs
 use Rattle.srt_replay.specs.Known.{Took, NoLf}
 use Rattle.srt_replay.specs.Counted.{source}
 use Rattle.srt_replay.proofs.FirstLine.{line_ended, long_line, ended_at}
-use Rattle.srt_replay.proofs.lines.next_line.Goals as goal
+use Rattle.srt_replay.proofs.reader.next_line.Goals as goal
 
 pub returns-in-Line-clause-took : goal.returns-in-Line-clause-took
 returns-in-Line-clause-took g c =

@@ -1,7 +1,7 @@
 use Rattle.std.proofs.Common.{◌≡◌, ◌≤◌, length, take}
 use Rattle.srt_replay.specs.Known.{Took, NoLf}
 use Rattle.srt_replay.specs.Counted.{source, reads_left}
-use Rattle.srt_replay.proofs.lines.next_line.Given as goal
+use Rattle.srt_replay.proofs.reader.next_line.Given as goal
 
 abbrev pub invariant-loop-reader : goal.invariant-loop-reader
 invariant-loop-reader g l =
