@@ -37,7 +37,7 @@ use Rattle.srt_route.specs.declared.slot_keys.KeyVerdict.TheVariants.{TooMany, W
 use Rattle.srt_route.specs.RouteKeys.{Brought, KeysOpened, RouteKeys, SlotKeys, Clear, brought_in, cookie_in, first_keys, has_secured_role, opening}
 use Rattle.srt_route.specs.RouteKeys.{OfPublisher, OfSubscriber, own_in, passphrase_of, request_of, secures, with_slot}
 use Rattle.srt_route.specs.Decryption.{clear_bytes}
-use Rattle.srt_route.specs.EncryptedOutput.{KeyedOutput, keyed_text, keys_reported}
+use Rattle.srt_route.specs.EncryptedOutput.{KeyedOutput, announcement_if, is_announced, keyed_text, keys_reported}
 use Rattle.srt_route.specs.GivingUp.{given_up_if}
 use Rattle.srt_route.specs.KeyRefresh.{answer_by, refreshed, request_in}
 use Rattle.srt_route.specs.KeyRefresh.{Confirmation, confirmation_in, confirmed_by}
@@ -566,10 +566,20 @@ keyed_by s output = record { peer = s.peer; packet = SaysWithKeys output }
 abbrev pub keyed_packets_at : Keys → Terms → (here : Bool) → (clock : ℕ) → Session → List Reply
 keyed_packets_at keys e here clock s = map (keyed_by s) (outputs_at keys e here clock s)
 
--- the packets of a session in step 6: a subscriber that has the whole file is sent a SHUTDOWN in place of a KEEPALIVE,
--- since nothing else is due; the others are sent their packets, under keys of their own if they have some
+-- the KMREQ of a subscriber's next key, if that is due at the end of an event
+abbrev pub announced_past : Keys → (caller time : ℕ) → Past → List KeyedOutput
+announced_past keys caller time (Publishes p) = []
+announced_past keys caller time (Subscribes s) = announcement_if (is_announced keys time s) (keys_reported time s keys) caller time
+
+abbrev pub announced_to : (keys : Option Keys) → (clock : ℕ) → Session → List Reply
+announced_to None clock s = []
+announced_to (Some keys) clock s = map (keyed_by s) (announced_past keys s.conclusion.caller (time_in s clock) s.past)
+
+-- the packets of a session in step 6: a subscriber that has the whole file is sent a SHUTDOWN in place of a KEEPALIVE, and
+-- before it the KMREQ of its next key, if that is due; nothing else is. The others are sent their packets, under keys of
+-- their own if they have some
 abbrev pub served_at : (whole : Bool) → (keys : Option Keys) → Terms → (clock : ℕ) → Session → List Reply
-served_at true keys e clock s = shutdown_to clock s ∷ []
+served_at true keys e clock s = announced_to keys clock s ++ shutdown_to clock s ∷ []
 served_at false None e clock s = packets_at e (is_subscriber s) clock s
 served_at false (Some keys) e clock s = keyed_packets_at keys e (is_subscriber s) clock s
 
@@ -591,22 +601,17 @@ keys_said time (Subscribes s) Clear = Clear
 keys_said time (Subscribes s) (OfPublisher request keys) = OfPublisher request keys
 keys_said time (Subscribes s) (OfSubscriber request keys) = OfSubscriber request (keys_reported time s keys)
 
-abbrev pub keys_served : (whole : Bool) → (clock : ℕ) → Session → SlotKeys → SlotKeys
-keys_served true clock s keys = keys
-keys_served false clock s keys = keys_said (time_in s clock) s.past keys
-
-abbrev pub keys_in_slot : (clock : ℕ) → (over : Bool) → Option Session → SlotKeys → SlotKeys
-keys_in_slot clock over None keys = keys
-keys_in_slot clock over (Some s) keys = keys_served (has_whole_file over s) clock s keys
+abbrev pub keys_in_slot : (clock : ℕ) → Option Session → SlotKeys → SlotKeys
+keys_in_slot clock None keys = keys
+keys_in_slot clock (Some s) keys = keys_said (time_in s clock) s.past keys
 
 -- a route's keys after step 6; the same if subscribers' sessions aren't encrypted
-abbrev pub keys_finished_if : (secured : Bool) → (clock : ℕ) → (over : Bool) → List Session → RouteKeys → RouteKeys
-keys_finished_if true clock over sessions keys =
-    record keys { held = λ slot. keys_in_slot clock over (find (is_open_in slot) sessions) (keys.held slot) }
-keys_finished_if false clock over sessions keys = keys
+abbrev pub keys_finished_if : (secured : Bool) → (clock : ℕ) → List Session → RouteKeys → RouteKeys
+keys_finished_if true clock sessions keys = record keys { held = λ slot. keys_in_slot clock (find (is_open_in slot) sessions) (keys.held slot) }
+keys_finished_if false clock sessions keys = keys
 
-abbrev pub keys_finished : Terms → (clock : ℕ) → (over : Bool) → List Session → RouteKeys → RouteKeys
-keys_finished e clock over sessions keys = keys_finished_if (secures e Request) clock over sessions keys
+abbrev pub keys_finished : Terms → (clock : ℕ) → List Session → RouteKeys → RouteKeys
+keys_finished e clock sessions keys = keys_finished_if (secures e Request) clock sessions keys
 
 -- the result of an item, on a route that wasn't closed: first the clock and the sessions' time advance, then the item
 -- is processed as the route's keys have it (our choice)
@@ -652,8 +657,7 @@ sessions_at false e index item route =
 abbrev pub keys_at : (is_closed : Bool) → Terms → (index : ℕ) → Item → Route → RouteKeys
 keys_at true e index item route = route.keys
 keys_at false e index item route =
-    let sessions = passed_by e index item route in
-    keys_finished e (clock_after item route) (is_file_over e sessions) sessions (judgement e index item route).keys
+    keys_finished e (clock_after item route) (passed_by e index item route) (judgement e index item route).keys
 
 abbrev pub closes : Item → Bool
 closes (Received datagram moment) = false

@@ -7,7 +7,8 @@ ghost use Rattle.srt_packet.specs.Encoded.{bytes_of};
 ghost use Rattle.srt_session_keys.specs.Subscriber.{has_key, subscriber_of};
 ghost use Rattle.srt_route.specs.Buffers.{datagrams_to};
 ghost use Rattle.srt_route.specs.EncryptedOutput.{announcement_if, payload_key, payloads_confirmed};
-ghost use Rattle.srt_route.specs.inside.Encrypting.{EmitsAllWith, IsMade, QueuesAll, QueuesEmitted, ReportsWith, encrypted_if, pending_after};
+ghost use Rattle.srt_route.specs.inside.Encrypting.{AnnouncesWith, EmitsAllWith, IsMade, QueuesAll, QueuesEmitted, ReportsWith, encrypted_if};
+ghost use Rattle.srt_route.specs.inside.Encrypting.{pending_after};
 ghost use Rattle.srt_route.specs.inside.Reports.{Queues};
 
 use crate::replies::Reply;
@@ -168,4 +169,22 @@ pub(crate) fn transmit_encrypted(
     let window = subscriber.hold(confirmed_payloads(keys));
     emit_encrypted(subscriber, keys, to, announced, scratch, waiting);
     subscriber.release(window);
+}
+
+/// Queues the KMREQ of the next key of a subscriber's session that ends, if it is due.
+pub(crate) fn announce_at_end(
+    subscriber: &Subscriber,
+    keys: &mut SubscriberKeys,
+    to: KeyReceiver,
+    hand: &mut Box<Reply>,
+    waiting: &mut ReplyQueue,
+)
+    ensures { AnnouncesWith to (subscriber_of keys.old) (subscriber_of keys.new) subscriber.now waiting.old waiting.new }
+{
+    let queued = subscriber.queued_payloads();
+    if queued >= MAX_QUEUED {
+        return;
+    }
+    let announced = keys.announce(queued, to.time);
+    put_announcement(keys, to, announced, hand, waiting);
 }

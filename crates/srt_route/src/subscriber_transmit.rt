@@ -8,16 +8,18 @@ ghost use Rattle.srt_route.specs.RouteKeys.{RouteKeys as Keys, secures};
 ghost use Rattle.srt_route.specs.SlotKeys.{place_keys_of, slot_keys_of};
 ghost use Rattle.srt_route.specs.StoredKeys.{AreKeys};
 ghost use Rattle.srt_route.specs.Tables.{has_subscriber, hears_recently};
-ghost use Rattle.srt_route.specs.inside.Files.{EndsFiles, SeatEnds, SeatServedWith, ServesSubscribers, ServesWithKeys, TransmitsAs, receiver_of};
+ghost use Rattle.srt_route.specs.inside.Files.{AnnouncesAs, EndsFiles, SeatEndsWith, SeatServedWith, ServesSubscribers, ServesWithKeys, TransmitsAs};
+ghost use Rattle.srt_route.specs.inside.Files.{receiver_of};
 ghost use Rattle.srt_route.specs.inside.Reports.{Queues};
 ghost use Rattle.srt_route.specs.Ledgers.{CountsStay};
 ghost use Rattle.srt_route.specs.Totals.{SumsGrow};
 ghost use Rattle.srt_route.specs.declared.seat.Session.{Session as StoredSession};
 
 use crate::closing::close_seat;
-use crate::encrypted_transmit::{KeyReceiver, transmit_encrypted};
+use crate::encrypted_transmit::{KeyReceiver, announce_at_end, transmit_encrypted};
 use crate::files::is_file_over;
 use crate::ledger::{Ledger, file_cause};
+use crate::replies::Reply;
 use crate::reply_queue::{ReplyQueue, ScratchBoxes};
 use crate::route_keys::RouteKeys;
 use crate::seat::{Seat, Session};
@@ -127,8 +129,59 @@ fn transmit_place(
     }
 }
 
+/// Queues the KMREQ of the next key of a subscriber's session that ends, if it is due. Sessions without keys of their own have
+/// none.
+fn announce_with(
+    subscriber: &Subscriber,
+    keys: &mut SlotKeys,
+    to: KeyReceiver,
+    hand: &mut Box<Reply>,
+    waiting: &mut ReplyQueue,
+)
+    ensures { AnnouncesAs to (slot_keys_of keys.old) (slot_keys_of keys.new) subscriber.now waiting.old waiting.new }
+{
+    match keys {
+        SlotKeys::Clear => {}
+        SlotKeys::Publisher { .. } => {}
+        SlotKeys::Subscriber { keys, .. } => announce_at_end(subscriber, keys, to, hand, waiting),
+    }
+}
+
+/// The same of a session whose slot may have keys.
+fn announce_under(
+    subscriber: &Subscriber,
+    slot: &mut KeyPlace,
+    to: KeyReceiver,
+    hand: &mut Box<Reply>,
+    waiting: &mut ReplyQueue,
+)
+    ensures { AnnouncesAs to (place_keys_of slot.old) (place_keys_of slot.new) subscriber.now waiting.old waiting.new }
+{
+    if !slot.is_held {
+        return;
+    }
+    announce_with(subscriber, &mut slot.keys, to, hand, waiting);
+}
+
+/// The same of the session in a seat, if one is open.
+fn announce_place(
+    seat: &Seat,
+    place: &mut KeyPlace,
+    clock: u64,
+    hand: &mut Box<Reply>,
+    waiting: &mut ReplyQueue,
+)
+    ensures { (t : StoredSession) → seat.now.session ≡ Some t →
+        AnnouncesAs (receiver_of clock false t) (place_keys_of place.old) (place_keys_of place.new) seat.now.subscriber waiting.old waiting.new }
+{
+    if let Some(session) = &seat.session {
+        let to = receiver_of(session, clock, false);
+        announce_under(&seat.subscriber, place, to, hand, waiting);
+    }
+}
+
 /// Queues the packets of a seat's subscriber, if one is open, under the keys of its slot. If it has the `whole` file, its session
-/// ends instead, with a SHUTDOWN.
+/// ends instead, with a SHUTDOWN, before which the KMREQ of its next key is sent if that is due.
 fn serve_place(
     seat: &mut Seat,
     place: &mut KeyPlace,
@@ -138,11 +191,12 @@ fn serve_place(
     waiting: &mut ReplyQueue,
 )
     requires { clock < 2 ^ 62 }
-    ensures ends { whole ≡ true → SeatEnds clock seat.old seat.new waiting.old waiting.new }
-    ensures kept { whole ≡ true → place_keys_of place.new ≡ place_keys_of place.old }
+    ensures ends { whole ≡ true →
+        SeatEndsWith clock (place_keys_of place.old) (place_keys_of place.new) seat.old seat.new waiting.old waiting.new }
     ensures served { whole ≡ false → SeatServedWith clock (place_keys_of place.old) (place_keys_of place.new) seat.old seat.new waiting.old waiting.new }
 {
     if whole {
+        announce_place(seat, place, clock, &mut scratch.ack, waiting);
         close_seat(seat, clock, &mut scratch.reply, waiting);
         return;
     }

@@ -34,6 +34,7 @@ use Rattle.srt_route.specs.Route.{arrived, answered_by, said_by, packet_taken, r
 use Rattle.srt_route.specs.Route.{packets_at}
 use Rattle.srt_route.specs.Route.{has_whole_file, lost_notified, served_at, notified_if}
 use Rattle.srt_route.proofs.model.FileEnds.{whole_subscribes}
+use Rattle.srt_route.specs.Route.{announced_past, announced_to, shutdown_to}
 
 -- a publisher is sent at most an ACK and a NAK, and a KEEPALIVE only without them
 acks_few : (full light : Bool) (x y : publisher.Report) → length (publisher.ack_of full light x y) ≤ 1
@@ -223,21 +224,35 @@ either true false false = omega arith
 either false true draining = omega arith
 either false false draining = omega arith
 
--- a session that has the whole file is sent a SHUTDOWN instead
+-- a session that has the whole file is sent a SHUTDOWN instead, and at most one KMREQ before it
+past_announced_few : (keys : Keys) (caller time : ℕ) (past : Past) → length (announced_past keys caller time past) ≤ 1
+past_announced_few keys caller time (Publishes p) = omega arith
+past_announced_few keys caller time (Subscribes m) = announced_few (is_announced keys time m) (keys_reported time m keys) caller time
+
+ending_few : (keys : Option Keys) (clock : ℕ) (s : Session) → length (announced_to keys clock s ++ shutdown_to clock s ∷ []) ≤ 2
+ending_few None clock s = omega arith
+ending_few (Some keys) clock s =
+    omega (
+      arith,
+      length-append (announced_to (Some keys) clock s) (shutdown_to clock s ∷ []),
+      length-map (announced_past keys s.conclusion.caller (time_in s clock) s.past) (keyed_by s),
+      past_announced_few keys s.conclusion.caller (time_in s clock) s.past,
+    )
+
 served_few : (keys : Option Keys) (e : Terms) (clock : ℕ) (over : Bool) (s : Session)
     → length (served_at (has_whole_file over s) keys e clock s) ≤ cond (is_subscriber s) 66 0
 served_few keys e clock over s = by (has_whole_file over s) refl keys
   where
-    one : (b : Bool) → b ≡ true → 1 ≤ cond b 66 0
-    one true is = omega arith
-    one false is = absurd (let bad : false ≡ true = is in cc)
+    two : (b : Bool) (n : ℕ) → b ≡ true → n ≤ 2 → n ≤ cond b 66 0
+    two true n is few = omega (arith, few)
+    two false n is few = absurd (let bad : false ≡ true = is in cc)
 
     more : (b : Bool) → length (packets_at e b clock s) ≤ cond b 65 0 → length (packets_at e b clock s) ≤ cond b 66 0
     more true few = omega (arith, few)
     more false few = few
 
     by : (b : Bool) → has_whole_file over s ≡ b → (k : Option Keys) → length (served_at b k e clock s) ≤ cond (is_subscriber s) 66 0
-    by true is k = one (is_subscriber s) (whole_subscribes over s is)
+    by true is k = two (is_subscriber s) (length (served_at true k e clock s)) (whole_subscribes over s is) (ending_few k clock s)
     by false is None = more (is_subscriber s) (said_few e (is_subscriber s) clock s)
     by false is (Some k) = keyed_few k e (is_subscriber s) clock s
 

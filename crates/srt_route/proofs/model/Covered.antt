@@ -41,6 +41,7 @@ use Rattle.srt_route.proofs.model.Lists.{Each, each_append, each_flat, each_mapp
 use Rattle.srt_route.proofs.model.OwnKeys.{before_have_own, passed_own}
 use Rattle.srt_route.proofs.model.Secured.{IsResponseOutput, IsShortVerdict, verdict_short}
 use Rattle.srt_route.proofs.model.Sound.{IsSound, after_sound, is_publishing, passed_by_sound}
+use Rattle.srt_route.specs.Route.{announced_past, announced_to}
 
 abbrev IsCoveredReply : Reply → Type 0
 IsCoveredReply r = IsCovered r.packet
@@ -235,10 +236,22 @@ keyed_covered keys e true clock s =
     (past_covered keys (terms_of e s) s.conclusion.caller s.conclusion.initial (time_in s clock) (is_recent s clock) s.past)
 keyed_covered keys e false clock s = tt
 
+-- the KMREQ before a SHUTDOWN
+ending_covered : (keys : Keys) (clock : ℕ) (s : Session) (past : Past)
+    → Each IsCoveredReply (map (keyed_by s) (announced_past keys s.conclusion.caller (time_in s clock) past))
+ending_covered keys clock s (Publishes p) = tt
+ending_covered keys clock s (Subscribes m) =
+    let time = time_in s clock in
+    let later = keys_reported time m keys in
+    each_mapped IsCoveredOutput IsCoveredReply (keyed_by s) (λ x one. one) (announcement_if (is_announced keys time m) later s.conclusion.caller time)
+    (announced_covered (is_announced keys time m) later s.conclusion.caller time)
+
 -- the subscribers' packets
 served_covered : (whole : Bool) (keys : Option Keys) (e : Terms) (clock : ℕ) (s : Session) (b : Bool) → is_subscriber s ≡ b → (b ≡ true → is_some keys ≡ true)
     → Each IsCoveredReply (served_at whole keys e clock s)
-served_covered true keys e clock s b is has = (tt, tt)
+served_covered true None e clock s b is has = (tt, tt)
+served_covered true (Some keys) e clock s b is has =
+    each_append IsCoveredReply (announced_to (Some keys) clock s) (shutdown_to clock s ∷ []) (ending_covered keys clock s s.past) (tt, tt)
 served_covered false None e clock s true is has = absurd (let bad : false ≡ true = has refl in cc)
 served_covered false None e clock s false is has = subst (λ (d : Bool). Each IsCoveredReply (packets_at e d clock s)) (sym is) tt
 served_covered false (Some keys) e clock s b is has = keyed_covered keys e (is_subscriber s) clock s

@@ -28,9 +28,9 @@ use Rattle.srt_route.specs.Sessions.{Session, advanced, aged, generation_of, is_
 use Rattle.srt_route.specs.Sessions.{settled, takes_over, time_end, time_in, with_end}
 use Rattle.srt_route.specs.Route.{Judged, Route, after, after_delivery, answered_judged, arrived, asked, clock_after, concluded, concludes}
 use Rattle.srt_route.specs.Route.{conclusion_judged, confirmed_at, confirmed_for, considered, decision, delivered, delivery, drain_end, drain_of, ended}
-use Rattle.srt_route.specs.Route.{finished, gives_some, has_whole_file, heard_as, heard_if, info_judged, info_of, is_file_over, is_for, is_of, item_judged}
+use Rattle.srt_route.specs.Route.{finished, gives_some, heard_as, heard_if, info_judged, info_of, is_file_over, is_for, is_of, item_judged}
 use Rattle.srt_route.specs.Route.{judged_by, judged_if, judgement, kept_at, key_opening, keys_at, keys_confirmed, keys_finished_if, keys_in_slot, keys_kept}
-use Rattle.srt_route.specs.Route.{keys_said, keys_served, least_room, own_by, packet_end, passed_by, read_judged, read_taken, room_if}
+use Rattle.srt_route.specs.Route.{keys_said, least_room, own_by, packet_end, passed_by, read_judged, read_taken, room_if}
 use Rattle.srt_route.specs.Route.{session_judged, session_opened, sessions_at, settled_by, taken, taken_by, took_packet, without_destination}
 use Rattle.srt_route.specs.Tables.{AreAlone}
 use Rattle.srt_route.proofs.model.Alone.{after_delivery_alone, advanced_alone, are_alone, before_are_alone, delivered_alone, marked_alone, passes, taken_alone}
@@ -351,18 +351,14 @@ said_own time (Subscribes s) Clear h = h
 said_own time (Subscribes s) (OfPublisher request keys) h = h
 said_own time (Subscribes s) (OfSubscriber request keys) h = refl
 
-served_own : (whole : Bool) (clock : ℕ) (s : Session) (k : SlotKeys) → HasOwn k → HasOwn (keys_served whole clock s k)
-served_own true clock s k h = h
-served_own false clock s k h = said_own (time_in s clock) s.past k h
+in_slot_own : (clock : ℕ) (o : Option Session) (k : SlotKeys) → HasOwn k → HasOwn (keys_in_slot clock o k)
+in_slot_own clock None k h = h
+in_slot_own clock (Some s) k h = said_own (time_in s clock) s.past k h
 
-in_slot_own : (clock : ℕ) (over : Bool) (o : Option Session) (k : SlotKeys) → HasOwn k → HasOwn (keys_in_slot clock over o k)
-in_slot_own clock over None k h = h
-in_slot_own clock over (Some s) k h = served_own (has_whole_file over s) clock s k h
-
-finished_own : (secured : Bool) (clock : ℕ) (over : Bool) (ss ts : List Session) (keys : RouteKeys) → HaveOwn ts keys.held
-    → HaveOwn ts (keys_finished_if secured clock over ss keys).held
-finished_own true clock over ss ts keys h = λ k s found reads. in_slot_own clock over (find (is_open_in k) ss) (keys.held k) (h k s found reads)
-finished_own false clock over ss ts keys h = h
+finished_own : (secured : Bool) (clock : ℕ) (ss ts : List Session) (keys : RouteKeys) → HaveOwn ts keys.held
+    → HaveOwn ts (keys_finished_if secured clock ss keys).held
+finished_own true clock ss ts keys h = λ k s found reads. in_slot_own clock (find (is_open_in k) ss) (keys.held k) (h k s found reads)
+finished_own false clock ss ts keys h = h
 
 event_own : (is_closed : Bool) (e : Terms) (index : ℕ) (item : Item) (m : Route) → secures e Request ≡ true → AreAlone e.sessions m.sessions
     → HaveOwn m.sessions m.keys.held → HaveOwn (sessions_at is_closed e index item m) (keys_at is_closed e index item m).held
@@ -374,7 +370,7 @@ event_own false e index item m secured alone h =
     let own = own_by e index item m in
     let taken_are = taken_alone e index clock (heard_as (judgement e index item m).verdict item) (advanced e clock m.sessions)
     (advanced_alone e clock m.sessions alone) in
-    finished_own (secures e Request) clock over ss (map (finished own e clock over) ss) (judgement e index item m).keys
+    finished_own (secures e Request) clock ss (map (finished own e clock over) ss) (judgement e index item m).keys
     (have_mapped (finished own e clock over) (finishes own e clock over) e.sessions ss
     (after_delivery_alone e clock (taken_by e index item m).sessions taken_are) (judgement e index item m).keys.held
     (passed_own e index item m secured alone h))

@@ -41,7 +41,7 @@ use Rattle.srt_route.specs.Route.{Judged, Route, Verdict, Passes, Ignored, Refus
 use Rattle.srt_route.specs.Route.{concludes, conclusion_judged, decision}
 use Rattle.srt_route.specs.Route.{heard_as, heard_by, info_judged, info_of, is_of, item_judged, judged_by, judged_if, judgement, kept_at, key_opening}
 use Rattle.srt_route.specs.Route.{keys_at, keys_kept}
-use Rattle.srt_route.specs.Route.{has_whole_file, is_file_over, keys_finished_if, keys_in_slot, keys_said, keys_served, own_by, passed_by}
+use Rattle.srt_route.specs.Route.{keys_finished_if, keys_in_slot, keys_said, own_by, passed_by}
 use Rattle.srt_route.proofs.model.KeyLengths.{IsWholeMessage, IsWholeSource, kek_long, message_whole}
 use Rattle.srt_route.specs.Route.{confirmed_at, confirmed_for, keys_confirmed}
 use Rattle.srt_route.specs.Route.{read_judged, taken, taken_as, taken_by}
@@ -295,25 +295,21 @@ said_short time (Subscribes s) (OfPublisher request keys) h = h
 said_short time (Subscribes s) (OfSubscriber request keys) h =
     record { request = h.request; own = announced_whole (is_announced keys time s) time keys h.own }
 
-served_short : (whole : Bool) (clock : ℕ) (s : Session) (k : SlotKeys) → IsShortSlot k → IsShortSlot (keys_served whole clock s k)
-served_short true clock s k h = h
-served_short false clock s k h = said_short (time_in s clock) s.past k h
+in_slot_short : (clock : ℕ) (o : Option Session) (k : SlotKeys) → IsShortSlot k → IsShortSlot (keys_in_slot clock o k)
+in_slot_short clock None k h = h
+in_slot_short clock (Some s) k h = said_short (time_in s clock) s.past k h
 
-in_slot_short : (clock : ℕ) (over : Bool) (o : Option Session) (k : SlotKeys) → IsShortSlot k → IsShortSlot (keys_in_slot clock over o k)
-in_slot_short clock over None k h = h
-in_slot_short clock over (Some s) k h = served_short (has_whole_file over s) clock s k h
-
-finished_short : (secured : Bool) (clock : ℕ) (over : Bool) (ss : List Session) (keys : RouteKeys) → AreShort keys
-    → AreShort (keys_finished_if secured clock over ss keys)
-finished_short true clock over ss keys short =
-    λ slot. in_slot_short clock over (find (is_open_in slot) ss) (keys.held slot) (short slot)
-finished_short false clock over ss keys short = short
+finished_short : (secured : Bool) (clock : ℕ) (ss : List Session) (keys : RouteKeys) → AreShort keys
+    → AreShort (keys_finished_if secured clock ss keys)
+finished_short true clock ss keys short =
+    λ slot. in_slot_short clock (find (is_open_in slot) ss) (keys.held slot) (short slot)
+finished_short false clock ss keys short = short
 
 keys_short : (is_closed : Bool) (e : Terms) (index : ℕ) (item : Item) (m : Route) → AreShort m.keys → AreShort (keys_at is_closed e index item m)
 keys_short true e index item m short = short
 keys_short false e index item m short =
     let ss = passed_by e index item m in
-    finished_short (secures e Request) (clock_after item m) (is_file_over e ss) ss (judgement e index item m).keys (judgement_short e index item m short).keys
+    finished_short (secures e Request) (clock_after item m) ss (judgement e index item m).keys (judgement_short e index item m short).keys
 
 all_short : (e : Terms) (index : ℕ) (items : List Item) → AreShort (after e index items).keys
 all_short e index [] = λ slot. record { request = tt; own = tt }

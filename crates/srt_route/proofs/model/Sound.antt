@@ -65,6 +65,7 @@ use Rattle.srt_route.proofs.renumbering.Relabelled.{all_replies}
 use Rattle.srt_route.specs.GivingUp.{given_up_at}
 use Rattle.srt_route.specs.Route.{route_before}
 use Rattle.srt_route.proofs.model.GivingUp.{each_before}
+use Rattle.srt_route.specs.Route.{announced_past, announced_to}
 
 -- payloads
 abbrev IsPayload : List ℕ → Type 0
@@ -617,9 +618,21 @@ all_served_said e clock over ss h =
     each_flat IsSound IsSaidReply (λ s. served_at (has_whole_file over s) None e clock s)
     (λ s one. served_said (has_whole_file over s) e clock s one) (by_slot e ss) (sound_by_slot e ss h)
 
+-- the KMREQ before a SHUTDOWN
+announced_sent : (keys : Keys) (clock : ℕ) (s : Session) (past : Past) → IsWholeSource keys.source
+    → Each IsSentReply (map (keyed_by s) (announced_past keys s.conclusion.caller (time_in s clock) past))
+announced_sent keys clock s (Publishes p) whole = tt
+announced_sent keys clock s (Subscribes m) whole =
+    let time = time_in s clock in
+    let later = keys_reported time m keys in
+    each_mapped IsKeyed IsSentReply (keyed_by s) (λ x one. one) (announcement_if (is_announced keys time m) later s.conclusion.caller time)
+    (announced_keyed (is_announced keys time m) later s.conclusion.caller time (source_stays (is_announced keys time m) time keys whole))
+
 served_sent : (whole : Bool) (keys : Option Keys) (e : Terms) (clock : ℕ) (s : Session) → IsWholeOwn keys → IsSound s
     → Each IsSentReply (served_at whole keys e clock s)
-served_sent true keys e clock s are h = (tt, tt)
+served_sent true None e clock s are h = (tt, tt)
+served_sent true (Some k) e clock s are h =
+    each_append IsSentReply (announced_to (Some k) clock s) (shutdown_to clock s ∷ []) (announced_sent k clock s s.past are) (tt, tt)
 served_sent false None e clock s are h = all_sent (packets_at e (is_subscriber s) clock s) (packets_said e (is_subscriber s) clock s h)
 served_sent false (Some k) e clock s are h = session_keyed k e (is_subscriber s) clock s are h
 

@@ -49,7 +49,7 @@ use Rattle.srt_route.specs.EncryptedOutput.{KeyedOutput}
 use Rattle.srt_route.specs.Past.{outputs_of}
 use Rattle.srt_route.specs.Sessions.{outputs_at}
 use Rattle.srt_route.specs.RouteKeys.{own_if, own_keys, secures}
-use Rattle.srt_route.specs.Route.{SaysWithKeys, keyed_by, keyed_packets_at, keys_finished_if, keys_in_slot, keys_said, keys_served, own_by}
+use Rattle.srt_route.specs.Route.{SaysWithKeys, keyed_by, keyed_packets_at, keys_finished_if, keys_in_slot, keys_said, own_by}
 use Rattle.srt_route.specs.Route.{replies_at, replies_to, sessions_at, with_input, after}
 use Rattle.srt_route.specs.Route.{finished, finished_at, has_whole_file, is_file_over, packet_end, sends_files, served, served_at, took_packet}
 use Rattle.srt_route.specs.Sessions.{drains_open, ends_unless, is_draining, is_over, is_over_at, is_recent, is_same_peer, is_silent_at}
@@ -77,6 +77,7 @@ use Rattle.srt_route.proofs.model.Lists.{fold_through}
 use Rattle.srt_route.specs.GivingUp.{given_up, given_up_at, given_up_if, is_late, is_unconfirmed}
 use Rattle.srt_route.specs.Route.{found_by, route_before}
 use Rattle.srt_route.specs.RouteKeys.{own_in}
+use Rattle.srt_route.specs.Route.{announced_past, announced_to}
 
 -- the values that change: timestamps, initial numbers, times. The distance of two timestamps stays
 pub record Change : Type 0 where
@@ -802,13 +803,23 @@ keyed_here : (keys : Keys) (e : Terms) (r : Change) (here : Bool) (clock : ℕ) 
 keyed_here keys e r here clock s secured =
     ap (λ (os : List KeyedOutput). map (keyed_by s) os) (outputs_here keys e r here clock s secured) ∙ same_keyed r s (outputs_at keys e here clock s)
 
+announced_here : (keys : Keys) (r : Change) (clock : ℕ) (s : Session)
+    → announced_to (Some keys) (clock + r.later) (changed_session r s) ≡ map (changed_reply r) (announced_to (Some keys) clock s)
+announced_here keys r clock s =
+    ap (λ (t : ℕ). map (keyed_by s) (announced_past keys s.conclusion.caller t s.past)) (own_time r clock s)
+    ∙ same_keyed r s (announced_past keys s.conclusion.caller (time_in s clock) s.past)
+
 -- only a secured route has keys
 abbrev AreSecured : Change → (keys : Option Keys) → Type 0
 AreSecured r keys = is_some keys ≡ true → r.secured ≡ true
 
 served_here : (e : Terms) (r : Change) (clock : ℕ) (whole : Bool) (keys : Option Keys) (s : Session) → AreSecured r keys
     → served_at whole keys e (clock + r.later) (changed_session r s) ≡ map (changed_reply r) (served_at whole keys e clock s)
-served_here e r clock true keys s secured = ap (λ x. x ∷ []) (shutdown_same r clock s)
+served_here e r clock true None s secured = ap (λ x. x ∷ []) (shutdown_same r clock s)
+served_here e r clock true (Some keys) s secured =
+    ap (λ (xs : List Reply). xs ++ shutdown_to (clock + r.later) (changed_session r s) ∷ []) (announced_here keys r clock s)
+    ∙ ap (λ x. map (changed_reply r) (announced_to (Some keys) clock s) ++ x ∷ []) (shutdown_same r clock s)
+    ∙ sym (map-append (changed_reply r) (announced_to (Some keys) clock s) (shutdown_to clock s ∷ []))
 served_here e r clock false None s secured = packets_here e r (is_subscriber s) clock s
 served_here e r clock false (Some keys) s secured = keyed_here keys e r (is_subscriber s) clock s (secured refl)
 
@@ -1368,29 +1379,24 @@ sessions_same false e index r fits j i n m h k =
     (own_same e index r fits j i n m h k s.slot) ∙ finished_here e r clock (has_whole_file over s) (own s.slot) s) ss
 
 -- the keys after the end of an event
-same_served : (r : Change) (clock : ℕ) (whole : Bool) (s : Session) (n m : SlotKeys) → n ≡ m
-    → keys_served whole (clock + r.later) (changed_session r s) n ≡ keys_served whole clock s m
-same_served r clock true s n m same = same
-same_served r clock false s n m same =
+same_in_slot : (r : Change) (clock : ℕ) (o : Option Session) (n m : SlotKeys) → n ≡ m
+    → keys_in_slot (clock + r.later) (option_map (changed_session r) o) n ≡ keys_in_slot clock o m
+same_in_slot r clock None n m same = same
+same_in_slot r clock (Some s) n m same =
     ap (λ (t : ℕ). keys_said t s.past n) (own_time r clock s) ∙ ap (keys_said (time_in s clock) s.past) same
 
-same_in_slot : (r : Change) (clock : ℕ) (over : Bool) (o : Option Session) (n m : SlotKeys) → n ≡ m
-    → keys_in_slot (clock + r.later) over (option_map (changed_session r) o) n ≡ keys_in_slot clock over o m
-same_in_slot r clock over None n m same = same
-same_in_slot r clock over (Some s) n m same = same_served r clock (has_whole_file over s) s n m same
-
-keys_finished_same : (secured : Bool) (r : Change) (clock : ℕ) (over : Bool) (ss : List Session) (n m : RouteKeys) → AreChangedKeys r n m
-    → AreChangedKeys r (keys_finished_if secured (clock + r.later) over (map (changed_session r) ss) n) (keys_finished_if secured clock over ss m)
-keys_finished_same true r clock over ss n m h =
+keys_finished_same : (secured : Bool) (r : Change) (clock : ℕ) (ss : List Session) (n m : RouteKeys) → AreChangedKeys r n m
+    → AreChangedKeys r (keys_finished_if secured (clock + r.later) (map (changed_session r) ss) n) (keys_finished_if secured clock ss m)
+keys_finished_same true r clock ss n m h =
     record {
       moments_are = h.moments_are;
       pool_is = h.pool_is;
       held_is = λ slot.
-          ap (λ (o : Option Session). keys_in_slot (clock + r.later) over o (n.held slot))
+          ap (λ (o : Option Session). keys_in_slot (clock + r.later) o (n.held slot))
           (find_through (changed_session r) (is_open_in slot) (is_open_in slot) (λ s. refl) ss)
-          ∙ same_in_slot r clock over (find (is_open_in slot) ss) (n.held slot) (m.held slot) (h.held_is slot);
+          ∙ same_in_slot r clock (find (is_open_in slot) ss) (n.held slot) (m.held slot) (h.held_is slot);
     }
-keys_finished_same false r clock over ss n m h = h
+keys_finished_same false r clock ss n m h = h
 
 keys_same : (is_closed : Bool) (e : Terms) (index : ℕ) (r : Change) (fits : has_secured_role e ≡ true → r.secured ≡ true) (j i : Item)
     (n m : Route) → IsChangedInput r j i → IsChangedRoute r n m
@@ -1402,14 +1408,12 @@ keys_same false e index r fits j i n m h k =
     let ss = passed_by e index i m in
     let secured = secures e Request in
     let later = (judgement e index j n).keys in
-    let earlier = keys_finished_if secured clock (is_file_over e ss) ss (judgement e index i m).keys in
-    subst (λ (t : ℕ). AreChangedKeys r (keys_finished_if secured t (is_file_over e others) others later) earlier) (sym (clock_same r j i n m h.item_is k))
-    (subst (λ (xs : List Session). AreChangedKeys r (keys_finished_if secured (clock + r.later) (is_file_over e xs) xs later) earlier)
+    let earlier = keys_finished_if secured clock ss (judgement e index i m).keys in
+    subst (λ (t : ℕ). AreChangedKeys r (keys_finished_if secured t others later) earlier) (sym (clock_same r j i n m h.item_is k))
+    (subst (λ (xs : List Session). AreChangedKeys r (keys_finished_if secured (clock + r.later) xs later) earlier)
     (sym (passed_by_same e index r fits j i n m h k))
-    (subst (λ (b : Bool). AreChangedKeys r (keys_finished_if secured (clock + r.later) b (map (changed_session r) ss) later) earlier)
-    (sym (over_same e r ss))
-    (keys_finished_same secured r clock (is_file_over e ss) ss later (judgement e index i m).keys
-    (judgement_same e index r fits j i n m h k).keys_are)))
+    (keys_finished_same secured r clock ss later (judgement e index i m).keys
+    (judgement_same e index r fits j i n m h k).keys_are))
 
 notified_same : (e : Terms) (index : ℕ) (r : Change) (fits : has_secured_role e ≡ true → r.secured ≡ true) (j i : Item) (n m : Route)
     → IsChangedInput r j i → IsChangedRoute r n m → IsChangedRoute r (with_input e index j n) (with_input e index i m)

@@ -31,6 +31,7 @@ use Rattle.srt_route.specs.Buffers.{datagrams_to}
 use Rattle.srt_route.specs.EncryptedOutput.{KeyedOutput, PacketKey, keyed_text}
 use Rattle.srt_route.specs.EncryptedOutput.{all_said_with, announced_if, announcement_if, has_few, keys_with, outputs_if, payload_key, reported_if}
 use Rattle.srt_route.specs.EncryptedOutput.{is_announced, keys_reported, payloads_confirmed, said_under_if, said_with}
+use Rattle.srt_route.specs.inside.Encrypting.{IsAnnouncedWith, QueuesAll}
 use Rattle.srt_route.specs.inside.Encrypting.{IsEmittedWith, IsMade, IsReportedWith, emitted_texts, encrypted_if, pending_after, texts_before}
 use Rattle.srt_route.specs.inside.Reports.{AreSaid}
 use Rattle.srt_sub.proofs.Counted.{sends_at_most_66}
@@ -312,3 +313,35 @@ sends_encrypted to earlier later terms initial opening x y m before after queued
     outputs_at t b k =
         all_said_with k to.caller initial t (announcement_if b k to.caller to.time)
         (reports terms t to.recent (held terms (payloads_confirmed k) m))
+
+-- a session that ends is sent the KMREQ of its next key, if that is due
+pub announces_nothing : (to : KeyReceiver) (keys : Keys) (m : subscribing.Subscribing) (queue : ReplyQueue) (queued : ℕ)
+    → queued ≡ capped (length m.sending.queue) → 2 ^ 61 ≤ queued → IsAnnouncedWith to keys keys queue queue m
+announces_nothing to keys m queue queued count many =
+    let few : has_few m ≡ false = grind (arith, nat_tests, count, many) in
+    record {
+      keys_are = ap (λ (b : Bool). keys_with (announced_if b keys to.time m) to.time keys) (sym few);
+      said = same_said
+          (ap (λ (b : Bool). datagrams_to to.peer
+          (map keyed_text (announcement_if (announced_if b keys to.time m) (keys_reported to.time m keys) to.caller to.time)))
+          (sym few))
+          (nothing_said (replies_of queue) (places_of queue));
+    }
+
+pub announces_due : (to : KeyReceiver) (earlier later : Keys) (m : subscribing.Subscribing) (before after : ReplyQueue) (queued : ℕ) (announced : Bool)
+    → queued ≡ capped (length m.sending.queue) → queued < 2 ^ 61 → announced ≡ is_due earlier queued to.time
+    → later ≡ keys_with announced to.time earlier → QueuesAll to.peer before after (announcement_if announced later to.caller to.time)
+    → IsAnnouncedWith to earlier later before after m
+announces_due to earlier later m before after queued announced count below due keys_are said =
+    let exact : queued ≡ length m.sending.queue = omega (arith, count, below) in
+    let few : has_few m ≡ true = grind (arith, nat_tests, exact, below) in
+    let same : is_announced earlier to.time m ≡ announced =
+    ap (λ (b : Bool). announced_if b earlier to.time m) few ∙ (ap (λ (n : ℕ). is_due earlier n to.time) (sym exact) ∙ sym due) in
+    let after_is : later ≡ keys_reported to.time m earlier = keys_are ∙ ap (λ (b : Bool). keys_with b to.time earlier) (sym same) in
+    record {
+      keys_are = after_is;
+      said = same_said
+          (ap (λ (b : Bool). datagrams_to to.peer (map keyed_text (announcement_if b later to.caller to.time))) (sym same)
+          ∙ ap (λ (k : Keys). datagrams_to to.peer (map keyed_text (announcement_if (is_announced earlier to.time m) k to.caller to.time))) after_is)
+          said;
+    }

@@ -544,7 +544,7 @@ subscriber_bytes clock s (r ∷ rs) =
     (subscriber_bytes clock s rs)
 
 -- what a session with keys of its own sends
-keyed_bytes : (s : Session) (os : List KeyedOutput) → datagrams_to s.peer (map keyed_text os) ≡ map sent (map (keyed_by s) os)
+pub keyed_bytes : (s : Session) (os : List KeyedOutput) → datagrams_to s.peer (map keyed_text os) ≡ map sent (map (keyed_by s) os)
 keyed_bytes s [] = refl
 keyed_bytes s (o ∷ os) = ap (λ (ds : List Datagram). record { peer = s.peer; bytes = keyed_text o } ∷ ds) (keyed_bytes s os)
 

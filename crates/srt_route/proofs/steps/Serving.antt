@@ -1,5 +1,5 @@
 -- Step 6: the subscribers' packets, and the sessions that end with a file.
-use Rattle.std.proofs.Common.{◌≡◌, ℕ, ◌+◌, ◌-◌, ◌<◌, ◌≤◌, ◌&&◌, Bool, true, false, cond, Option, None, Some, List, [], ◌∷◌, map, find, length, not, refl}
+use Rattle.std.proofs.Common.{◌≡◌, ℕ, ◌+◌, ◌-◌, ◌<◌, ◌≤◌, ◌&&◌, ◌++◌, Bool, true, false, cond, Option, None, Some, List, [], ◌∷◌, map, find, length, not, refl}
 use Rattle.std.proofs.Common.{sym, ap, subst, ◌∙◌, inl, inr, arith}
 use Rattle.std.proofs.lemmas.Bool.{and_parts, cases_lt, cases_eq}
 use Rattle.std.specs.Option.{option_map}
@@ -17,7 +17,7 @@ use Rattle.srt_route.specs.Past.{Past, Publishes, Subscribes, Agreed, has_all}
 use Rattle.srt_route.specs.Sessions.{Session, is_active, is_draining, is_open_in, publishes, is_recent, is_subscriber, reported, reported_at, terms_of}
 use Rattle.srt_route.specs.Sessions.{time_in}
 use Rattle.srt_route.specs.Route.{Reply as Answer, ended, finished, finished_at, has_whole_file, is_file_over, sent, served}
-use Rattle.srt_route.specs.Route.{keys_in_slot, keys_said, keys_served, served_at, shutdown_to}
+use Rattle.srt_route.specs.Route.{announced_past, announced_to, keyed_by, keys_in_slot, keys_said, served_at, shutdown_to}
 use Rattle.srt_session_keys.specs.Subscriber.{Subscriber as Keys}
 use Rattle.srt_sub.specs.Stands as subscribers
 use Rattle.srt_sub.specs.Subscribing as subscribing
@@ -34,7 +34,8 @@ use Rattle.srt_route.specs.Parts.{role_of}
 use Rattle.srt_route.specs.Tables.{buffers_of, has_subscriber, IsStored, IsSeat, IsTable, with_stored}
 use Rattle.srt_route.specs.Waits.{replies_of, places_of}
 use Rattle.srt_route.specs.inside.Delivery.{changed, after_publisher, after_subscriber, publisher_reported}
-use Rattle.srt_route.specs.inside.Files.{HasWhole, SeatEnds, SeatServed, SeatServedWith, finished_subscriber, finished_subscriber_at, whole_in}
+use Rattle.srt_route.specs.inside.Files.{HasWhole, SeatEnds, SeatEndsWith, SeatServed, SeatServedWith, ending_texts}
+use Rattle.srt_route.specs.inside.Files.{finished_subscriber, finished_subscriber_at, whole_in}
 use Rattle.srt_route.specs.inside.OneSession.{shutdowns_to}
 use Rattle.srt_route.specs.inside.Reports.{AreSaid, Queues}
 use Rattle.srt_route.proofs.model.Changes.{find_changed, is_there, keeps_changed, marks_changed}
@@ -46,10 +47,17 @@ use Rattle.srt_route.proofs.model.TakeOver.{KeepsMarks}
 use Rattle.srt_route.proofs.stored.Kept.{Becomes, below_seats}
 use Rattle.srt_route.proofs.steps.Feeding.{Changes, changed_is, publisher_subscribes, subscribes, subscriber_subscribes, vacant_subscribes}
 use Rattle.srt_route.proofs.steps.Passing.{seat_of}
-use Rattle.srt_route.proofs.steps.Saying.{Says, Tells, as_stored, still_fresh, both_reported, later_packets, place_said, same_from, same_said, notified_becomes}
+use Rattle.srt_route.proofs.steps.Saying.{Says, Tells, as_stored, keyed_bytes, still_fresh, both_reported, later_packets, place_said, same_from, same_said}
+use Rattle.srt_route.proofs.steps.Saying.{notified_becomes}
 use Rattle.srt_route.proofs.steps.Slots.{IsSaying, said_of, saying_more}
 use Rattle.srt_route.proofs.steps.Noting.{one_summed}
 use Rattle.srt_route.proofs.steps.Notified.{end_for, nothing_notified}
+use Rattle.std.proofs.lemmas.List.{map-append}
+use Rattle.srt_types.specs.declared.shared.Peer.{Peer}
+use Rattle.srt_types.specs.Items.{Datagram}
+use Rattle.srt_route.specs.Buffers.{datagrams_to}
+use Rattle.srt_route.specs.EncryptedOutput.{KeyedOutput}
+use Rattle.srt_route.proofs.steps.Aging.{not_true}
 
 -- the packets of a session
 abbrev pub serving : (own : ℕ → Option Keys) → Terms → (clock : ℕ) → (over : Bool) → Session → List Answer
@@ -65,12 +73,22 @@ later_served own e clock over p x s opens seat =
     later : Session
     later = changed (after_publisher e clock) s
 
-    shut : (b : Bool) → shutdown_to clock (cond b (record s { past = after_publisher e clock s }) s) ≡ shutdown_to clock s
-    shut true = refl
-    shut false = refl
+    announced_after : (k : Keys) (caller time : ℕ) (past : Past)
+        → announced_past k caller time (publisher_reported (is_draining s) (terms_of e s) (time_in s clock) past) ≡ announced_past k caller time past
+    announced_after k caller time (Publishes p) = refl
+    announced_after k caller time (Subscribes m) = refl
+
+    shut : (k : Option Keys) (b : Bool)
+        → let t = cond b (record s { past = after_publisher e clock s }) s in
+        announced_to k clock t ++ shutdown_to clock t ∷ [] ≡ announced_to k clock s ++ shutdown_to clock s ∷ []
+    shut None true = refl
+    shut (Some k) true =
+        ap (λ (os : List KeyedOutput). map (keyed_by s) os ++ shutdown_to clock s ∷ [])
+        (announced_after k s.conclusion.caller (time_in s clock) s.past)
+    shut k false = refl
 
     by : (b : Bool) → served_at b (own s.slot) e clock (changed (after_publisher e clock) s) ≡ served_at b (own s.slot) e clock s
-    by true = ap (λ (r : Answer). r ∷ []) (shut s.is_open)
+    by true = shut (own s.slot) s.is_open
     by false = later_packets (own s.slot) e clock p x s opens seat
 
 pub same_served : (own : ℕ → Option Keys) (e : Terms) (index clock : ℕ) (table : Table) (ss : List Session) → IsTable e index clock table ss
@@ -153,32 +171,22 @@ said_after : (draining : Bool) (terms : Agreed) (time now : ℕ) (past : Past) (
 said_after draining terms time now (Publishes p) k = refl
 said_after draining terms time now (Subscribes m) k = refl
 
-served_after : (e : Terms) (clock : ℕ) (over : Bool) (s : Session) (k : SlotKeys)
-    → keys_served (has_whole_file over (changed (after_publisher e clock) s)) clock (changed (after_publisher e clock) s) k
-    ≡ keys_served (has_whole_file over s) clock s k
-served_after e clock over s k =
-    ap (λ (b : Bool). keys_served b clock (changed (after_publisher e clock) s) k) (whole_after e clock over s) ∙ by (has_whole_file over s) s.is_open
+slot_after : (e : Terms) (clock : ℕ) (o : Option Session) (k : SlotKeys)
+    → keys_in_slot clock (option_map (changed (after_publisher e clock)) o) k ≡ keys_in_slot clock o k
+slot_after e clock None k = refl
+slot_after e clock (Some s) k = by s.is_open
   where
-    by : (w b : Bool) → keys_served w clock (cond b (record s { past = after_publisher e clock s }) s) k ≡ keys_served w clock s k
-    by true true = refl
-    by true false = refl
-    by false true = said_after (is_draining s) (terms_of e s) (time_in s clock) (time_in s clock) s.past k
-    by false false = refl
-
-slot_after : (e : Terms) (clock : ℕ) (over : Bool) (o : Option Session) (k : SlotKeys)
-    → keys_in_slot clock over (option_map (changed (after_publisher e clock)) o) k ≡ keys_in_slot clock over o k
-slot_after e clock over None k = refl
-slot_after e clock over (Some s) k = served_after e clock over s k
+    by : (b : Bool)
+        → let t = cond b (record s { past = after_publisher e clock s }) s in keys_said (time_in t clock) t.past k ≡ keys_said (time_in s clock) s.past k
+    by true = said_after (is_draining s) (terms_of e s) (time_in s clock) (time_in s clock) s.past k
+    by false = refl
 
 pub keys_after : (e : Terms) (clock : ℕ) (ss : List Session) (keys : RouteKeys) (slot : ℕ)
-    → let later = map (changed (after_publisher e clock)) ss in
-    keys_in_slot clock (is_file_over e later) (find (is_open_in slot) later) (keys.held slot)
-    ≡ keys_in_slot clock (is_file_over e ss) (find (is_open_in slot) ss) (keys.held slot)
+    → keys_in_slot clock (find (is_open_in slot) (map (changed (after_publisher e clock)) ss)) (keys.held slot)
+    ≡ keys_in_slot clock (find (is_open_in slot) ss) (keys.held slot)
 keys_after e clock ss keys slot =
-    let later = map (changed (after_publisher e clock)) ss in
-    ap (λ (over : Bool). keys_in_slot clock over (find (is_open_in slot) later) (keys.held slot)) (over_after e clock ss)
-    ∙ ap (λ (o : Option Session). keys_in_slot clock (is_file_over e ss) o (keys.held slot)) (find_changed (after_publisher e clock) slot ss)
-    ∙ slot_after e clock (is_file_over e ss) (find (is_open_in slot) ss) (keys.held slot)
+    ap (λ (o : Option Session). keys_in_slot clock o (keys.held slot)) (find_changed (after_publisher e clock) slot ss)
+    ∙ slot_after e clock (find (is_open_in slot) ss) (keys.held slot)
 
 -- what the end of a file and a subscriber's packets keep
 pub finishes_subscribers : (own : ℕ → Option Keys) (e : Terms) (clock : ℕ) (over : Bool) → Keeps (finished_subscriber own e clock over)
@@ -309,10 +317,58 @@ pub keyed_says : (clock : ℕ) (earlier later : SlotKeys) (x y : Seat) (now then
 keyed_says clock earlier later x y now then_ h is t stored terms initial m stands fresh =
     (h.transmits is t stored terms initial t.opened m stands fresh refl).said
 
+-- what a session is sent that ends: the KMREQ of its next key, if one is due, and its SHUTDOWN
+abbrev pub SaysEnd : (keys : Option Keys) (clock : ℕ) → Option TheSession → Subscriber → (before later : List Reply) (places more : ℕ) → Type 0
+SaysEnd keys clock o x before later places more =
+    (t : TheSession) → o ≡ Some t
+    → (terms : subscribing.Terms) (initial : ℕ) (m : subscribing.Subscribing)
+    → subscribers.StandsFor terms initial t.opened t.caller clock x m
+    → AreSaid before later places more (datagrams_to t.peer (ending_texts keys t.caller (clock - t.opened) m) ++ shutdowns_to clock o)
+
+pub clear_ends : (clock : ℕ) (x y : Seat) (now then_ : ReplyQueue) → SeatEnds clock x y now then_
+    → SaysEnd None clock x.session x.subscriber (replies_of now) (replies_of then_) (places_of now) (places_of then_)
+clear_ends clock x y now then_ h t stored terms initial m stands = h.said
+
+pub keyed_ends : (clock : ℕ) (earlier later : SlotKeys) (x y : Seat) (now then_ : ReplyQueue) → SeatEndsWith clock earlier later x y now then_
+    → SaysEnd (own_keys earlier) clock x.session x.subscriber (replies_of now) (replies_of then_) (places_of now) (places_of then_)
+keyed_ends clock earlier later x y now then_ h t stored terms initial m stands = (h.tells t stored terms initial t.opened m stands).said
+
+ending_bytes : (keys : Option Keys) (clock : ℕ) (s : Session) (m : subscribing.Subscribing) → s.past ≡ Subscribes m
+    → datagrams_to s.peer (ending_texts keys s.conclusion.caller (time_in s clock) m) ≡ map sent (announced_to keys clock s)
+ending_bytes None clock s m q = refl
+ending_bytes (Some keys) clock s m q =
+    keyed_bytes s (announced_past keys s.conclusion.caller (time_in s clock) (Subscribes m))
+    ∙ ap (λ (past : Past). map sent (map (keyed_by s) (announced_past keys s.conclusion.caller (time_in s clock) past))) (sym q)
+
+place_ends : (keys : Option Keys) (e : Terms) (index clock : ℕ) (over : Bool) (p : Publisher) (x : Subscriber) (o : Option TheSession) (s : Session)
+    (before later : List Reply) (places more : ℕ)
+    → IsStored e index o (Some s) → IsSeated e clock p x s → has_whole_file over s ≡ true → SaysEnd keys clock o x before later places more
+    → AreSaid before later places more (map sent (served_at true keys e clock s))
+place_ends keys e index clock over p x None s before later places more is seat whole says = absurd is
+place_ends keys e index clock over p x (Some t) s before later places more is seat whole says = by s.past refl seat.past_is
+  where
+    reads : not (publishes s.conclusion.role) ≡ true
+    reads = (and_parts s.is_open (not (publishes s.conclusion.role)) (whole_subscribes over s whole)).1
+
+    by : (past : Past) → s.past ≡ past → IsPast e clock p x s past → AreSaid before later places more (map sent (served_at true keys e clock s))
+    by (Publishes m) q h = absurd (let bad : false ≡ true = sym (ap not h.0) ∙ reads in cc)
+    by (Subscribes m) q h =
+        let first = announced_to keys clock s in
+        let last = shutdown_to clock s ∷ [] in
+        same_said
+        (ap (λ (q : Peer). datagrams_to q (ending_texts keys t.caller (clock - t.opened) m) ++ shutdowns_to clock (Some t)) is.peer_is
+        ∙ ap (λ (n : ℕ). datagrams_to s.peer (ending_texts keys n (clock - t.opened) m) ++ shutdowns_to clock (Some t)) is.caller_is
+        ∙ ap (λ (n : ℕ). datagrams_to s.peer (ending_texts keys s.conclusion.caller (clock - n) m) ++ shutdowns_to clock (Some t)) is.opened_is
+        ∙ ap (λ (ds : List Datagram). ds ++ shutdowns_to clock (Some t)) (ending_bytes keys clock s m q)
+        ∙ ap (λ (ds : List Datagram). map sent first ++ ds) (stored_shutdown e index clock t s is)
+        ∙ sym (map-append sent first last))
+        (says t refl (terms_of e s).subscriber s.conclusion.initial m (as_stored e index clock t s (terms_of e s).subscriber x m is h.1))
+
 -- the packets of its slot
 pub serve_slot : (own : ℕ → Option Keys) (keys : Option Keys) (e : Terms) (index clock : ℕ) (over : Bool) (p : Publisher) (ss : List Session)
     (at : ℕ) (x y : Seat) (whole : Bool) (before : List Reply) (places : ℕ) (now then_ : ReplyQueue)
-    → own at ≡ keys → at < e.sessions → IsSeat e index clock at p x ss → HasWhole over x whole → (whole ≡ true → SeatEnds clock x y now then_)
+    → own at ≡ keys → at < e.sessions → IsSeat e index clock at p x ss → HasWhole over x whole
+    → (whole ≡ true → SaysEnd keys clock x.session x.subscriber (replies_of now) (replies_of then_) (places_of now) (places_of then_))
     → (whole ≡ false → has_subscriber x ≡ false → Queues now then_ [])
     → (whole ≡ false → Says keys clock x.session x.subscriber (replies_of now) (replies_of then_) (places_of now) (places_of then_))
     → IsSaying (serving own e clock over) e at ss before (replies_of now) places (places_of now)
@@ -324,10 +380,6 @@ serve_slot own keys e index clock over p ss at x y whole before places now then_
     stored : (f : Option Session) → find (is_open_in at) ss ≡ f → IsStored e index x.session f
     stored f found = subst (λ (g : Option Session). IsStored e index x.session g) found is.session_is
 
-    shut : (o : Option TheSession) (s : Session) → IsStored e index o (Some s) → shutdowns_to clock o ≡ map sent (shutdown_to clock s ∷ [])
-    shut None s k = absurd k
-    shut (Some t) s k = stored_shutdown e index clock t s k
-
     in_slot : (b : Bool) → b ≡ whole_in over (find (is_open_in at) ss) → (s : Session) → find (is_open_in at) ss ≡ Some s
         → map sent (served_at b keys e clock s) ≡ map sent (serving own e clock over s)
     in_slot b it s found =
@@ -335,16 +387,16 @@ serve_slot own keys e index clock over p ss at x y whole before places now then_
         ∙ ap (λ (k : Option Keys). map sent (served_at (has_whole_file over s) k e clock s)) (sym (ap own (is_there at ss s found).1 ∙ mine))
 
     by : (f : Option Session) → find (is_open_in at) ss ≡ f → (b : Bool) → b ≡ whole_in over (find (is_open_in at) ss)
-        → (b ≡ true → SeatEnds clock x y now then_) → (b ≡ false → has_subscriber x ≡ false → Queues now then_ [])
+        → (b ≡ true → SaysEnd keys clock x.session x.subscriber (replies_of now) (replies_of then_) (places_of now) (places_of then_))
+        → (b ≡ false → has_subscriber x ≡ false → Queues now then_ [])
         → (b ≡ false → Says keys clock x.session x.subscriber (replies_of now) (replies_of then_) (places_of now) (places_of then_))
         → AreSaid (replies_of now) (replies_of then_) (places_of now) (places_of then_) (map sent (said_of (serving own e clock over) f))
     by None found true it ends silent serves = absurd (let bad : true ≡ false = it ∙ ap (whole_in over) found in cc)
     by None found false it ends silent serves = silent refl (vacant_subscribes e index x.session (stored None found))
     by (Some s) found true it ends silent serves =
-        same_said
-        (shut x.session s (stored (Some s) found)
-        ∙ in_slot true it s found)
-        (ends refl).said
+        same_said (in_slot true it s found)
+        (place_ends keys e index clock over p x.subscriber x.session s (replies_of now) (replies_of then_) (places_of now) (places_of then_)
+        (stored (Some s) found) (is.seated s found) (sym (it ∙ ap (whole_in over) found)) (ends refl))
     by (Some s) found false it ends silent serves =
         same_said (in_slot false it s found)
         (place_said keys e index clock p x.subscriber x.session s (replies_of now) (replies_of then_) (places_of now) (places_of then_)
@@ -354,54 +406,51 @@ serve_slot own keys e index clock over p ss at x y whole before places now then_
 pub record ServesKeys (clock : ℕ) (over : Bool) (x : Seat) (earlier later : SlotKeys) : Type 0 where
   pub whole : Bool
   pub whole_is : HasWhole over x whole
-  pub kept : whole ≡ true → later ≡ earlier
   pub none : whole ≡ false → has_subscriber x ≡ false → later ≡ earlier
-  pub said : whole ≡ false → has_subscriber x ≡ true → (t : TheSession) → x.session ≡ Some t
+  pub said : has_subscriber x ≡ true → (t : TheSession) → x.session ≡ Some t
       → (terms : subscribing.Terms) (initial : ℕ) (m : subscribing.Subscribing)
       → subscribers.StandsFor terms initial t.opened t.caller clock x.subscriber m → subscribing.expired terms (clock - t.opened) m ≡ m
       → later ≡ keys_said (clock - t.opened) (Subscribes m) earlier
 
 pub served_keys : (e : Terms) (index clock : ℕ) (over : Bool) (at : ℕ) (p : Publisher) (x : Seat) (ss : List Session) (earlier later : SlotKeys)
     → IsSeat e index clock at p x ss → ServesKeys clock over x earlier later
-    → later ≡ keys_in_slot clock over (find (is_open_in at) ss) earlier
+    → later ≡ keys_in_slot clock (find (is_open_in at) ss) earlier
 served_keys e index clock over at p x ss earlier later is h =
-    by (find (is_open_in at) ss) refl x.session refl is.session_is h.whole (h.whole_is e index clock at p ss is) h.kept h.none h.said
+    by (find (is_open_in at) ss) refl x.session refl is.session_is h.whole (h.whole_is e index clock at p ss is) h.none
   where
-    Spoken : Bool → Type 0
-    Spoken b =
-        b ≡ false → has_subscriber x ≡ true → (t : TheSession) → x.session ≡ Some t
-        → (terms : subscribing.Terms) (initial : ℕ) (m : subscribing.Subscribing)
-        → subscribers.StandsFor terms initial t.opened t.caller clock x.subscriber m → subscribing.expired terms (clock - t.opened) m ≡ m
-        → later ≡ keys_said (clock - t.opened) (Subscribes m) earlier
-
     one : (s : Session) (t : TheSession) → find (is_open_in at) ss ≡ Some s → x.session ≡ Some t → IsStored e index (Some t) (Some s)
-        → (has_subscriber x ≡ false → later ≡ earlier) → Spoken false
+        → (has_subscriber x ≡ false → later ≡ earlier)
         → (past : Past) → s.past ≡ past → IsPast e clock p x.subscriber s past → later ≡ keys_said (time_in s clock) past earlier
-    one s t found o stored none said (Publishes q) past k =
+    one s t found o stored none (Publishes q) past k =
         none (subst (λ (u : Option TheSession). subscribes u ≡ false) (sym o) (publisher_subscribes e index t s stored k.0))
-    one s t found o stored none said (Subscribes m) past k =
+    one s t found o stored none (Subscribes m) past k =
         let terms = (terms_of e s).subscriber in
-        said refl (subst (λ (u : Option TheSession). subscribes u ≡ true) (sym o) (subscriber_subscribes e index t s stored k.0)) t o terms
+        h.said (subst (λ (u : Option TheSession). subscribes u ≡ true) (sym o) (subscriber_subscribes e index t s stored k.0)) t o terms
         s.conclusion.initial m (as_stored e index clock t s terms x.subscriber m stored k.1) (still_fresh e index clock t s terms m stored k.2)
         ∙ ap (λ (n : ℕ). keys_said (clock - n) (Subscribes m) earlier) stored.opened_is
 
+    reader : (s : Session) (t : TheSession) → x.session ≡ Some t → IsStored e index (Some t) (Some s) → (b : Bool) → has_whole_file over s ≡ b
+        → (b ≡ false → has_subscriber x ≡ false → later ≡ earlier) → has_subscriber x ≡ false → later ≡ earlier
+    reader s t o stored true whole none silent =
+        absurd (let role = not_true (publishes s.conclusion.role)
+        (and_parts s.is_open (not (publishes s.conclusion.role)) (whole_subscribes over s whole)).1 in
+        let bad : true ≡ false = sym (subscriber_subscribes e index t s stored role) ∙ ap subscribes (sym o) ∙ silent in
+        cc)
+    reader s t o stored false whole none silent = none refl silent
+
     by : (f : Option Session) → find (is_open_in at) ss ≡ f → (o : Option TheSession) → x.session ≡ o
         → IsStored e index x.session (find (is_open_in at) ss) → (b : Bool) → b ≡ whole_in over (find (is_open_in at) ss)
-        → (b ≡ true → later ≡ earlier) → (b ≡ false → has_subscriber x ≡ false → later ≡ earlier) → Spoken b
-        → later ≡ keys_in_slot clock over f earlier
-    by None found o stored_is st true it kept none said = absurd (let bad : true ≡ false = it ∙ ap (whole_in over) found in cc)
-    by None found o stored_is st false it kept none said =
+        → (b ≡ false → has_subscriber x ≡ false → later ≡ earlier) → later ≡ keys_in_slot clock f earlier
+    by None found o stored_is st true it none = absurd (let bad : true ≡ false = it ∙ ap (whole_in over) found in cc)
+    by None found o stored_is st false it none =
         none refl (vacant_subscribes e index x.session (subst (λ (g : Option Session). IsStored e index x.session g) found st))
-    by (Some s) found None stored_is st b it kept none said =
+    by (Some s) found None stored_is st b it none =
         absurd (subst (λ (u : Option TheSession). IsStored e index u (Some s)) stored_is
         (subst (λ (g : Option Session). IsStored e index x.session g) found st))
-    by (Some s) found (Some t) stored_is st true it kept none said =
-        kept refl ∙ ap (λ (w : Bool). keys_served w clock s earlier) (it ∙ ap (whole_in over) found)
-    by (Some s) found (Some t) stored_is st false it kept none said =
+    by (Some s) found (Some t) stored_is st b it none =
         let there = subst (λ (u : Option TheSession). IsStored e index u (Some s)) stored_is
         (subst (λ (g : Option Session). IsStored e index x.session g) found st) in
-        one s t found stored_is there (none refl) said s.past refl (is.seated s found).past_is
-        ∙ ap (λ (w : Bool). keys_served w clock s earlier) (it ∙ ap (whole_in over) found)
+        one s t found stored_is there (reader s t stored_is there b (sym (it ∙ ap (whole_in over) found)) none) s.past refl (is.seated s found).past_is
 
 -- the ends that are recorded
 pub record EndsUpTo (e : Terms) (index : ℕ) (over : Bool) (moment at : ℕ) (ss : List Session) (old new : Ledger) : Type 0 where

@@ -41,13 +41,12 @@ ended_at own e clock ss = map (finished own e clock (is_file_over e ss)) ss
 
 -- the keys after it
 abbrev pub keys_ended_at : Terms → (clock : ℕ) → List Session → RouteKeys → RouteKeys
-keys_ended_at e clock ss keys = keys_finished e clock (is_file_over e ss) ss keys
+keys_ended_at e clock ss keys = keys_finished e clock ss keys
 
 -- the same keys in each slot are the same to a route that stores them
 keys_by : (secured : Bool) (e : Terms) (clock : ℕ) (ss : List Session) (keys : RouteKeys) (stored : TheRouteKeys)
-    → let later = map (changed (after_publisher e clock)) ss in
-    AreKeys e stored (keys_finished_if secured clock (is_file_over e later) later keys)
-    → AreKeys e stored (keys_finished_if secured clock (is_file_over e ss) ss keys)
+    → AreKeys e stored (keys_finished_if secured clock (map (changed (after_publisher e clock)) ss) keys)
+    → AreKeys e stored (keys_finished_if secured clock ss keys)
 keys_by true e clock ss keys stored are =
     record {
       publish_is = are.publish_is;

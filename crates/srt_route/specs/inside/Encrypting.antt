@@ -12,7 +12,8 @@ use Rattle.srt_session_keys.specs.Subscriber.{Subscriber as Keys, has_key}
 use Rattle.srt_route.specs.declared.encrypted_transmit.KeyReceiver.{KeyReceiver}
 use Rattle.srt_route.specs.declared.reply_queue.ReplyQueue.{ReplyQueue}
 use Rattle.srt_route.specs.Buffers.{datagrams_to}
-use Rattle.srt_route.specs.EncryptedOutput.{KeyedOutput, PacketKey, all_said_with, announcement_if, keyed_text, keys_reported, outputs_with}
+use Rattle.srt_route.specs.EncryptedOutput.{KeyedOutput, PacketKey, all_said_with, announcement_if, is_announced, keyed_text, keys_reported}
+use Rattle.srt_route.specs.EncryptedOutput.{outputs_with}
 use Rattle.srt_route.specs.EncryptedOutput.{payload_key, reported_with}
 use Rattle.srt_route.specs.inside.Reports.{Queues}
 
@@ -68,6 +69,17 @@ EmitsAllWith to pending keys old new before after =
     → subscriber.StandsFor terms initial opening caller to.clock old m → subscribing.expired terms (to.clock - opening) m ≡ m
     → length m.sending.queue < 2 ^ 64 → IsMade pending keys
     → IsEmittedWith to pending keys new before after terms initial opening caller m
+
+-- the KMREQ of the next key of a subscriber's session that ends was queued, if it was due
+pub record IsAnnouncedWith (to : KeyReceiver) (earlier later : Keys) (before after : ReplyQueue) (m : subscribing.Subscribing) : Type 0 where
+  pub keys_are : later ≡ keys_reported to.time m earlier
+  pub said : QueuesAll to.peer before after
+      (announcement_if (is_announced earlier to.time m) (keys_reported to.time m earlier) to.caller to.time)
+
+abbrev pub AnnouncesWith : KeyReceiver → (earlier later : Keys) → Subscriber → (before after : ReplyQueue) → Type 0
+AnnouncesWith to earlier later x before after =
+    (terms : subscribing.Terms) (initial opening : ℕ) (m : subscribing.Subscribing)
+    → subscriber.StandsFor terms initial opening to.caller to.clock x m → IsAnnouncedWith to earlier later before after m
 
 -- a subscriber's session with keys is at the end of an event
 pub record IsReportedWith (to : KeyReceiver) (earlier later : Keys) (new : Subscriber) (before after : ReplyQueue) (terms : subscribing.Terms)

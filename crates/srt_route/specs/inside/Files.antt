@@ -1,5 +1,5 @@
 -- The end of a file, in terms of a route's table.
-use Rattle.std.specs.Prelude.{◌≡◌, ℕ, ◌-◌, Bool, true, false, Option, None, Some, List, [], find, map}
+use Rattle.std.specs.Prelude.{◌≡◌, ℕ, ◌-◌, ◌++◌, Bool, true, false, Option, None, Some, List, [], find, map}
 use Rattle.srt_types.specs.declared.shared.Role.TheVariants.{Request}
 use Rattle.srt_types.specs.Terms.{Terms}
 use Rattle.srt_pub.specs.declared.ends.PubEnd.{PubEnd}
@@ -17,7 +17,7 @@ use Rattle.srt_route.specs.declared.seat.Session.{Session as TheSession}
 use Rattle.srt_route.specs.declared.seat.Seat.{Seat}
 use Rattle.srt_route.specs.declared.table.Table.{Table}
 use Rattle.srt_route.specs.Sessions.{Session, is_open_in}
-use Rattle.srt_route.specs.EncryptedOutput.{keyed_text, outputs_with}
+use Rattle.srt_route.specs.EncryptedOutput.{announcement_if, is_announced, keyed_text, keys_reported, outputs_with}
 use Rattle.srt_route.specs.Past.{Subscribes, reported_under}
 use Rattle.srt_route.specs.RouteKeys.{RouteKeys, SlotKeys, own_in, own_keys, secures}
 use Rattle.srt_route.specs.StoredKeys.{AreKeys}
@@ -74,6 +74,21 @@ abbrev pub texts_under : (keys : Option Keys) → subscribing.Terms → (caller 
 texts_under None terms caller initial time recent m = map (subscriber_text.says caller initial time) (subscribing.reports terms time recent m)
 texts_under (Some keys) terms caller initial time recent m = map keyed_text (outputs_with keys terms caller initial time recent m)
 
+-- the KMREQ that a session is sent before its SHUTDOWN, if one is due, as bytes
+abbrev pub ending_texts : (keys : Option Keys) → (caller time : ℕ) → subscribing.Subscribing → List (List ℕ)
+ending_texts None caller time m = []
+ending_texts (Some keys) caller time m = map keyed_text (announcement_if (is_announced keys time m) (keys_reported time m keys) caller time)
+
+-- that KMREQ was queued
+pub record IsAnnounced (to : KeyReceiver) (earlier later : SlotKeys) (before after : ReplyQueue) (m : subscribing.Subscribing) : Type 0 where
+  pub keys_are : later ≡ keys_said to.time (Subscribes m) earlier
+  pub said : Queues before after (datagrams_to to.peer (ending_texts (own_keys earlier) to.caller to.time m))
+
+abbrev pub AnnouncesAs : KeyReceiver → (earlier later : SlotKeys) → Subscriber → (before after : ReplyQueue) → Type 0
+AnnouncesAs to earlier later x before after =
+    (terms : subscribing.Terms) (initial opening : ℕ) (m : subscribing.Subscribing)
+    → subscriber.StandsFor terms initial opening to.caller to.clock x m → IsAnnounced to earlier later before after m
+
 -- a subscriber's session, which may have keys, is at the end of an event
 pub record IsTransmitted (to : KeyReceiver) (earlier later : SlotKeys) (new : Subscriber) (before after : ReplyQueue) (terms : subscribing.Terms)
     (initial opening : ℕ) (m : subscribing.Subscribing) : Type 0 where
@@ -91,6 +106,18 @@ TransmitsAs to earlier later old new before after =
 -- the peer of a stored session
 abbrev pub receiver_of : (clock : ℕ) → (recent : Bool) → TheSession → KeyReceiver
 receiver_of clock recent t = record { peer = t.peer; caller = t.caller; time = clock - t.opened; clock = clock; recent = recent }
+
+-- a seat whose session ends with its SHUTDOWN, after the KMREQ of the next key of its slot, if one is due
+pub record IsEndedWith (clock : ℕ) (earlier later : SlotKeys) (seat : Seat) (before after : ReplyQueue) (t : TheSession) (m : subscribing.Subscribing)
+    : Type 0 where
+  pub keys_are : later ≡ keys_said (clock - t.opened) (Subscribes m) earlier
+  pub said : Queues before after
+      (datagrams_to t.peer (ending_texts (own_keys earlier) t.caller (clock - t.opened) m) ++ shutdowns_to clock seat.session)
+
+pub record SeatEndsWith (clock : ℕ) (earlier later : SlotKeys) (seat new : Seat) (before after : ReplyQueue) : Type 0 where
+  pub seat_is : new ≡ with_stored None seat
+  pub tells : (t : TheSession) → seat.session ≡ Some t → (terms : subscribing.Terms) (initial opening : ℕ) (m : subscribing.Subscribing)
+      → subscriber.StandsFor terms initial opening t.caller clock seat.subscriber m → IsEndedWith clock earlier later seat before after t m
 
 -- a seat whose subscriber, if one is open there, has sent its packets under the keys of its slot
 pub record SeatServedWith (clock : ℕ) (earlier later : SlotKeys) (seat new : Seat) (before after : ReplyQueue) : Type 0 where
@@ -123,7 +150,7 @@ ServesInClear clock table before after = Transmits clock table before after (λ 
 pub record IsServed (e : Terms) (index clock : ℕ) (keys : RouteKeys) (sessions : List Session) (new : Table) (later : TheRouteKeys)
     (before after : ReplyQueue) : Type 0 where
   pub table_is : IsTable e index clock new (map (finished_subscriber (own_in e keys) e clock (is_file_over e sessions)) sessions)
-  pub keys_are : AreKeys e later (keys_finished e clock (is_file_over e sessions) sessions keys)
+  pub keys_are : AreKeys e later (keys_finished e clock sessions keys)
   pub said : Queues before after (map sent (served (own_in e keys) e clock (is_file_over e sessions) sessions))
 
 abbrev pub ServesSubscribers : (clock : ℕ) → (old new : Table) → (earlier later : TheRouteKeys) → (before after : ReplyQueue) → Type 0

@@ -3,14 +3,13 @@ use Rattle.std.proofs.lemmas.List.{get_or_default}
 use Rattle.srt_route.specs.declared.ledger.EndCause.{EndCause}
 use Rattle.srt_route.specs.declared.seat.Seat.{Seat}
 use Rattle.srt_route.specs.declared.slot_keys.KeyPlace.{KeyPlace}
-use Rattle.srt_route.specs.Route.{keys_finished, sent, served}
+use Rattle.srt_route.specs.Route.{sent, served}
 use Rattle.srt_route.specs.RouteKeys.{own_in, own_keys}
 use Rattle.srt_route.specs.SlotKeys.{place_keys_of}
 use Rattle.srt_route.specs.Ends.{EndsAre, file_ending, kept_of}
 use Rattle.srt_route.specs.Ledgers.{entry_of, file_cause}
 use Rattle.srt_route.specs.inside.Notes.{NotesAt}
 use Rattle.srt_route.specs.inside.Standby.{active_in}
-use Rattle.srt_route.specs.StoredKeys.{AreKeys}
 use Rattle.srt_route.specs.Tables.{IsTable, buffers_of}
 use Rattle.srt_route.specs.inside.Reports.{Queues}
 use Rattle.srt_route.proofs.stored.Stored.{same_read}
@@ -19,7 +18,8 @@ use Rattle.srt_route.specs.inside.Files.{HasWhole, finished_subscriber}
 use Rattle.srt_route.proofs.stored.Kept.{some_buffers, seat_at}
 use Rattle.srt_route.proofs.stored.KeptInOrder.{all_done_in, next_in, none_done_in, none_in, one_done_in, one_in}
 use Rattle.srt_route.proofs.steps.Noting.{end_grows, grow_both}
-use Rattle.srt_route.proofs.steps.Serving.{Serves, all_ends, finishes_subscribers, finishes_subscribers_marks, keyed_says, keyed_stays, no_ends, one_ends}
+use Rattle.srt_route.proofs.steps.Serving.{Serves, all_ends, finishes_subscribers, finishes_subscribers_marks, keyed_ends}
+use Rattle.srt_route.proofs.steps.Serving.{keyed_says, keyed_stays, no_ends, one_ends}
 use Rattle.srt_route.proofs.steps.Serving.{ServesKeys, serve_slot, served_becomes, serving}
 use Rattle.srt_route.proofs.steps.Feeding.{Changes}
 use Rattle.srt_route.proofs.steps.Saying.{Tells}
@@ -87,7 +87,7 @@ loop-at-preserved c =
       places = one_in (KeepsPlace clock over old.seats.items) at first.slots.items c.loop-at.keys.slots.items _ p c.serve_place.new.place h.places within
           c.index_mut-in-loop-at.ensures.value
           (λ z z_is. subst (λ (y : Seat). ServesKeys clock over y earlier later) (same_read old.seats.items at x z inside there z_is)
-          (serves_keys clock over whole x c.serve_place.new.seat earlier later c.loop-at.waiting c.serve_place.new.waiting has c.serve_place.ensures.kept
+          (serves_keys clock over whole x c.serve_place.new.seat earlier later c.loop-at.waiting c.serve_place.new.waiting has c.serve_place.ensures.ends
           c.serve_place.ensures.served))
           refl;
       rest = h.rest;
@@ -96,7 +96,8 @@ loop-at-preserved c =
           c.serve_place.new.seat whole (replies_of c.args.waiting.now) (places_of c.args.waiting.now) c.loop-at.waiting c.serve_place.new.waiting
           (own_stored e first m at no_place are secured (omega (arith, inside, body.places_are)) ∙ mine)
           (omega (arith, inside, body.places_are)) (seat_at e index clock old ss at x (some_buffers old) body inside there) has
-          c.serve_place.ensures.ends (λ is. (c.serve_place.ensures.served is).silent)
+          (λ is. keyed_ends clock earlier later x c.serve_place.new.seat c.loop-at.waiting c.serve_place.new.waiting (c.serve_place.ensures.ends is))
+          (λ is. (c.serve_place.ensures.served is).silent)
           (λ is. keyed_says clock earlier later x c.serve_place.new.seat c.loop-at.waiting c.serve_place.new.waiting (c.serve_place.ensures.served is))
           (h.notified e index ss m body are secured);
       ends = λ e index ss body.
@@ -124,8 +125,7 @@ returns-clause-served c e index ss m body are secured =
           e index clock clock c.loop-at.at old c.loop-at.table ss body body.early h.seats all
           (λ k p x y below is served. served_becomes own (own_keys (place_keys_of (get_or first.slots.items k no_place))) e index clock over k p x y ss
           (own_stored e first m k no_place are secured (omega (arith, below, body.places_are))) is served));
-      keys_are = subst (λ (b : Bool). AreKeys e c.loop-at.keys (keys_finished e clock b ss m)) (c.is_file_over-over.ensures e index clock ss body)
-          (keys_done e index clock over c.loop-at.at old ss first c.loop-at.keys m body are secured all h.rest h.places);
+      keys_are = keys_done e index clock over c.loop-at.at old ss first c.loop-at.keys m body are secured all h.rest h.places;
       said = subst (λ (b : Bool). Queues c.args.waiting.now c.loop-at.waiting (map sent (served own e clock b ss)))
           (c.is_file_over-over.ensures e index clock ss body)
           (saying_ends (serving own e clock over) e c.loop-at.at ss _ _ _ _

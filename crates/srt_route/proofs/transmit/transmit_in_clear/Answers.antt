@@ -14,7 +14,7 @@ use Rattle.srt_route.specs.inside.Reports.{Queues}
 use Rattle.srt_route.proofs.stored.Kept.{some_buffers, none_done, next_is, seat_at, one_done, all_done}
 use Rattle.srt_route.proofs.steps.Noting.{end_grows, grow_both}
 use Rattle.srt_route.proofs.steps.Serving.{Serves, all_ends, finishes_subscribers, finishes_subscribers_marks, no_ends, one_ends, serve_slot}
-use Rattle.srt_route.proofs.steps.Serving.{clear_says, served_becomes, serving, stays_served}
+use Rattle.srt_route.proofs.steps.Serving.{clear_ends, clear_says, served_becomes, serving, stays_served}
 use Rattle.srt_route.proofs.steps.Slots.{saying_begins, saying_ends}
 use Rattle.srt_route.proofs.transmit.transmit_in_clear.Goals as goal
 
@@ -64,7 +64,8 @@ loop-at-preserved c =
           serve_slot none_own None e index clock over (buffers_of old.publishers.items x (some_buffers old)) ss at x c.serve_seat.new.seat whole
           (replies_of c.args.waiting.now) (places_of c.args.waiting.now) c.loop-at.waiting c.serve_seat.new.waiting
           refl (omega (arith, inside, body.places_are)) (seat_at e index clock old ss at x (some_buffers old) body inside there) has
-          c.serve_seat.ensures.ends (λ is. (c.serve_seat.ensures.served is).silent)
+          (λ is. clear_ends clock x c.serve_seat.new.seat c.loop-at.waiting c.serve_seat.new.waiting (c.serve_seat.ensures.ends is))
+          (λ is. (c.serve_seat.ensures.served is).silent)
           (λ is. clear_says clock x c.serve_seat.new.seat c.loop-at.waiting c.serve_seat.new.waiting (c.serve_seat.ensures.served is))
           (h.notified e index ss body);
       ends = λ e index ss body.
