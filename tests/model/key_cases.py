@@ -43,11 +43,14 @@ REQUESTED = (
     *(f"{mode}: {it}" for mode in MODES for it in ("payload held", "held payloads go", "payload under a key of its own", "payload again under it")),
     "live: held payload expired", "buffer: payloads held back for one whose key isn't confirmed", "session with keys is told of its end: given up",
     "session with keys ends as others do: given up", "given up and silent at once", "KMREQ behind a DROPREQ", "KMREQ and a KEEPALIVE",
+    "KMREQ before the SHUTDOWN at the end of a file",
     "key of a session that isn't the first",
 )
 KINDS_BY_KEY = {"publish_passphrase": PUBLISHED, "request_passphrase": REQUESTED}
 # Those that only callers with libsrt, or only routes that follow the draft, can reach.
-LIBSRT_KINDS = ("while it drains: a KMREQ ignored", "session with keys is told of its end: given up")
+LIBSRT_KINDS = (
+    "while it drains: a KMREQ ignored", "session with keys is told of its end: given up", "KMREQ before the SHUTDOWN at the end of a file",
+)
 
 
 class Was(NamedTuple):
@@ -233,6 +236,8 @@ def of_subscriber(before: Before, it: Subscriber, its: Was) -> Iterator[str]:
             yield "KMREQ behind a DROPREQ"
         if Kind.KEEPALIVE in kinds:
             yield "KMREQ and a KEEPALIVE"
+        if it.end is End.FILE_ENDED:
+            yield "KMREQ before the SHUTDOWN at the end of a file"
     if data:
         yield f"{mode}: payload under a key of its own"
         if it.next - its.next < len(data):

@@ -340,6 +340,16 @@ def files_end_under_a_key(it: KeyStory) -> None:
     it.wait()
 
 
+@story_of(KeyStory, OF_SUBSCRIBERS, "buffer", more=REQUEST)
+def announces_before_the_end_of_a_file(it: KeyStory) -> None:
+    """A KMREQ that is due as a file ends goes before the SHUTDOWN; a microsecond earlier none is due."""
+    for beside in (0, -1):
+        publisher, subscriber = it.publisher(), it.subscriber()
+        it.world.now = it.session(subscriber).opening.moment + ANNOUNCED_AGAIN + beside
+        it.shuts(publisher)
+        it.wait()
+
+
 @story_of(KeyStory, OF_SUBSCRIBERS, *BOTH, more=REQUEST)
 def comes_again_and_again(it: KeyStory) -> None:
     """The same conclusion opens one session after the other, each with a key of its own; beside it others come with keys of each length."""
