@@ -13,7 +13,7 @@ SOCKET = r"socket (?P<socket>0x[0-9a-f]{8})"
 FORMS = {
     "started": r"serving at (?P<bind>\S+), routes (?P<routes>\d+), workers (?P<workers>\d+), memory \d+ KiB",
     "warning": r"(?P<warning>.*)",
-    "opened": rf"{SESSION} opened(?: as standby)?, {SOCKET}(?:, latency (?P<latency_ms>\d+) ms)?",
+    "opened": rf"{SESSION} opened(?: as standby)?, {SOCKET}(?:, latency (?P<latency_ms>\d+) ms)?(?:, encrypted with AES-\d+)?",
     "ended": rf"{SESSION} ended, {SOCKET}, .*, after (?P<lasted_ms>\d+) ms, (?P<packets>\d+) packets, (?P<bytes>\d+) bytes, "
              r"(?P<lost>\d+) lost, (?P<resent>\d+) resent(?:, clock drift (?P<clock_drift_ppm>-?\d+) ppm, correction (?P<clock_correction_us>-?\d+) us)?",
     "took_over": rf"{SESSION} took over, {SOCKET}",
@@ -61,6 +61,8 @@ def expect_same(told):
             expect(words[told[name]] in told["text"], f"{name} of {told}")
     if told["event"] == "opened":
         expect(told["standby"] == (" as standby" in told["text"]), f"the standby of {told}")
+        bits = re.search(r"encrypted with AES-(\d+)$", told["text"])
+        expect(told.get("key_length_bytes") == (int(bits[1]) // 8 if bits else None), f"the length of the keys of {told}")
 
 
 def play(run):

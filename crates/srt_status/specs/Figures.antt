@@ -8,6 +8,8 @@ use Rattle.srt_sub.specs.declared.counts.Sendings.{Sendings}
 use Rattle.srt_sub.specs.declared.statistics.Statistics.{Statistics as SubscriberStatistics}
 use Rattle.srt_hs.specs.declared.refusal_codes.RefusalCode.{RefusalCode}
 use Rattle.srt_hs.specs.declared.refusal_codes.RefusalCode.TheVariants as reasons
+use Rattle.srt_types.specs.Access.{bytes_in}
+use Rattle.srt_types.specs.declared.shared.KeyLength.{KeyLength}
 use Rattle.srt_route.specs.declared.view.SessionView.{SessionView}
 use Rattle.srt_route.specs.declared.view.Traffic.{Traffic}
 use Rattle.srt_route.specs.declared.view.Traffic.TheVariants.{Received, Sent}
@@ -136,6 +138,7 @@ gauge_name gauges.InFlight = codes "in_flight_packets"
 gauge_name gauges.FlowWindow = codes "flow_window_packets"
 gauge_name gauges.ClockDrift = codes "publisher_clock_drift_ppm"
 gauge_name gauges.ClockCorrection = codes "publisher_clock_correction_seconds"
+gauge_name gauges.KeyLength = codes "key_length_bytes"
 
 -- its help
 abbrev pub gauge_help : Gauge → List ℕ
@@ -152,6 +155,7 @@ gauge_help gauges.InFlight = codes "The packets of a subscriber in flight."
 gauge_help gauges.FlowWindow = codes "The flow window that a subscriber reported last."
 gauge_help gauges.ClockDrift = codes "How much a publisher's clock is off, over its session: positive for one that is slow."
 gauge_help gauges.ClockCorrection = codes "By how much delivery follows a publisher's clock: positive for one that is slow."
+gauge_help gauges.KeyLength = codes "The length of the keys of an encrypted session: 16, 24 or 32."
 
 -- this of a publisher's session
 abbrev pub publisher_amount : Gauge → (active : Bool) → PublisherStatistics → Option Amount
@@ -168,6 +172,7 @@ publisher_amount gauges.InFlight active x = None
 publisher_amount gauges.FlowWindow active x = None
 publisher_amount gauges.ClockDrift active x = None
 publisher_amount gauges.ClockCorrection active x = None
+publisher_amount gauges.KeyLength active x = None
 
 -- this of a subscriber's session
 abbrev pub subscriber_amount : Gauge → SubscriberStatistics → Option Amount
@@ -184,6 +189,7 @@ subscriber_amount gauges.InFlight x = Some (Number x.in_flight)
 subscriber_amount gauges.FlowWindow x = Some (Number x.flow_window)
 subscriber_amount gauges.ClockDrift x = None
 subscriber_amount gauges.ClockCorrection x = None
+subscriber_amount gauges.KeyLength x = None
 
 -- a latency; a session in buffer mode has 0, which isn't shown
 abbrev pub latency_amount : (latency_ms : ℕ) → Option Amount
@@ -223,6 +229,11 @@ abbrev pub correction_amount : Option ℤ → Option Amount
 correction_amount None = None
 correction_amount (Some correction) = Some (SignedMicros correction)
 
+-- the length of the keys of an encrypted session, in bytes
+abbrev pub key_amount : Option KeyLength → Option Amount
+key_amount None = None
+key_amount (Some key_length) = Some (Number (bytes_in key_length))
+
 -- this of a session at a time
 abbrev pub gauge_amount : Gauge → (moment : ℕ) → SessionView → Option Amount
 gauge_amount gauges.Active moment session = traffic_amount gauges.Active session.is_active session.traffic
@@ -240,6 +251,7 @@ gauge_amount gauges.InFlight moment session = traffic_amount gauges.InFlight ses
 gauge_amount gauges.FlowWindow moment session = traffic_amount gauges.FlowWindow session.is_active session.traffic
 gauge_amount gauges.ClockDrift moment session = drift_amount (correction_of session.traffic) (moment - session.opened)
 gauge_amount gauges.ClockCorrection moment session = correction_amount (correction_of session.traffic)
+gauge_amount gauges.KeyLength moment session = key_amount session.key_length
 
 -- the name of what is said of the gateway, behind its prefix
 abbrev pub total_name : Total → List ℕ
@@ -364,7 +376,8 @@ all_counts =
 abbrev pub all_gauges : List Gauge
 all_gauges =
     gauges.Active ∷ gauges.Open ∷ gauges.Silent ∷ gauges.Latency ∷ gauges.RoundTrip ∷ gauges.RoundTripVariance ∷ gauges.WindowUsed
-    ∷ gauges.WindowAvailable ∷ gauges.FreePlaces ∷ gauges.InFlight ∷ gauges.FlowWindow ∷ gauges.ClockDrift ∷ gauges.ClockCorrection ∷ []
+    ∷ gauges.WindowAvailable ∷ gauges.FreePlaces ∷ gauges.InFlight ∷ gauges.FlowWindow ∷ gauges.ClockDrift ∷ gauges.ClockCorrection
+    ∷ gauges.KeyLength ∷ []
 
 -- all that is said of the gateway, in the order in which they are shown
 abbrev pub all_totals : List Total

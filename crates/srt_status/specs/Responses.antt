@@ -53,7 +53,7 @@ health_text method polling =
 unfoldable pub overview_text : Method → (page : List ℕ) → List ℕ
 overview_text method page =
     response_text (codes "200 OK")
-    (codes "Content-Type: text/html; charset=utf-8\r\nContent-Security-Policy: default-src 'none'; connect-src 'self'; script-src 'sha256-I1Tm9RTPrkcLBQ463vJnHjyyA/NV5WcbHx/CADZzEb0='; style-src 'sha256-S0eXzLbF316TxNbdPfgzow7quiJvspzTTNRxVkZZ4CI='; base-uri 'none'; form-action 'none'; frame-ancestors 'none'\r\n")
+    (codes "Content-Type: text/html; charset=utf-8\r\nContent-Security-Policy: default-src 'none'; connect-src 'self'; script-src 'sha256-NhgY58z/y+XBDCBsHus6N9UhmwCg75jN1ZmxTQleeeE='; style-src 'sha256-nK2dqi/2RtZmX3ANv3feDJ4pZkEfAQjQhT7KhQfr5NM='; base-uri 'none'; form-action 'none'; frame-ancestors 'none'\r\n")
     method page
 
 -- the figures

@@ -3,7 +3,7 @@
 ghost use Rattle.std.specs.Prelude.{◌≡◌};
 ghost use Rattle.srt_status.specs.Figures.{count_name, count_help, publisher_count, subscriber_count, gauge_name, gauge_help, gauge_amount};
 ghost use Rattle.srt_status.specs.Figures.{publisher_amount, subscriber_amount, latency_amount, round_trip_of, variance_of, trip_amount, traffic_amount};
-ghost use Rattle.srt_status.specs.Figures.{correction_of, ppm_of, drift_amount, correction_amount, repeats_of, session_count, total_name};
+ghost use Rattle.srt_status.specs.Figures.{correction_of, ppm_of, drift_amount, correction_amount, key_amount, repeats_of, session_count, total_name};
 ghost use Rattle.srt_status.specs.Figures.{total_help, total_kind, total_value, refusal_count, figure_name};
 ghost use Rattle.srt_status.specs.Figures.{figure_help, figure_kind, limit_figure, route_figure, one_if_some, absent_if};
 
@@ -13,6 +13,7 @@ use crate::route_status::{LimitCounts, RouteStatus};
 use srt_hs::RefusalCode;
 use srt_route::{SessionView, Traffic};
 use srt_sub::Sendings;
+use srt_types::KeyLength;
 
 /// The round-trip time with which a session begins, in microseconds (section 4.10).
 const FIRST_ROUND_TRIP: u32 = 100_000;
@@ -90,10 +91,11 @@ pub(crate) enum Gauge {
     FlowWindow,
     ClockDrift,
     ClockCorrection,
+    KeyLength,
 }
 
 /// All states of an open session, in the order in which they are shown.
-pub(crate) const GAUGES: [Gauge; 13] = [
+pub(crate) const GAUGES: [Gauge; 14] = [
     Gauge::Active,
     Gauge::Open,
     Gauge::Silent,
@@ -107,6 +109,7 @@ pub(crate) const GAUGES: [Gauge; 13] = [
     Gauge::FlowWindow,
     Gauge::ClockDrift,
     Gauge::ClockCorrection,
+    Gauge::KeyLength,
 ];
 
 /// What is shown of the gateway as a whole.
@@ -294,6 +297,7 @@ pub(crate) fn gauge_name(gauge: Gauge) -> &'static str
         Gauge::FlowWindow => "flow_window_packets",
         Gauge::ClockDrift => "publisher_clock_drift_ppm",
         Gauge::ClockCorrection => "publisher_clock_correction_seconds",
+        Gauge::KeyLength => "key_length_bytes",
     }
 }
 
@@ -316,6 +320,7 @@ pub(crate) fn gauge_help(gauge: Gauge) -> &'static str
             "How much a publisher's clock is off, over its session: positive for one that is slow.",
         Gauge::ClockCorrection =>
             "By how much delivery follows a publisher's clock: positive for one that is slow.",
+        Gauge::KeyLength => "The length of the keys of an encrypted session: 16, 24 or 32.",
     }
 }
 
@@ -421,6 +426,18 @@ fn correction_amount(correction: Option<i64>) -> Option<Amount>
     }
 }
 
+/// Returns the length of keys; None of a session that isn't encrypted.
+fn key_amount(key_length: Option<KeyLength>) -> Option<Amount>
+    ensures { result ≡ key_amount key_length }
+{
+    match key_length {
+        Some(KeyLength::Aes128) => Some(Amount::Number(16)),
+        Some(KeyLength::Aes192) => Some(Amount::Number(24)),
+        Some(KeyLength::Aes256) => Some(Amount::Number(32)),
+        None => None,
+    }
+}
+
 /// Returns this state of a session by its role.
 fn traffic_amount(gauge: Gauge, active: bool, traffic: &Traffic) -> Option<Amount>
     ensures { result ≡ traffic_amount gauge active traffic.now }
@@ -446,6 +463,7 @@ pub(crate) fn gauge_amount(gauge: Gauge, moment: u64, session: &SessionView) -> 
             moment.saturating_sub(session.opened),
         ),
         Gauge::ClockCorrection => correction_amount(correction_of(&session.traffic)),
+        Gauge::KeyLength => key_amount(session.key_length),
         _ => traffic_amount(gauge, session.is_active, &session.traffic),
     }
 }

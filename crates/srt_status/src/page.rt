@@ -103,6 +103,10 @@ main { margin-top: 8px; }
 .session { padding: 7px 0; border-top: 1px solid var(--line); }
 .number { text-align: right; white-space: nowrap; }
 .who { overflow-wrap: anywhere; }
+.lock { display: inline-block; margin-right: 6px; color: var(--good); }
+.lock[hidden] { display: none; }
+.lock svg { width: 10px; height: 12px; }
+.lock path { fill: currentColor; }
 .who small, .session small { display: block; color: var(--dim); font-size: 12.5px; }
 .marks { grid-column: 1 / -1; display: flex; flex-wrap: wrap; gap: 4px 6px; }
 .marks:empty { display: none; }
@@ -395,6 +399,24 @@ function cell(row, name, label) {
   row.append(node);
   return node;
 }
+// What stands before the caller of an encrypted session; its title names the cipher.
+function lock() {
+  const box = make("span", "lock"), svg = document.createElementNS("http://www.w3.org/2000/svg", "svg");
+  box.setAttribute("role", "img");
+  svg.setAttribute("viewBox", "0 0 10 12");
+  svg.setAttribute("aria-hidden", "true");
+  svg.append(document.createElementNS("http://www.w3.org/2000/svg", "path"));
+  svg.firstChild.setAttribute("d", "M0 5h10v7H0zM1 5V4a4 4 0 0 1 8 0v1H7.5V4a2.5 2.5 0 0 0-5 0v1z");
+  box.append(svg);
+  return box;
+}
+function showLock(box, session) {
+  const title = session.key_length_bytes ? "encrypted with AES-" + 8 * session.key_length_bytes : "";
+  box.hidden = !title;
+  if (box.title === title) return;
+  box.title = title;
+  box.setAttribute("aria-label", title);
+}
 function openSession() {
   const row = make("div", "session");
   const parts = {
@@ -410,6 +432,7 @@ function openSession() {
     said: "",
   };
   parts.svg = parts.plot.appendChild(plot());
+  parts.who.prepend(parts.lock = lock());
   return parts;
 }
 function fill(node, text, small) {
@@ -420,6 +443,7 @@ function showSession(parts, session, past) {
   const publishes = session.role === "publisher";
   const role = publishes ? (session.active ? "Publisher" : "Standby publisher") : "Subscriber";
   fill(parts.who, session.peer, role + ", open for " + lasted(session.open_seconds) + clock(session));
+  showLock(parts.lock, session);
   fill(parts.rate, bits(rate(past)), "");
   parts.plot.className = "plot " + (publishes ? "in" : "out");
   draw(parts.svg, past.rates);

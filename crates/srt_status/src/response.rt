@@ -26,7 +26,7 @@ const JSON: &str = "Content-Type: application/json\r\n";
 
 /// The fields of the page for people. Its script and its style are named by their SHA-256.
 const HTML: &str =
-    "Content-Type: text/html; charset=utf-8\r\nContent-Security-Policy: default-src 'none'; connect-src 'self'; script-src 'sha256-I1Tm9RTPrkcLBQ463vJnHjyyA/NV5WcbHx/CADZzEb0='; style-src 'sha256-S0eXzLbF316TxNbdPfgzow7quiJvspzTTNRxVkZZ4CI='; base-uri 'none'; form-action 'none'; frame-ancestors 'none'\r\n";
+    "Content-Type: text/html; charset=utf-8\r\nContent-Security-Policy: default-src 'none'; connect-src 'self'; script-src 'sha256-NhgY58z/y+XBDCBsHus6N9UhmwCg75jN1ZmxTQleeeE='; style-src 'sha256-nK2dqi/2RtZmX3ANv3feDJ4pZkEfAQjQhT7KhQfr5NM='; base-uri 'none'; form-action 'none'; frame-ancestors 'none'\r\n";
 
 /// Puts the fields that all responses have.
 #[tactic(auto, unfolding(crate::specs::Responses::common_fields))]

@@ -9,7 +9,7 @@ use srt_route::{SessionView, Totals, Traffic};
 use srt_sub::Sendings;
 use srt_supervision::Report;
 use srt_types::product_limits::{MAX_REQUEST, MAX_SESSIONS, REQUEST_TIMEOUT};
-use srt_types::{Mode, Peer, Role};
+use srt_types::{KeyLength, Mode, Peer, Role};
 use std::process::Abort;
 use std::str;
 use std::test::Fail;
@@ -86,6 +86,7 @@ pub(crate) fn publisher() -> SessionView {
         opened: 1_500_000,
         heard: 61_499_000,
         latency_ms: 120,
+        key_length: None,
         traffic: Traffic::Received(srt_pub::Statistics {
             counts: srt_pub::Counts {
                 arrived: 109,
@@ -120,6 +121,7 @@ fn subscriber() -> SessionView {
         opened: 0,
         heard: 0,
         latency_ms: 0,
+        key_length: None,
         traffic: Traffic::Sent(srt_sub::Statistics {
             counts: srt_sub::Counts {
                 queued: 11,
@@ -309,6 +311,28 @@ fn what_the_process_uses(rt: HostRuntime) -> Result<(), Fail> {
             "\nprocess_max_fds 1024\n",
             "\nprocess_start_time_seconds 1795970000.120000\n",
             ",\"process_cpu_seconds_total\":12.340000,\"process_resident_memory_bytes\":1048576,\"process_open_fds\":9,\"process_max_fds\":1024,\"process_start_time_seconds\":1795970000.120000,\"routes\":[]}\n",
+        ],
+    )
+}
+
+#[test]
+fn keys_of_encrypted_sessions(rt: HostRuntime) -> Result<(), Fail> {
+    let encoder = SessionView {
+        key_length: Some(KeyLength::Aes256),
+        ..publisher()
+    };
+    let player = SessionView {
+        key_length: Some(KeyLength::Aes128),
+        ..subscriber()
+    };
+    assert_shown(
+        &rt,
+        &gateway(),
+        &[route(&rt, "studio", Some(encoder), Some(player))?],
+        &[
+            "\n# HELP srtgw_session_key_length_bytes The length of the keys of an encrypted session: 16, 24 or 32.\n# TYPE srtgw_session_key_length_bytes gauge\nsrtgw_session_key_length_bytes{route=\"studio\",role=\"publisher\",session=\"00100000\",peer=\"192.0.2.7:5000\"} 32\nsrtgw_session_key_length_bytes{route=\"studio\",role=\"subscriber\",session=\"fedcba98\",peer=\"[2001:db8::1]:9\"} 16\n",
+            ",\"window_available_packets\":22,\"key_length_bytes\":32,\"received_packets_total\":100,",
+            ",\"flow_window_packets\":20,\"key_length_bytes\":16,\"given_up_packets_total\":15,",
         ],
     )
 }
