@@ -4,3 +4,6 @@ pub mod KeyValues
 pub mod NextLines
 pub mod Secrets
 pub mod Told
+pub mod Passing
+pub mod Meant
+pub mod FileModes

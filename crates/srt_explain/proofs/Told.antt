@@ -18,7 +18,9 @@ use Rattle.srt_explain.specs.declared.explanation.Faults.{Faults}
 use Rattle.srt_explain.specs.declared.others.Others.{Others}
 use Rattle.srt_explain.specs.Explaining.{place_of, IsPrivate}
 use Rattle.srt_explain.specs.Listing.{faults_of, told_of, HasAll, ArePrivate}
+use Rattle.srt_explain.specs.Misspelled.{with_faults}
 use Rattle.srt_explain.specs.inside.Others.{AreOthers, HasOthers}
+use Rattle.srt_explain.proofs.Meant.{first_told}
 
 -- an iterator that gives nothing has nothing left
 pub nothing_left : {X : Type 0} (count : ℕ) (items : List X) (r : Option X) → count ≡ length items → (IsSome r ↔ (0 < count)) → r ≡ None → items ≡ []
@@ -106,11 +108,11 @@ no_others d o none explained more =
 
 -- the others of a text's table, as it is written and with the defaults
 pub others_of_text : (d : Option Members) (written table whole : Members) (o : Others) → Some written ≡ d → Some table ≡ d
-    → whole ≡ with_defaults table → AreOthers (all_faults written whole) o → AreOthers (faults_of d) o
+    → whole ≡ with_defaults table → AreOthers (with_faults [] (all_faults written whole)) o → AreOthers (faults_of d) o
 others_of_text d written table whole o p q r h =
     let both : Some written ≡ Some table = p ∙ sym q in
     let same : written ≡ table = cc in
-    subst (λ x. AreOthers (faults_of x) o) p (subst (λ x. AreOthers (all_faults written x) o) (r ∙ ap with_defaults (sym same)) h)
+    subst (λ x. AreOthers (faults_of x) o) p (subst (λ x. AreOthers (with_faults [] (all_faults written x)) o) (r ∙ ap with_defaults (sym same)) h)
 
 -- the first is the same, or an allocation failed
 pub gives_first : {said : Result Settings Fault} (e first : Explanation) → (e ≡ first) ⊎ (e.fault ≡ OutOfMemory)
@@ -124,7 +126,7 @@ place_first {at} e first (inl p) h = subst (λ (x : Explanation). (x.fault ≡ O
 place_first e first (inr p) h = inl p
 
 first_of_document : (d : Option Members) → first (faults_of d) ≡ fault_of (config_in d) (document_place d)
-first_of_document (Some table) = first_is_read table (with_defaults table)
+first_of_document (Some table) = first_told (all_faults table (with_defaults table)) ∙ first_is_read table (with_defaults table)
 first_of_document None = refl
 
 begins : (all : List Placed) (x : Placed) → first all ≡ Some x → all ≡ x ∷ drop 1 all

@@ -50,6 +50,7 @@ risk_key risks.NoResendLimit = codes "resend_percent"
 abbrev pub risk_of : Warning → Option RouteRisk
 risk_of warnings.ExampleSecret = None
 risk_of (warnings.ExposedStatus address) = None
+risk_of warnings.PublicFile = None
 risk_of (warnings.MoreRoutes risk count) = None
 risk_of (warnings.SmallOutbox route outbox replies) = Some risks.SmallOutbox
 risk_of (warnings.SmallWindow route buffer packets millis) = Some risks.SmallWindow

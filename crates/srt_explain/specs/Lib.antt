@@ -6,3 +6,6 @@ pub mod Texts
 pub mod FaultTexts
 pub mod FaultLines
 pub mod inside
+pub mod Resemblance
+pub mod Misspelled
+pub mod FileMode

@@ -10,15 +10,17 @@ use Rattle.srt_explain.specs.declared.explaining.Explained.{Explained}
 use Rattle.srt_explain.specs.declared.explanation.Explanation.{Explanation}
 use Rattle.srt_explain.specs.declared.explanation.Faults.{Faults}
 use Rattle.srt_explain.specs.Explaining.{place_of, IsPrivate}
+use Rattle.srt_explain.specs.Misspelled.{with_faults}
 
 -- what is explained, or the first fault
 abbrev pub first_of : Result Explained Faults → Result Explained Explanation
 first_of (Ok explained) = Ok explained
 first_of (Err faults) = Err faults.first
 
--- all faults of a document that has any, with the defaults in each route: key by key and part by part; a text that isn't TOML has that one
+-- the faults that are told of a document that has any: all of them, with the defaults in each route, key by key and part by part, without those
+-- of missing keys that a misspelled one may be; a text that isn't TOML has that one
 abbrev pub faults_of : Option Members → List Placed
-faults_of (Some table) = all_faults table (with_defaults table)
+faults_of (Some table) = with_faults [] (all_faults table (with_defaults table))
 faults_of None = placed place.Above Toml ∷ []
 
 -- the fault that is explained, and the part that is named

@@ -130,6 +130,10 @@ unfoldable pub no_resend_limit_text : List ℕ
 no_resend_limit_text =
     codes "resend_percent is missing, so one player that requests packets again and again " ++ codes "can fill the line; write resend_percent = 50"
 
+unfoldable pub public_file_text : List ℕ
+public_file_text =
+    codes "the configuration's file has keys or passphrases, and others than its owner and " ++ codes "its group may use it; chmod 640 keeps them out"
+
 -- how many more routes have a risk
 unfoldable pub more_routes_text : RouteRisk → (count : ℕ) → List ℕ
 more_routes_text risk count = risk_key risk ++ codes ": more routes have this warning: " ++ decimal count
@@ -152,6 +156,7 @@ warning_text (warnings.NoCallers route) = no_callers_text
 warning_text (warnings.NoReserved route slots) = no_reserved_text slots
 warning_text (warnings.NoTakeover route) = no_takeover_text
 warning_text (warnings.NoResendLimit route) = no_resend_limit_text
+warning_text warnings.PublicFile = public_file_text
 warning_text (warnings.MoreRoutes risk count) = more_routes_text risk count
 
 -- the route that a warning is about, with its name

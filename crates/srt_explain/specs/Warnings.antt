@@ -13,7 +13,7 @@ use Rattle.srt_explain.specs.declared.warnings.Warning.{Warning}
 use Rattle.srt_explain.specs.declared.warnings.Warning.TheVariants.{ExampleSecret, ExposedStatus, SmallOutbox, SmallWindow, OneSession, OpenKey}
 use Rattle.srt_explain.specs.declared.warnings.Warning.TheVariants.{ShortPassphrase, SharedPassphrase, ClearPlayers}
 use Rattle.srt_explain.specs.declared.warnings.Warning.TheVariants.{UnusedTakeover, UnusedAddressLimit, OneUnreserved}
-use Rattle.srt_explain.specs.declared.warnings.Warning.TheVariants.{NoCallers, NoReserved, NoTakeover, NoResendLimit, MoreRoutes}
+use Rattle.srt_explain.specs.declared.warnings.Warning.TheVariants.{NoCallers, NoReserved, NoTakeover, NoResendLimit, PublicFile, MoreRoutes}
 use Rattle.srt_explain.specs.declared.grouping.RouteRisk.{RouteRisk}
 use Rattle.srt_explain.specs.declared.grouping.RouteRisk.TheVariants as risks
 use Rattle.srt_config.specs.declared.config.keys.Key.{Key}
@@ -237,6 +237,7 @@ warnings_of table status routes = given (has_example_secret table) ExampleSecret
 -- the number of the route that a warning is about
 abbrev pub route_of : Warning → Option ℕ
 route_of ExampleSecret = None
+route_of PublicFile = None
 route_of (MoreRoutes risk count) = None
 route_of (ExposedStatus address) = None
 route_of (SmallOutbox route outbox replies) = Some route

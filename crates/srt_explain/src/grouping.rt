@@ -141,7 +141,10 @@ fn risk_of(warning: Warning) -> Option<RouteRisk>
     ensures { result ≡ risk_of warning }
 {
     match warning {
-        Warning::ExampleSecret | Warning::ExposedStatus { .. } | Warning::MoreRoutes { .. } => None,
+        Warning::ExampleSecret
+        | Warning::ExposedStatus { .. }
+        | Warning::PublicFile
+        | Warning::MoreRoutes { .. } => None,
         Warning::SmallOutbox { .. } => Some(RouteRisk::SmallOutbox),
         Warning::SmallWindow { .. } => Some(RouteRisk::SmallWindow),
         Warning::OneSession { .. } => Some(RouteRisk::OneSession),

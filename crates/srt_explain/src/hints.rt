@@ -2,7 +2,9 @@
 
 ghost use Rattle.std.specs.Prelude.{◌≡◌, true};
 ghost use Rattle.srt_config.specs.KeyTable.{is_private};
+ghost use Rattle.srt_config.specs.declared.config.placed.Place.TheVariants as place;
 ghost use Rattle.srt_explain.specs.Explaining.{is_hint_private};
+ghost use Rattle.srt_explain.specs.Misspelled.{key_named, like, below_hint, unknown_hint};
 
 use crate::explanation::Hint;
 use crate::places::{line_at, place_after};
@@ -36,18 +38,34 @@ pub(crate) fn of_text(text: &[u8], at: usize) -> Hint {
 }
 
 /// Returns the key of this spelling among these.
-fn key_named(keys: &[Key], text: &str) -> Option<Key> {
-    for key in keys {
-        if key.name() == text {
-            return Some(*key);
+fn key_named(keys: &[Key], text: &str) -> Option<Key>
+    ensures { result ≡ key_named keys.now text.now }
+{
+    let mut rest = keys;
+    while !rest.is_empty() {
+        if rest[0].name() == text {
+            return Some(rest[0]);
         }
+        rest = &rest[1..];
     }
     None
 }
 
+/// Returns the hint at a key that resembles this one, if it resembles any.
+fn like(key: Option<Key>) -> Hint
+    ensures value { result ≡ like key }
+    ensures private { is_hint_private result ≡ true }
+{
+    match key {
+        Some(key) => Hint::Resembles(key),
+        None => Hint::Nothing,
+    }
+}
+
 /// Returns the hint for a key that isn't known in the table of the part of this place.
 pub(crate) fn of_unknown(place: Place, text: &str) -> Hint
-    ensures { is_hint_private result ≡ true }
+    ensures value { result ≡ unknown_hint place text.now }
+    ensures private { is_hint_private result ≡ true }
 {
     match place {
         Place::Route(_) => of_unknown_below(&ROUTE_KEYS, text),
@@ -61,27 +79,23 @@ pub(crate) fn of_unknown(place: Place, text: &str) -> Hint
 
 /// Returns the hint for a key that isn't known in the whole table.
 fn of_unknown_above(text: &str) -> Hint
-    ensures { is_hint_private result ≡ true }
+    ensures value { result ≡ unknown_hint place.Above text.now }
+    ensures private { is_hint_private result ≡ true }
 {
     match key_named(&ROUTE_KEYS, text) {
         Some(key) => Hint::OfRoute(key),
-        None => match resembled(&TOP_KEYS, text.as_bytes()) {
-            Some(key) => Hint::Resembles(key),
-            None => Hint::Nothing,
-        },
+        None => like(resembled(&TOP_KEYS, text.as_bytes())),
     }
 }
 
 /// Returns the hint for a key that isn't known in a table of these keys below the whole one.
 fn of_unknown_below(keys: &[Key], text: &str) -> Hint
-    ensures { is_hint_private result ≡ true }
+    ensures value { result ≡ below_hint keys.now text.now }
+    ensures private { is_hint_private result ≡ true }
 {
     match key_named(&TOP_KEYS, text) {
         Some(key) => Hint::OfTable(key),
-        None => match resembled(keys, text.as_bytes()) {
-            Some(key) => Hint::Resembles(key),
-            None => Hint::Nothing,
-        },
+        None => like(resembled(keys, text.as_bytes())),
     }
 }
 

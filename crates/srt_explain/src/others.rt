@@ -5,10 +5,12 @@ ghost use Rattle.toml.specs.Parse.{parse_document};
 ghost use Rattle.toml.specs.View.{table_view};
 ghost use Rattle.srt_config.specs.AllFaults.{faults_seen, all_faults};
 ghost use Rattle.srt_explain.specs.Listing.{faults_of, told_of, ArePrivate};
+ghost use Rattle.srt_explain.specs.Misspelled.{with_faults};
 ghost use Rattle.srt_explain.specs.inside.Others.{AreOthers};
 
 use crate::explaining::explained_line;
 use crate::explanation::Explanation;
+use crate::misspelled::told_faults;
 use srt_config::{PlacedFault, all_faults, with_defaults};
 use std::alloc::{AllocError, Global};
 use toml::Table;
@@ -47,7 +49,7 @@ fn explain_next(
     Ok(list)
 }
 
-/// Returns all faults but the first of the table that is this text, as it is written and with the defaults.
+/// Returns all faults but the first of the table that is this text, as it is written and with the defaults, that are told.
 #[tactic(auto, using(crate::proofs::Told::others_are))]
 fn others_of(
     alloc: Global,
@@ -55,9 +57,9 @@ fn others_of(
     written: &Table,
     whole: &Table,
 ) -> Result<Others, AllocError>
-    ensures { IfOk result (AreOthers (all_faults (table_view written.now) (table_view whole.now))) }
+    ensures { IfOk result (AreOthers (with_faults [] (all_faults (table_view written.now) (table_view whole.now)))) }
 {
-    let faults = all_faults(alloc, written, whole)?;
+    let faults = told_faults(alloc, all_faults(alloc, written, whole)?)?;
     let more = faults.len().saturating_sub(MAX_EXPLAINED);
     Ok(Others {
         explained: explain_next(alloc, text, whole, faults)?,

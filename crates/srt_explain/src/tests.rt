@@ -165,3 +165,25 @@ fn warnings_of_many_routes_are_told_of_three(rt: HostRuntime) -> Result<(), Fail
     );
     Ok(())
 }
+
+/// Returns how many faults of a configuration are told, if this is replaced where it is last.
+fn told_after(rt: &impl AllocGlobal, old: &str, new: &str) -> Result<usize, Fail> {
+    let text = format!(in rt.alloc(); "{TOP}{ROUTES}")?;
+    let Some((before, behind)) = text.rsplit_once(old) else {
+        return Err(Fail::from("nothing to change"));
+    };
+    let changed = format!(in rt.alloc(); "{before}{new}{behind}")?;
+    match explain(rt.alloc(), changed.as_bytes()) {
+        Ok(_) => Ok(0),
+        Err(faults) => Ok(faults.others.len().saturating_add(1)),
+    }
+}
+
+#[test]
+fn a_misspelled_key_is_told_once(rt: HostRuntime) -> Result<(), Fail> {
+    assert_eq!(&rt; told_after(&rt, "buffer = 32", "bufer = 32")?, 1);
+    assert_eq!(&rt; told_after(&rt, "latency_ms", "latency_sm")?, 1);
+    assert_eq!(&rt; told_after(&rt, "\"workers\"", "\"worker\"")?, 1);
+    assert_eq!(&rt; told_after(&rt, "buffer = 32", "window = 32")?, 2);
+    Ok(())
+}

@@ -7,7 +7,7 @@ ghost use Rattle.srt_explain.specs.Texts.{open_key_text, short_passphrase_text, 
 ghost use Rattle.srt_explain.specs.Texts.{brought_text, enough_text, small_window_text, one_session_text};
 ghost use Rattle.srt_explain.specs.Texts.{unused_takeover_text, unused_limit_text, one_unreserved_text, no_callers_text, no_reserved_text};
 ghost use Rattle.srt_explain.specs.Texts.{no_takeover_text, no_resend_limit_text, example_secret_text, warning_text, route_text, warning_line};
-ghost use Rattle.srt_explain.specs.Texts.{more_routes_text};
+ghost use Rattle.srt_explain.specs.Texts.{more_routes_text, public_file_text};
 
 use crate::grouping::{RouteRisk, risk_key};
 use crate::warnings::{Warning, WarningText};
@@ -295,6 +295,16 @@ fn write_example_secret<W: fmt::Write>(f: &mut fmt::Formatter<W>) -> fmt::Result
     f.write_str("read; put the output of openssl rand -hex 32 in its place")
 }
 
+#[tactic(auto, unfolding(crate::specs::Texts::public_file_text))]
+fn write_public_file<W: fmt::Write>(f: &mut fmt::Formatter<W>) -> fmt::Result
+    ensures { DisplaysOnOk W.write_str_gives f.old result (Some public_file_text) f.new }
+{
+    f.write_str(
+        "the configuration's file has keys or passphrases, and others than its owner and ",
+    )?;
+    f.write_str("its group may use it; chmod 640 keeps them out")
+}
+
 #[tactic(auto, unfolding(crate::specs::Texts::more_routes_text))]
 fn write_more_routes<W: fmt::Write>(
     f: &mut fmt::Formatter<W>,
@@ -345,6 +355,7 @@ fn write_warning<W: fmt::Write>(f: &mut fmt::Formatter<W>, warning: Warning) -> 
         Warning::NoReserved { slots, .. } => write_no_reserved(f, slots),
         Warning::NoTakeover { .. } => write_no_takeover(f),
         Warning::NoResendLimit { .. } => write_no_resend_limit(f),
+        Warning::PublicFile => write_public_file(f),
         Warning::MoreRoutes { risk, count } => write_more_routes(f, risk, count),
     }
 }

@@ -126,6 +126,8 @@ pub enum Warning {
         /// The route.
         route: usize,
     },
+    /// The configuration's file has keys of roles or passphrases, and its mode lets users use it who neither own it nor are in its group.
+    PublicFile,
     /// More routes than have their own warning of a risk have it.
     MoreRoutes {
         /// The risk.
@@ -141,9 +143,10 @@ impl Warning {
         ensures { result ≡ route_of self }
     {
         match self {
-            Warning::ExampleSecret | Warning::ExposedStatus { .. } | Warning::MoreRoutes { .. } => {
-                None
-            }
+            Warning::ExampleSecret
+            | Warning::ExposedStatus { .. }
+            | Warning::PublicFile
+            | Warning::MoreRoutes { .. } => None,
             Warning::SmallOutbox { route, .. }
             | Warning::SmallWindow { route, .. }
             | Warning::OneSession { route }

@@ -1,0 +1,7 @@
+use Rattle.std.proofs.Common.{◌≡◌, ◌+◌, ◌-◌}
+use Rattle.srt_explain.specs.Resemblance.{same_before, passing}
+use Rattle.srt_explain.proofs.resemblance.agreeing_end.Given as goal
+
+abbrev pub invariant-loop-at : goal.invariant-loop-at
+invariant-loop-at l =
+    passing (same_before l.one l.other) 0 l.most ≡ l.at + passing (same_before l.one l.other) l.at (l.most - l.at)
