@@ -10,15 +10,17 @@ use Rattle.srt_route.specs.Totals.{AddUp, totals_of_ended}
 use Rattle.srt_route.specs.declared.ledger.EndedSession.{EndedSession}
 use Rattle.srt_route.specs.declared.view.SessionView.{SessionView}
 use Rattle.srt_route.specs.Ledgers.{ended_in}
+use Rattle.srt_route.specs.ShownKeys.{ShowsKeys}
 use Rattle.srt_route.specs.Viewing.{ShowsSession}
 use Rattle.srt_log.specs.Snapshots.{slot_of}
 use Rattle.srt_log.specs.declared.snapshots.SlotSession.{SlotSession}
 use Rattle.srt_log.specs.declared.snapshots.RouteSnapshot.{RouteSnapshot}
 
--- each of the first slots has the session that is open there, whatever the route stands for
+-- each of the first slots has the session that is open there, with the length of its keys, whatever the route stands for
 abbrev pub IsShown : (slot : ℕ) → Route → Option SessionView → Type 0
 IsShown slot route shown =
-    (e : Terms) (index : ℕ) (items : List TheItem) → stands route e index items → ShowsSession e index slot (after e index items).sessions shown
+    (e : Terms) (index : ℕ) (items : List TheItem) → stands route e index items
+    → ShowsSession e index slot (after e index items).sessions shown × ShowsKeys e slot (after e index items).keys shown
 
 unfoldable pub AreShown : (slots : ℕ) → Route → List (Option SessionView) → Type 0
 AreShown slots route sessions = (slot : ℕ) → slot < slots → IsShown slot route (slice_index_or sessions slot None)
