@@ -14,7 +14,8 @@ from tree import PROGRAM, TOP
 CASES = f"{TOP}/tests/cli"
 EXAMPLES = f"{TOP}/examples"
 CONFIG = "config.toml"
-OWN_FILES = {"args", "stdout", "status", "stderr", "sizes", "repeats", "memory", "full", "rows", "steps"}
+OWN_FILES = {"args", "stdout", "status", "stderr", "sizes", "repeats", "modes", "memory", "full", "rows", "steps"}
+PRIVATE = 0o600
 SECONDS = 60
 EXPLAIN = "--explain"
 
@@ -52,9 +53,18 @@ def path_of(folder: str, name: str) -> str:
     return f"{CASES}/{CONFIG}" if name == CONFIG and not os.path.isfile(own) else own
 
 
+def set_modes(folder: str, room: str) -> None:
+    """Lets their owner alone use the files in the room, but for those whose mode the case has."""
+    for name in os.listdir(room):
+        os.chmod(f"{room}/{name}", PRIVATE)
+    for line in lines_of(f"{folder}/modes"):
+        name, mode = line.split()
+        os.chmod(f"{room}/{name}", int(mode, 8))
+
+
 def lay_out(folder: str, room: str) -> bytes:
-    """Puts the case's files and its configuration into the room, and returns the lines that `repeats` puts before the wanted
-    output."""
+    """Puts the case's files and its configuration into the room, with their modes, and returns the lines that `repeats` puts before the
+    wanted output."""
     shutil.copyfile(path_of(folder, CONFIG), f"{room}/{CONFIG}")
     for name in os.listdir(folder):
         if name not in OWN_FILES:
@@ -73,6 +83,7 @@ def lay_out(folder: str, room: str) -> bytes:
             more = bytes_of(f"{room}/{name}")
             with open(f"{room}/{name}", "wb") as file:
                 file.write(repeated + more)
+    set_modes(folder, room)
     return front
 
 

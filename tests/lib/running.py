@@ -132,6 +132,7 @@ class Run:
         self.file = f"{self.room}/gateway.toml"
         with open(self.file, "w") as it:
             it.write(configuration(routes, self.address[1], workers, status) if text is None else text)
+        os.chmod(self.file, 0o600)
         self.lines, self.output, self.began = [], "", time.time()
         command = command or [launcher() if launched else PROGRAM, "run", "gateway.toml", *words]
         pipes = dict(stdin=subprocess.DEVNULL, stdout=subprocess.PIPE, stderr=subprocess.PIPE, text=True, errors="replace")

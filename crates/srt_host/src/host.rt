@@ -9,8 +9,7 @@ ghost use Rattle.srt_host.specs.Times.{nanos_of};
 use crate::clock::Since;
 use crate::socket::ServedSocket;
 use crate::times::time_now;
-use srt_config::BindAddress;
-use srt_offline::read_configuration;
+use srt_config::{BindAddress, read_configuration};
 use srt_procfs::{
     KernelFiles, kernel_drops, most_descriptors, open_descriptors, processor_time, resident_memory,
     start_time, stop_requested,

@@ -1,12 +1,18 @@
--- The limits that are told of a configuration's file, and the line of one (our choice).
-use Rattle.std.specs.Prelude.{◌⊎◌, ℕ, List, ◌++◌, codes, decimal}
-use Rattle.srt_offline.specs.declared.files.Unread.{Unread}
-use Rattle.srt_offline.specs.Reading.{IsLimit}
-
--- the limit that is told is one of these two
-abbrev pub IsConfigLimit : Unread → Type 0
-IsConfigLimit why = IsLimit 65_536 why ⊎ IsLimit 1_048_576 why
+-- The line of a configuration, and the warning about its file's mode (our choice).
+use Rattle.std.specs.Prelude.{◌≡◌, ℕ, List, ◌++◌, map, codes, decimal, Result, Ok, Err}
+use Rattle.std.specs.Fs.{metadata_mode}
+use Rattle.std.specs.declared.fs.attrs.Metadata.{Metadata}
+use Rattle.std.specs.declared.io.Error.{Error}
+use Rattle.srt_types.specs.Terms.{terms_of}
+use Rattle.srt_explain.specs.declared.explaining.Explained.{Explained}
+use Rattle.srt_explain.specs.FileMode.{file_warnings}
 
 -- the line of a configuration: the number of its routes
 unfoldable pub routes_line : (routes : ℕ) → List ℕ
 routes_line routes = codes "routes " ++ decimal routes ++ codes "\n"
+
+-- the warning about the mode that the system told, if it told one, is behind the others
+abbrev pub WarnsOfFile : Result Metadata Error → (old new : Explained) → Type 0
+WarnsOfFile (Ok found) old new =
+    new.warnings.items ≡ old.warnings.items ++ file_warnings (metadata_mode found) (map terms_of old.config.entries.items)
+WarnsOfFile (Err error) old new = new.warnings ≡ old.warnings

@@ -4,6 +4,8 @@ use Rattle.std.specs.Fmt.{with_newline}
 use Rattle.std.specs.Io.KnownBytes.{Keeps, Appends}
 use Rattle.srt_command_line.specs.declared.words.WordsFault.{WordsFault}
 use Rattle.srt_command_line.specs.declared.words.WordsFault.TheVariants as words
+use Rattle.srt_config.specs.declared.files.Unread.{Unread}
+use Rattle.srt_config.specs.declared.files.Unread.TheVariants as unread
 use Rattle.srt_replay.specs.declared.replaying.ReplayFault.{ReplayFault}
 use Rattle.srt_replay.specs.declared.replaying.ReplayFault.TheVariants as replays
 use Rattle.srt_transcript.specs.declared.transcribing.TranscriptFault.{TranscriptFault}
@@ -33,6 +35,12 @@ is_printed (Replay fault) = is_replay_printed fault
 is_printed (Transcript fault) = is_transcript_printed fault
 is_printed Memory = true
 is_printed Output = false
+
+-- a file that can't be read, or is too large, is a fault of the file
+abbrev pub unread_fault : Unread → OfflineFault
+unread_fault (unread.System error) = File
+unread_fault (unread.Large most) = File
+unread_fault unread.Memory = Memory
 
 -- the fault of a command line that came to nothing
 abbrev pub words_fault : WordsFault → OfflineFault

@@ -5,15 +5,16 @@ ghost use Rattle.std.specs.Io.KnownBytes.{Appends};
 ghost use Rattle.toml.specs.Parse.{parse_document};
 ghost use Rattle.srt_config.specs.FirstFault.{Gives};
 ghost use Rattle.srt_config.specs.Config.{settings_of, config_in};
-ghost use Rattle.srt_offline.specs.Configurations.{routes_line};
+ghost use Rattle.srt_offline.specs.Configurations.{routes_line, WarnsOfFile};
 ghost use Rattle.srt_offline.specs.Ends.{IsConfigFault, IsCheckFault};
 
-use crate::configurations::read_configuration;
 use crate::faults::OfflineFault;
-use srt_config::{Config, ConfigFault, read_config};
+use srt_config::{Config, ConfigFault, read_config, read_configuration};
 use srt_explain::{Explained, FaultLines, Faults, explain};
 use std::alloc::Global;
+use std::fs::{Metadata, metadata};
 use std::io::{self, Write};
+use std::os::unix::fs::MetadataExt;
 use std::rt::Files;
 use std::str;
 
@@ -35,7 +36,7 @@ pub fn config_at(rt: &(impl Files + AllocGlobal), path: &str) -> Result<Config, 
 {
     let bytes = match read_configuration(rt, path) {
         Ok(bytes) => bytes,
-        Err(unread) => return Err(unread.fault()),
+        Err(unread) => return Err(OfflineFault::of_unread(&unread)),
     };
     match config_in(rt.alloc(), &bytes) {
         Ok(config) => Ok(config),
@@ -63,8 +64,22 @@ fn explained_in(
     }
 }
 
-/// Reads a configuration's file, as [`config_at`] does, with what is unwise in it. What is wrong is explained on standard
-/// error.
+/// Adds the warning about the mode of a configuration's file, if the system told it.
+fn warn_of_file(explained: &mut Explained, told: &io::Result<Metadata>) -> Result<(), OfflineFault>
+    ensures fault { IfErr result IsConfigFault }
+    ensures warnings { OnOk result (WarnsOfFile told.now explained.old explained.new) }
+{
+    match told {
+        Ok(found) => match explained.warn_of_mode(found.mode()) {
+            Ok(()) => Ok(()),
+            Err(_) => Err(OfflineFault::Memory),
+        },
+        Err(_) => Ok(()),
+    }
+}
+
+/// Reads a configuration's file, as [`config_at`] does, with what is unwise in it, the file's mode included. What is wrong is
+/// explained on standard error.
 pub fn explained_at(
     rt: &(impl Eprint + Files + AllocGlobal),
     path: &str,
@@ -76,13 +91,15 @@ pub fn explained_at(
         Err(unread) => {
             let why = &unread;
             let _ = eprintln!(rt; "srtgw: {path}: {why}");
-            return Err(unread.fault());
+            return Err(OfflineFault::of_unread(&unread));
         }
     };
-    match explained_in(rt, path, &bytes) {
-        Ok(explained) => Ok(explained),
-        Err(fault) => Err(OfflineFault::Config(fault)),
-    }
+    let mut explained = match explained_in(rt, path, &bytes) {
+        Ok(explained) => explained,
+        Err(fault) => return Err(OfflineFault::Config(fault)),
+    };
+    warn_of_file(&mut explained, &metadata(rt, path))?;
+    Ok(explained)
 }
 
 /// Writes the number of routes in a configuration as one line.

@@ -7,12 +7,19 @@ ghost use Rattle.srt_transcript.specs.Transcript.{Transcribes};
 ghost use Rattle.srt_offline.specs.Ends.{IsExplainFault, explain_end};
 
 use crate::faults::OfflineFault;
-use crate::files::cause_of;
+use srt_config::Unread;
 use srt_replay::{CountedReader, CountedWriter};
 use srt_transcript::transcribe;
 use std::fs::File;
 use std::io::{self, BufRead, BufReader, BufWriter, Write};
 use std::rt::Files;
+
+/// The fault of a file that can't be opened, or whose buffer can't be allocated.
+fn fault_of(error: io::Error) -> OfflineFault
+    ensures { IsExplainFault result }
+{
+    OfflineFault::of_unread(&Unread::of_error(error))
+}
 
 /// Writes a transcript, whose fault becomes the command's.
 fn write_transcript<T: BufRead, O: BufRead, W: Write>(
@@ -60,9 +67,9 @@ fn explain_with<O: BufRead + Drop>(
     match File::open(rt, tape) {
         Ok(file) => match BufReader::new(rt.alloc(), file) {
             Ok(reader) => print_transcript(rt, reader, output),
-            Err(error) => Err(cause_of(error).fault()),
+            Err(error) => Err(fault_of(error)),
         },
-        Err(error) => Err(cause_of(error).fault()),
+        Err(error) => Err(fault_of(error)),
     }
 }
 
@@ -82,8 +89,8 @@ pub fn explain_file(
     match File::open(rt, path) {
         Ok(file) => match BufReader::new(rt.alloc(), file) {
             Ok(reader) => explain_with(rt, tape, reader),
-            Err(error) => Err(cause_of(error).fault()),
+            Err(error) => Err(fault_of(error)),
         },
-        Err(error) => Err(cause_of(error).fault()),
+        Err(error) => Err(fault_of(error)),
     }
 }

@@ -2,11 +2,11 @@
 
 ghost use Rattle.std.specs.Prelude.{◌≡◌};
 ghost use Rattle.std.specs.Process.{exit_status};
-ghost use Rattle.srt_offline.specs.Ends.{is_printed, status_after, words_fault};
+ghost use Rattle.srt_offline.specs.Ends.{is_printed, status_after, unread_fault, words_fault};
 
 use crate::ending::{PrintedFault, write_end};
 use srt_command_line::WordsFault;
-use srt_config::ConfigFault;
+use srt_config::{ConfigFault, Unread};
 use srt_replay::ReplayFault;
 use srt_transcript::TranscriptFault;
 use std::io;
@@ -50,6 +50,16 @@ impl OfflineFault {
         ensures { result ≡ OfflineFault.Transcript fault }
     {
         OfflineFault::Transcript(fault)
+    }
+
+    /// The fault of a file that wasn't read.
+    pub fn of_unread(unread: &Unread) -> OfflineFault
+        ensures { result ≡ unread_fault unread.now }
+    {
+        match unread {
+            Unread::System(_) | Unread::Large(_) => OfflineFault::File,
+            Unread::Memory => OfflineFault::Memory,
+        }
     }
 
     /// The fault of a command line that came to nothing.

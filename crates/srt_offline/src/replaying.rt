@@ -7,8 +7,7 @@ ghost use Rattle.srt_offline.specs.Ends.{IsReplayFault, command_end};
 
 use crate::checking::config_at;
 use crate::faults::OfflineFault;
-use crate::files::read_file;
-use srt_config::Config;
+use srt_config::{Config, read_file};
 use srt_replay::{CountedReader, CountedWriter, replay};
 use srt_types::product_limits::MAX_TAPE;
 use std::alloc::Global;
@@ -62,6 +61,6 @@ pub fn replay_file(
     let config = config_at(rt, config)?;
     match read_file(rt, tape, MAX_TAPE) {
         Ok(bytes) => print_answers(rt, &config, &bytes),
-        Err(unread) => Err(unread.fault()),
+        Err(unread) => Err(OfflineFault::of_unread(&unread)),
     }
 }
