@@ -26,7 +26,9 @@ pub mod Secured
 pub mod Renewals
 pub mod Decrypting
 pub mod Sound
+pub mod SentEnds
 pub mod OwnKeys
 pub mod Covered
+pub mod ConfirmedKeys
 pub mod Sendables
 pub mod SessionRules

@@ -11,6 +11,7 @@ pub mod Route
 pub mod EncryptedOutput
 pub mod KeyLaws
 pub mod Covered
+pub mod Confirmed
 pub mod Rests
 pub mod ShiftLaws
 pub mod Relabel

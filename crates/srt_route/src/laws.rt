@@ -4,6 +4,7 @@ ghost use Rattle.srt_route.specs.Acknowledged.{DeliversAll, DeliversInOrder, End
 ghost use Rattle.srt_route.specs.Activity.{ActiveGoesOn, OneIsActive, OneDelivers, OpensBehind, StandbyLeads, StaysActive};
 ghost use Rattle.srt_route.specs.Bounds.{TwoPublish, NoMoreThanSlots, OneInASlot, NoneElsewhere, OneOfACaller};
 ghost use Rattle.srt_route.specs.Closed.{ClosesOnce, ClosedHasNoSession, ClosedIsQuiet};
+ghost use Rattle.srt_route.specs.Confirmed.{PayloadsAreConfirmed};
 ghost use Rattle.srt_route.specs.Covered.{PayloadsAreCovered};
 ghost use Rattle.srt_route.specs.Deadlines.{DeadlinesAreNear};
 ghost use Rattle.srt_route.specs.Drafts.{ClocksAreTrusted, NoneDrains, ResendAtEachTimeout};
@@ -112,6 +113,13 @@ pub fn key_renewals()
 /// replies is under a key (our choice).
 pub fn payloads_are_encrypted()
     ensures { PayloadsAreCovered }
+{}
+
+/// Where subscribers' sessions are encrypted, each data packet goes to the peer of an open subscriber's session with keys of its
+/// own, under the key that is its payload's, and none before the peer has confirmed that key, whatever a route's items are. So a
+/// subscriber that confirms no key is sent no payload (our choice).
+pub fn payloads_are_confirmed()
+    ensures { PayloadsAreConfirmed }
 {}
 
 /// A route keeps its limits, whatever its items are. The free slots and the open publishers are together at least as

@@ -38,12 +38,12 @@ use Rattle.srt_route.specs.Route.{reply_with, said_by, served, served_at, shutdo
 use Rattle.srt_route.proofs.model.Alone.{before_are_alone}
 use Rattle.srt_route.proofs.model.Found.{found_passes, open_parts}
 use Rattle.srt_route.proofs.model.Lists.{Each, each_append, each_flat, each_mapped, each_picked, each_found}
-use Rattle.srt_route.proofs.model.OwnKeys.{before_have_own, passed_own}
+use Rattle.srt_route.proofs.model.OwnKeys.{before_have_own, end_of, has_some, passed_own}
 use Rattle.srt_route.proofs.model.Secured.{IsResponseOutput, IsShortVerdict, verdict_short}
 use Rattle.srt_route.proofs.model.Sound.{IsSound, after_sound, is_publishing, passed_by_sound}
 use Rattle.srt_route.specs.Route.{announced_past, announced_to}
 
-abbrev IsCoveredReply : Reply → Type 0
+abbrev pub IsCoveredReply : Reply → Type 0
 IsCoveredReply r = IsCovered r.packet
 
 -- SHUTDOWNs
@@ -52,7 +52,7 @@ notified_covered Draft ends clock s = tt
 notified_covered Libsrt true clock s = (tt, tt)
 notified_covered Libsrt false clock s = tt
 
-idle_covered : (e : Terms) (clock : ℕ) (ss : List Session)
+pub idle_covered : (e : Terms) (clock : ℕ) (ss : List Session)
     → Each IsCoveredReply (flat_map (λ s. notified_if e.rules.callers (is_idle s clock) clock s) ss)
 idle_covered e clock [] = tt
 idle_covered e clock (s ∷ ss) =
@@ -124,7 +124,7 @@ read_covered : (e : Terms) (index clock : ℕ) (peer : Peer) (read : Result Pack
 read_covered e index clock peer (Ok p) ss = packet_covered e index clock peer p ss
 read_covered e index clock peer (Err fault) ss = tt
 
-taken_covered : (e : Terms) (index clock : ℕ) (item : Item) (ss : List Session) → Each IsCoveredReply (taken e index clock item ss).answers
+pub taken_covered : (e : Terms) (index clock : ℕ) (item : Item) (ss : List Session) → Each IsCoveredReply (taken e index clock item ss).answers
 taken_covered e index clock (Received d moment) ss = read_covered e index clock d.peer (packet_in d.bytes) ss
 taken_covered e index clock (Tick moment) ss = tt
 taken_covered e index clock (Close moment) ss = closed_covered clock (by_slot e ss)
@@ -149,7 +149,7 @@ response_covered (Ends caller time) h = absurd h
 response_covered (Responds caller time contents) h = tt
 response_covered (SaysWithKeys output) h = absurd h
 
-verdict_covered : (v : Verdict) (xs : List Reply) → IsShortVerdict v → Each IsCoveredReply xs → Each IsCoveredReply (answers_as v xs)
+pub verdict_covered : (v : Verdict) (xs : List Reply) → IsShortVerdict v → Each IsCoveredReply xs → Each IsCoveredReply (answers_as v xs)
 verdict_covered Passes xs short h = h
 verdict_covered Ignored xs short h = h
 verdict_covered (Refused peer c) xs short h = (tt, tt)
@@ -177,7 +177,7 @@ speaking_covered e clock s sound false is = tt
 sound_by_slot : (e : Terms) (ss : List Session) → Each IsSound ss → Each IsSound (by_slot e ss)
 sound_by_slot e ss h = each_picked IsSound (λ slot. find (is_open_in slot) ss) (λ slot. each_found IsSound (is_open_in slot) ss h) (numbers_from 0 e.sessions)
 
-first_covered : (e : Terms) (clock : ℕ) (ss : List Session) → Each IsSound ss → Each IsCoveredReply (packets_where e clock speaks ss)
+pub first_covered : (e : Terms) (clock : ℕ) (ss : List Session) → Each IsSound ss → Each IsCoveredReply (packets_where e clock speaks ss)
 first_covered e clock ss h =
     each_flat IsSound IsCoveredReply (λ s. packets_at e (speaks s) clock s) (λ s one. speaking_covered e clock s one (speaks s) refl) (by_slot e ss)
     (sound_by_slot e ss h)
@@ -299,9 +299,10 @@ replies_covered false e index items item secured =
     (first_covered e clock ss (passed_by_sound e index items item (after_sound e index items))))
     (last_covered e clock (is_file_over e ss) ss (own_by e index item m)
     (λ k s found reads. subst (λ (b : Bool). is_some (own_if b j.keys.held k) ≡ true) (sym secured)
-    (passed_own e index item m secured (before_are_alone e index items item) (before_have_own e index items item secured) k s found reads)))
+    (has_some (end_of s.past) (j.keys.held k)
+    (passed_own e index item m secured (before_are_alone e index items item) (before_have_own e index items item secured) k s found reads))))
 
-each_all : {A : Type 0} (P : A → Type 0) (xs : List A) → Each P xs → All P xs
+pub each_all : {A : Type 0} (P : A → Type 0) (xs : List A) → Each P xs → All P xs
 each_all P [] h = All-nil P
 each_all P (x ∷ xs) h = All-cons P x xs h.0 (each_all P xs h.1)
 

@@ -600,7 +600,7 @@ packets_said e false clock s h = tt
 sound_by_slot : (e : Terms) (ss : List Session) → Each IsSound ss → Each IsSound (by_slot e ss)
 sound_by_slot e ss h = each_picked IsSound (λ slot. find (is_open_in slot) ss) (λ slot. each_found IsSound (is_open_in slot) ss h) (numbers_from 0 e.sessions)
 
-all_packets_said : (e : Terms) (clock : ℕ) (test : Session → Bool) (ss : List Session) → Each IsSound ss → Each IsSaidReply (packets_where e clock test ss)
+pub all_packets_said : (e : Terms) (clock : ℕ) (test : Session → Bool) (ss : List Session) → Each IsSound ss → Each IsSaidReply (packets_where e clock test ss)
 all_packets_said e clock test ss h =
     each_flat IsSound IsSaidReply (λ s. packets_at e (test s) clock s)
     (λ s one. packets_said e (test s) clock s one) (by_slot e ss) (sound_by_slot e ss h)
@@ -643,9 +643,9 @@ all_served_sent own e clock over ss are h =
     (λ s one. served_sent (has_whole_file over s) (own s.slot) e clock s (are s.slot) one) (by_slot e ss) (sound_by_slot e ss h)
 
 -- the datagram
-record IsSoundTaken (t : Taken) : Type 0 where
-  sessions : Each IsSound t.sessions
-  answers : Each IsSaidReply t.answers
+pub record IsSoundTaken (t : Taken) : Type 0 where
+  pub sessions : Each IsSound t.sessions
+  pub answers : Each IsSaidReply t.answers
 
 notified_if_said : (callers : Callers) (ends : Bool) (clock : ℕ) (s : Session) → Each IsSaidReply (notified_if callers ends clock s)
 notified_if_said Draft ends clock s = tt
@@ -792,7 +792,7 @@ settled_sound Libsrt e clock given ss h =
     (each_mapped IsSound IsSound (session_settled e given clock) (λ s sound. settled_at_sound s.drains e given clock s sound) ss h)
 
 -- the packets sent as time advances
-silence_said : (e : Terms) (clock : ℕ) (ss : List Session) → Each IsSaidReply (flat_map (λ s. notified_if e.rules.callers (is_idle s clock) clock s) ss)
+pub silence_said : (e : Terms) (clock : ℕ) (ss : List Session) → Each IsSaidReply (flat_map (λ s. notified_if e.rules.callers (is_idle s clock) clock s) ss)
 silence_said e clock [] = tt
 silence_said e clock (s ∷ ss) =
     each_append IsSaidReply (notified_if e.rules.callers (is_idle s clock) clock s)
@@ -824,7 +824,7 @@ before_sound : (e : Terms) (index : ℕ) (items : List Item) (item : Item)
 before_sound e index items item h =
     let m = after e index items in each_before IsSound late_sound e (clock_after item m) m h
 
-heard_item_sound : (e : Terms) (index : ℕ) (items : List Item) (item : Item) → Each IsSound (after e index items).sessions
+pub heard_item_sound : (e : Terms) (index : ℕ) (items : List Item) (item : Item) → Each IsSound (after e index items).sessions
     → let m = route_before e index item items in
     IsSoundTaken (taken e index (clock_after item m) (heard_by e index item m) (advanced e (clock_after item m) m.sessions))
 heard_item_sound e index items item h =
