@@ -60,7 +60,7 @@ StoredKeysAreUsed =
 abbrev pub number_of : (first payload : ℕ) → ℕ
 number_of first payload = (first + payload) % 2 ^ 31
 
--- two payloads of a session with the same number have different keys
+-- two payloads of a session with the same number have keys of different indexes
 abbrev pub NumbersAreDistinct : Type 0
 NumbersAreDistinct =
     (first one other : ℕ) → number_of first one ≡ number_of first other → index_of one ≡ index_of other → one ≡ other

@@ -36,8 +36,8 @@ pub fn refreshes()
     ensures other { OtherKeysStay }
 {}
 
-/// No key stream is used twice: the sessions of a route have different counts, of which their keys are made ([`own_keys`]), and two
-/// payloads of a session have different numbers or different keys.
+/// The sessions of a route have different counts, of which their keys are made ([`own_keys`]), and two payloads of a session have
+/// different numbers or keys of different indexes. So a key stream is used twice only if two different texts give one key.
 pub fn key_streams()
     ensures counts { CountsAreDistinct }
     ensures numbers { NumbersAreDistinct }
