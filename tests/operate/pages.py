@@ -272,7 +272,7 @@ def explanations_are_right():
     right = {it: FULL[it] for it in REQUIRED}
     whole, front = text_of(keys, right), text_of([it for it in keys if it.of == "file"], right)
     tried = (front + routes(keys, 1) + text_of([it for it in keys if it.of == "route"], {**right, "sessions": "40"}),
-             whole.replace("latency_ms", "latency"), front + "[defaults]\nsessions = 40\n" + routes(keys, 1),
+             re.sub(r"(?m)^buffer = .*\n", "", whole.replace("latency_ms", "latency")), front + "[defaults]\nsessions = 40\n" + routes(keys, 1),
              whole.replace("workers = 1\n", "").replace("bind = \"127.0.0.1:0\"", "bind = \"0.0\nworkers = 1"))
     printed = []
     with tempfile.TemporaryDirectory(prefix="srtgw-shown-") as room:
